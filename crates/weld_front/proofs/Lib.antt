@@ -1,0 +1,4 @@
+pub mod Reading
+pub mod Patterns
+pub mod Numerals
+pub mod FormLemmas

@@ -1,0 +1,4 @@
+pub mod Spelling
+pub mod FirstForm
+pub mod Numbers
+pub mod Reading

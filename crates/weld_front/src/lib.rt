@@ -1,0 +1,5 @@
+//! The top call of the program: from the words and the bytes of a job to the bytes of its answer.
+#![tactic(auto)]
+
+pub mod first_form;
+pub mod spelling;
