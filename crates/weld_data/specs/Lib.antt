@@ -1,1 +1,3 @@
 pub mod Kind
+pub mod Operation
+pub mod Wrapped

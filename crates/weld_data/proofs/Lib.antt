@@ -1,0 +1,4 @@
+pub mod Integers
+pub mod Ranges
+pub mod Wrapping
+pub mod Operations
