@@ -103,7 +103,7 @@ operator_by byte operator false false false false e f g i h = absurd (none_is op
 operator_byte : (byte : ℕ) (operator : Operator) → operator_of byte ≡ Some operator → byte ≡ byte_of operator
 operator_byte byte operator h = operator_by byte operator (byte == 43) (byte == 45) (byte == 42) (byte == 47) refl refl refl refl h
 
-map_some : {A B : Type 0} (f : A → B) (o : Option A) (y : B) → option_map f o ≡ Some y → (x : A) × (o ≡ Some x) × (f x ≡ y)
+pub map_some : {A B : Type 0} (f : A → B) (o : Option A) (y : B) → option_map f o ≡ Some y → (x : A) × (o ≡ Some x) × (f x ≡ y)
 map_some f None y h = absurd (none_is y h)
 map_some f (Some x) y h = (x, refl, some_is _ _ h)
 

@@ -2,3 +2,4 @@ pub mod Reading
 pub mod Patterns
 pub mod Numerals
 pub mod FormLemmas
+pub mod NumberLemmas

@@ -2,4 +2,5 @@
 #![tactic(auto)]
 
 pub mod first_form;
+pub mod numbers;
 pub mod spelling;
