@@ -3,3 +3,4 @@ pub mod Patterns
 pub mod Numerals
 pub mod FormLemmas
 pub mod NumberLemmas
+pub mod Sums

@@ -2,3 +2,4 @@ pub mod Spelling
 pub mod FirstForm
 pub mod Numbers
 pub mod Reading
+pub mod Total

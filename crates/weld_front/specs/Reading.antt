@@ -1,9 +1,11 @@
 -- What the readers of this crate answer, one after another from the front of a text. The public rules are in the files beside this one.
-use Rattle.std.specs.Prelude.{◌≡◌, ◌≢◌, ℕ, ◌+◌, ◌*◌, ◌-◌, ◌^◌, Bool, true, false, ◌==◌, nat_le, nat_lt, if◌then◌else◌, List, [], ◌∷◌, ◌++◌, codes, Option, Some, None, option_and_then, ℤ, pos, neg_ℤ}
+use Rattle.std.specs.Prelude.{◌≡◌, ◌≢◌, ℕ, ◌+◌, ◌*◌, ◌-◌, ◌^◌, Bool, true, false, ◌==◌, nat_le, nat_lt, if◌then◌else◌, List, [], ◌∷◌, ◌++◌, codes, Option, Some, None, option_and_then, ℤ, pos, neg_ℤ, ◌+ℤ◌}
 use Rattle.std.specs.Option.{option_map}
 use Rattle.std.specs.List.{AllByRecursion}
 use Rattle.weld_data.specs.Kind.{InRange}
 use Rattle.weld_data.specs.declared.kind.Kind.TheVariants.{I64}
+use Rattle.weld_data.specs.Wrapped.{wrapped}
+use Rattle.weld_front.specs.Total.{atom_value}
 use Rattle.weld_front.specs.Numbers.{SpellsItems}
 use Rattle.weld_front.specs.Spelling.{is_blank, is_digit, value_after, Matches}
 use Rattle.weld_front.specs.FirstForm.{opening, closing}
@@ -137,3 +139,8 @@ abbrev pub ends : Option (List ℕ) → Bool
 ends None = false
 ends (Some []) = true
 ends (Some (byte ∷ bytes)) = false
+
+-- the sum after the rows from this number on, where no row can fault
+abbrev pub total_by : (ℤ → ℤ → ℤ) → Atom → Atom → ℕ → ℤ → List ℤ → ℤ
+total_by gives left right number sum [] = sum
+total_by gives left right number sum (element ∷ elements) = total_by gives left right (number + 1) (wrapped I64 (sum +ℤ gives (atom_value left number element) (atom_value right number element))) elements

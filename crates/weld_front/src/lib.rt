@@ -4,3 +4,4 @@
 pub mod first_form;
 pub mod numbers;
 pub mod spelling;
+pub mod sum;
