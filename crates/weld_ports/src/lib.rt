@@ -18,3 +18,5 @@ pub use source::{ReadFailed, Source};
 pub use standard::{StdinSource, StdoutSink};
 pub use sure::{SureSink, SureSource};
 
+#[cfg(test)]
+mod tests;

@@ -27,13 +27,13 @@ impl Model for MemorySink {
     ghost Value = { MemoryOutput };
 
     ghost view = { λ s. record {
-        held = take s.used s.space.items;
-        settled = s.settled;
-        room = length s.space.items;
-        step = s.step;
-        failing = s.failing.items;
-        calls = s.calls;
-        faults = s.faults;
+      held = take s.used s.space.items;
+      settled = s.settled;
+      room = length s.space.items;
+      step = s.step;
+      failing = s.failing.items;
+      calls = s.calls;
+      faults = s.faults;
     } };
 
     ghost invariant = { λ s. (s.used ≤ length s.space.items) × (1 ≤ s.step) };

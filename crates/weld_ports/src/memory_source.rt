@@ -23,11 +23,11 @@ impl Model for MemorySource {
     ghost Value = { MemoryInput };
 
     ghost view = { λ s. record {
-        left = s.input.left;
-        step = s.input.step;
-        failing = s.failing.items;
-        calls = s.calls;
-        faults = s.faults;
+      left = s.input.left;
+      step = s.input.step;
+      failing = s.failing.items;
+      calls = s.calls;
+      faults = s.faults;
     } };
 }
 

@@ -8,8 +8,9 @@ use std::io::{ErrorKind, Read, Write};
 /// How often a call that a signal interrupted is tried again before it counts as failed.
 const TRIES: usize = 100;
 
-/// A source over a reader, as that of standard input. It tells no bytes. Each error of the reader raises
-/// its count; a read that a signal interrupted is tried again, up to a hundred times.
+/// A source over a reader, as that of standard input. It tells the bytes that the reader tells, and
+/// standard input tells none. Each error of the reader raises its count; a read that a signal interrupted
+/// is tried again, up to a hundred times.
 #[derive(Drop)]
 pub struct StdinSource<R> {
     reader: R,
@@ -24,7 +25,7 @@ impl<R> StdinSource<R> {
 }
 
 impl<R: Read> Source for StdinSource<R> {
-    ghost left = { λ _. None };
+    ghost left = { λ s. R.remaining s.reader };
 
     ghost faults = { λ s. s.faults };
 
@@ -45,9 +46,9 @@ impl<R: Read> Source for StdinSource<R> {
     }
 }
 
-/// A sink over a writer, as that of standard output. It tells no bytes. Each error of the writer, and a
-/// write that takes nothing, raises its count; a write that a signal interrupted is tried again, up to a
-/// hundred times.
+/// A sink over a writer, as that of standard output. It tells the bytes that the writer tells, and
+/// standard output tells none. Each error of the writer, and a write that takes nothing, raises its count;
+/// a write that a signal interrupted is tried again, up to a hundred times.
 #[derive(Drop)]
 pub struct StdoutSink<W> {
     writer: W,
@@ -62,7 +63,7 @@ impl<W> StdoutSink<W> {
 }
 
 impl<W: Write> Sink for StdoutSink<W> {
-    ghost held = { λ _. None };
+    ghost held = { λ s. W.contents s.writer };
 
     ghost settled = { λ _. None };
 
