@@ -4,3 +4,4 @@ pub mod Numerals
 pub mod FormLemmas
 pub mod NumberLemmas
 pub mod Sums
+pub mod Sinks

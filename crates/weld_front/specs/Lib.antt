@@ -3,3 +3,6 @@ pub mod FirstForm
 pub mod Numbers
 pub mod Reading
 pub mod Total
+pub mod Answer
+pub mod Exit
+pub mod Data

@@ -1,7 +1,11 @@
 //! The top call of the program: from the words and the bytes of a job to the bytes of its answer.
 #![tactic(auto)]
 
+pub mod answer;
+pub mod deliver;
 pub mod first_form;
 pub mod numbers;
 pub mod spelling;
+pub mod status;
 pub mod sum;
+pub mod words;

@@ -1,0 +1,121 @@
+-- What `weld run` answers to a job: a status and a text. From the Weld papers' meaning; the texts and the order of refusals by this project's profile.
+use Rattle.std.specs.Prelude.{◌≡◌, ℕ, ◌⊎◌, Bool, true, false, nat_lt, IsTrue, List, [], ◌∷◌, ◌++◌, Option, Some, None, ℤ, length, take, codes, IfSome}
+use Rattle.std.specs.Bool.{MatchBool}
+use Rattle.std.specs.Fmt.{decimal, signed_decimal}
+use Rattle.std.specs.Io.KnownBytes.{Appends}
+use Rattle.weld_tree.specs.Code.{code_text}
+use Rattle.weld_tree.specs.declared.code.Code.{Code}
+use Rattle.weld_tree.specs.declared.code.Code.TheVariants as codes_of
+use Rattle.weld_job.specs.Blocks.{job_of}
+use Rattle.weld_job.specs.declared.job.Job.{Job}
+use Rattle.weld_job.specs.declared.block.Block.{Block}
+use Rattle.weld_job.specs.declared.block.BlockForm.{BlockForm}
+use Rattle.weld_job.specs.declared.block.BlockForm.TheVariants as forms
+use Rattle.weld_front.specs.FirstForm.{IsFirstForm}
+use Rattle.weld_front.specs.Numbers.{ReadsAs}
+use Rattle.weld_front.specs.Total.{total}
+use Rattle.weld_front.specs.declared.status.Status.{Status}
+use Rattle.weld_front.specs.declared.status.Status.TheVariants.{Done, Fault, Words, Refused, Unfit, Read, Write, Memory}
+use Rattle.weld_front.specs.declared.first_form.Body.{Body}
+
+-- ---- the data of a program with one parameter of type vec[i64]
+
+-- the data are one value block, which reads as these numbers
+abbrev pub FitsBlocks : Bool → List Block → List ℤ → Type 0
+FitsBlocks false (block ∷ []) numbers = (block.form ≡ forms.Value) × ReadsAs block.content numbers
+FitsBlocks stray blocks numbers = ⊥
+
+abbrev pub Fits : Job → List ℤ → Type 0
+Fits job numbers = FitsBlocks job.stray job.blocks numbers
+
+-- the first block doesn't fit, or it fits and another one follows
+abbrev pub IsUnfitBlock : BlockForm → List ℕ → List Block → ℕ → Code → Type 0
+IsUnfitBlock forms.Value content more number code =
+    (((numbers : List ℤ) → ReadsAs content numbers → ⊥) × (number ≡ 1) × (code ≡ codes_of.Data))
+    ⊎ ((numbers : List ℤ) × (block : Block) × (rest : List Block) × ReadsAs content numbers × (more ≡ block ∷ rest) × (number ≡ 2) × (code ≡ codes_of.Extra))
+IsUnfitBlock form content more number code = (number ≡ 1) × (code ≡ codes_of.Form)
+
+-- What is wrong with the data first, by the parameter's number: stray bytes before the blocks, then no block, then what the first block says.
+abbrev pub IsUnfitBlocks : Bool → List Block → ℕ → Code → Type 0
+IsUnfitBlocks true blocks number code = (number ≡ 0) × (code ≡ codes_of.Form)
+IsUnfitBlocks false [] number code = (number ≡ 1) × (code ≡ codes_of.Missing)
+IsUnfitBlocks false (block ∷ more) number code = IsUnfitBlock block.form block.content more number code
+
+abbrev pub IsUnfit : Job → ℕ → Code → Type 0
+IsUnfit job number code = IsUnfitBlocks job.stray job.blocks number code
+
+-- ---- texts
+
+abbrev pub line : List ℕ → List ℕ
+line text = text ++ 10 ∷ []
+
+abbrev pub value_text : ℤ → List ℕ
+value_text value = line (signed_decimal value)
+
+abbrev pub fault_text : List ℕ
+fault_text = line (codes "fault")
+
+abbrev pub refusal_text : Code → List ℕ
+refusal_text code = line (codes "refused " ++ code_text code)
+
+abbrev pub unfit_text : ℕ → Code → List ℕ
+unfit_text number code = line (codes "parameter " ++ decimal number ++ codes ": " ++ code_text code)
+
+abbrev pub usage_text : List ℕ
+usage_text = line (codes "usage: weld run|check|show|session|soak [--workers N] [--cut N] [--report] [--seed N] [--rows N]")
+
+-- ---- the answer
+
+-- the status and the text that a job has, by its parts
+abbrev pub AnswersParts : Job → Status → List ℕ → Type 0
+AnswersParts job Done text = (body : Body) × (numbers : List ℤ) × (value : ℤ) × IsFirstForm job.text body × Fits job numbers × (total body numbers ≡ Some value) × (text ≡ value_text value)
+AnswersParts job Fault text = (body : Body) × (numbers : List ℤ) × IsFirstForm job.text body × Fits job numbers × (total body numbers ≡ None) × (text ≡ fault_text)
+AnswersParts job Refused text = ((body : Body) → IsFirstForm job.text body → ⊥) × (text ≡ refusal_text codes_of.X0)
+AnswersParts job Unfit text = (body : Body) × (number : ℕ) × (code : Code) × IsFirstForm job.text body × IsUnfit job number code × (text ≡ unfit_text number code)
+AnswersParts job status text = ⊥
+
+-- more bytes than a job may have
+abbrev pub is_too_long : List ℕ → Bool
+is_too_long bytes = nat_lt 67108864 (length bytes)
+
+-- the status and the text that a job has, by its bytes
+abbrev pub Answers : List ℕ → Status → List ℕ → Type 0
+Answers bytes status text = MatchBool (is_too_long bytes) ((status ≡ Refused) × (text ≡ refusal_text codes_of.M1)) (AnswersParts (job_of bytes) status text)
+
+-- ---- what a call does
+
+-- the words are in form: they are the one word `run`
+abbrev pub IsRun : List (List ℕ) → Type 0
+IsRun words = words ≡ codes "run" ∷ []
+
+-- where the source tells its bytes, they have an answer of this status, of which the sink took the whole text, where it tells what it holds
+abbrev pub Delivers : Option (List ℕ) → Option (List ℕ) → Option (List ℕ) → Status → Type 0
+Delivers left old new status = IfSome left (λ job. (text : List ℕ) × Answers job status text × Appends old new text)
+
+-- the sink took the front of this text, and no more
+abbrev pub AppendsFront : Option (List ℕ) → Option (List ℕ) → List ℕ → Type 0
+AppendsFront old new text = (count : ℕ) × Appends old new (take count text)
+
+-- the same of the answer to the job, whichever it is
+abbrev pub DeliversFront : Option (List ℕ) → Option (List ℕ) → Option (List ℕ) → Type 0
+DeliversFront left old new = IfSome left (λ job. (status : Status) × (text : List ℕ) × Answers job status text × AppendsFront old new text)
+
+-- the whole text of an answer was written
+abbrev pub IsWritten : Status → Type 0
+IsWritten Read = ⊥
+IsWritten Write = ⊥
+IsWritten Memory = ⊥
+IsWritten status = Unit {0}
+
+-- nothing was written
+abbrev pub IsSilent : Status → Type 0
+IsSilent Read = Unit {0}
+IsSilent Memory = Unit {0}
+IsSilent status = ⊥
+
+-- the input was read to its end
+abbrev pub ReadsAll : Status → Type 0
+ReadsAll Done = Unit {0}
+ReadsAll Fault = Unit {0}
+ReadsAll Unfit = Unit {0}
+ReadsAll status = ⊥

@@ -1,0 +1,11 @@
+-- What reading a job does to the bytes that a source has left. By this project's profile.
+use Rattle.std.specs.Prelude.{◌≡◌, ℕ, List, Option, length}
+use Rattle.std.specs.Io.KnownBytes.{Consumes}
+
+-- some bytes were taken from the front, and are gone
+abbrev pub Takes : Option (List ℕ) → Option (List ℕ) → Type 0
+Takes old new = (taken : List ℕ) × Consumes old new taken
+
+-- just so many bytes were taken from the front, and are gone
+abbrev pub TakesJust : ℕ → Option (List ℕ) → Option (List ℕ) → Type 0
+TakesJust count old new = (taken : List ℕ) × Consumes old new taken × (length taken ≡ count)
