@@ -5,3 +5,4 @@ pub mod FormLemmas
 pub mod NumberLemmas
 pub mod Sums
 pub mod Sinks
+pub mod Answering

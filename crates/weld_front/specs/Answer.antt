@@ -2,11 +2,12 @@
 use Rattle.std.specs.Prelude.{◌≡◌, ℕ, ◌⊎◌, Bool, true, false, nat_lt, IsTrue, List, [], ◌∷◌, ◌++◌, Option, Some, None, ℤ, length, take, codes, IfSome}
 use Rattle.std.specs.Bool.{MatchBool}
 use Rattle.std.specs.Fmt.{decimal, signed_decimal}
-use Rattle.std.specs.Io.KnownBytes.{Appends}
+use Rattle.std.specs.Io.KnownBytes.{Appends, IsAtEnd}
 use Rattle.weld_tree.specs.Code.{code_text}
 use Rattle.weld_tree.specs.declared.code.Code.{Code}
 use Rattle.weld_tree.specs.declared.code.Code.TheVariants as codes_of
 use Rattle.weld_job.specs.Blocks.{job_of}
+use Rattle.weld_job.specs.Reading.{TakesJust}
 use Rattle.weld_job.specs.declared.job.Job.{Job}
 use Rattle.weld_job.specs.declared.block.Block.{Block}
 use Rattle.weld_job.specs.declared.block.BlockForm.{BlockForm}
@@ -100,6 +101,27 @@ AppendsFront old new text = (count : ℕ) × Appends old new (take count text)
 abbrev pub DeliversFront : Option (List ℕ) → Option (List ℕ) → Option (List ℕ) → Type 0
 DeliversFront left old new = IfSome left (λ job. (status : Status) × (text : List ℕ) × Answers job status text × AppendsFront old new text)
 
+-- Of a job that is too long just one byte more than the limit is taken; any other is read to its end.
+abbrev pub Extent : Option (List ℕ) → Option (List ℕ) → Type 0
+Extent old new = IfSome old (λ bytes. MatchBool (is_too_long bytes) (TakesJust 67108865 old new) (IsAtEnd new))
+
+-- the status is that of an answer to a job
+abbrev pub IsOfJob : Status → Type 0
+IsOfJob Done = Unit {0}
+IsOfJob Fault = Unit {0}
+IsOfJob Refused = Unit {0}
+IsOfJob Unfit = Unit {0}
+IsOfJob status = ⊥
+
+-- an answer to the job was found, whether it was written or not
+abbrev pub IsFound : Status → Type 0
+IsFound Write = Unit {0}
+IsFound status = IsOfJob status
+
+-- where the source tells its bytes: the status is that of the job's answer, or memory was wanting
+abbrev pub Completes : Option (List ℕ) → Status → Type 0
+Completes left status = IfSome left (λ job. (status ≡ Memory) ⊎ ((text : List ℕ) × Answers job status text))
+
 -- the whole text of an answer was written
 abbrev pub IsWritten : Status → Type 0
 IsWritten Read = ⊥
@@ -112,10 +134,3 @@ abbrev pub IsSilent : Status → Type 0
 IsSilent Read = Unit {0}
 IsSilent Memory = Unit {0}
 IsSilent status = ⊥
-
--- the input was read to its end
-abbrev pub ReadsAll : Status → Type 0
-ReadsAll Done = Unit {0}
-ReadsAll Fault = Unit {0}
-ReadsAll Unfit = Unit {0}
-ReadsAll status = ⊥

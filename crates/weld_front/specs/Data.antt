@@ -1,9 +1,22 @@
--- What is found of a job's data.
+-- What is found of a job's data, and what is answered to it.
+use Rattle.std.specs.Prelude.{◌≡◌, false, Option, Some, None, ℤ, List}
 use Rattle.weld_job.specs.declared.job.Job.{Job}
+use Rattle.weld_job.specs.declared.block.Block.{Block}
 use Rattle.weld_front.specs.declared.answer.Data.{Data}
 use Rattle.weld_front.specs.declared.answer.Data.TheVariants.{Numbers, Unfit}
-use Rattle.weld_front.specs.Answer.{Fits, IsUnfit}
+use Rattle.weld_front.specs.declared.answer.Answer.{Answer}
+use Rattle.weld_front.specs.declared.status.Status.TheVariants.{Done, Fault}
+use Rattle.weld_front.specs.Answer.{Fits, IsUnfit, FitsBlocks, IsUnfitBlocks, value_text, fault_text}
+
+abbrev pub BlocksSay : List Block → Data → Type 0
+BlocksSay blocks (Numbers numbers) = FitsBlocks false blocks numbers
+BlocksSay blocks (Unfit number code) = IsUnfitBlocks false blocks number code
 
 abbrev pub DataSays : Job → Data → Type 0
 DataSays job (Numbers numbers) = Fits job numbers
 DataSays job (Unfit number code) = IsUnfit job number code
+
+-- the sum's value, or its fault
+abbrev pub Concludes : Option ℤ → Answer → Type 0
+Concludes (Some value) answer = (answer.status ≡ Done) × (answer.text ≡ value_text value)
+Concludes None answer = (answer.status ≡ Fault) × (answer.text ≡ fault_text)

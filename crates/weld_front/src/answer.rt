@@ -1,18 +1,18 @@
-ghost use Rattle.std.specs.Prelude.{◌≡◌, ◌≤◌, ℕ, List, length, codes, Err, IfOk, IfSome, IfErr, OnOk, OnErr, Option};
-ghost use Rattle.std.specs.Io.KnownBytes.{IsAtEnd};
+ghost use Rattle.std.specs.Prelude.{◌≡◌, ◌≤◌, ◌∷◌, Err, IfOk, OnOk, IfSome};
 ghost use Rattle.weld_ports.specs.Faults.{Rises};
-ghost use Rattle.weld_job.specs.Reading.{Takes, TakesJust};
-ghost use Rattle.weld_front.specs.Answer.{Answers, AnswersParts, ReadsAll, refusal_text, unfit_text, value_text, fault_text, is_too_long};
-ghost use Rattle.weld_front.specs.Data.{DataSays};
+ghost use Rattle.weld_job.specs.Reading.{Takes};
+ghost use Rattle.weld_front.specs.Answer.{Answers, AnswersParts, IsOfJob, Extent, refusal_text, unfit_text, value_text, fault_text};
+ghost use Rattle.weld_front.specs.Data.{DataSays, BlocksSay, Concludes};
+ghost use Rattle.weld_front.specs.Total.{total};
 ghost use Rattle.std.specs.String.{string_bytes};
 
-use crate::first_form::read_first_form;
+use crate::first_form::{Body, read_first_form};
 use crate::numbers::read_numbers;
 use crate::status::Status;
 use crate::sum::sum_rows;
 use std::alloc::{AllocError, Global};
 use weld_data::{I64s, Text};
-use weld_job::{BlockForm, Job, JobFault, read_job};
+use weld_job::{Block, BlockForm, Job, JobFault, read_job};
 use weld_ports::Source;
 use weld_tree::Code;
 
@@ -84,4 +84,90 @@ fn fault(alloc: Global) -> Result<Answer, AllocError>
         status: Status::Fault,
         text: Text::copy_of(alloc, b"fault\n")?,
     })
+}
+
+/// Reads a value block, which others may follow.
+fn read_value_block(alloc: Global, block: &Block, more: &[Block]) -> Result<Data, AllocError>
+    requires { block.now.form ≡ BlockForm.Value }
+    ensures { IfOk result (λ found. BlocksSay (block.now ∷ more.now) found) }
+{
+    let Some(numbers) = read_numbers(alloc, block.content.as_slice())? else {
+        return Ok(Data::Unfit(1, Code::Data));
+    };
+    if more.is_empty() {
+        return Ok(Data::Numbers(numbers));
+    }
+    Ok(Data::Unfit(2, Code::Extra))
+}
+
+/// Reads the data where no stray bytes stand, from the first block and those after it.
+fn read_block(alloc: Global, block: &Block, more: &[Block]) -> Result<Data, AllocError>
+    ensures { IfOk result (λ found. BlocksSay (block.now ∷ more.now) found) }
+{
+    match block.form {
+        BlockForm::Value => read_value_block(alloc, block, more),
+        BlockForm::Table => Ok(Data::Unfit(1, Code::Form)),
+        BlockForm::Other => Ok(Data::Unfit(1, Code::Form)),
+    }
+}
+
+/// Reads the data of a program with one parameter of type vec[i64].
+fn read_data(alloc: Global, job: &Job) -> Result<Data, AllocError>
+    ensures { IfOk result (λ found. DataSays job.now found) }
+{
+    if job.stray {
+        return Ok(Data::Unfit(0, Code::Form));
+    }
+    match job.blocks.as_slice() {
+        [] => Ok(Data::Unfit(1, Code::Missing)),
+        [block, more @ ..] => read_block(alloc, block, more),
+    }
+}
+
+/// What a program's sum over the numbers is answered with.
+fn conclude(alloc: Global, body: Body, numbers: &I64s) -> Result<Answer, AllocError>
+    ensures { IfOk result (λ answer. Concludes (total body numbers.now) answer) }
+{
+    match sum_rows(body, numbers.as_slice()) {
+        Some(value) => done(alloc, value),
+        None => fault(alloc),
+    }
+}
+
+/// The answer to a job that isn't too long.
+fn answer_parts(alloc: Global, job: &Job) -> Result<Answer, AllocError>
+    ensures { IfOk result (λ answer. AnswersParts job.now answer.status answer.text) }
+{
+    let Some(body) = read_first_form(job.text.as_slice()) else {
+        return refusal(alloc, Code::X0);
+    };
+    match read_data(alloc, job)? {
+        Data::Numbers(numbers) => conclude(alloc, body, &numbers),
+        Data::Unfit(number, code) => unfit(alloc, number, code),
+    }
+}
+
+#[tactic(auto, using(crate::proofs::Answering::parts_answer, crate::proofs::Answering::parts_status, crate::proofs::Answering::within_extent, crate::proofs::Answering::over_extent))]
+/// Reads a job and finds its answer. Of a job that is too long it takes just one byte more than the limit;
+/// else it reads to the end, but where a read fails or memory is wanting.
+pub fn read_answer<S: Source>(alloc: Global, input: &mut S) -> Result<Answer, NoAnswer>
+    ensures ok { IfOk result (λ answer. IfSome (S.left input.old) (λ bytes. Answers bytes answer.status answer.text)) }
+    ensures status { IfOk result (λ answer. IsOfJob answer.status) }
+    ensures extent { OnOk result (Extent (S.left input.old) (S.left input.new)) }
+    ensures read { result ≡ Err NoAnswer.Read → Rises (S.faults input.old) (S.faults input.new) }
+    ensures taken { Takes (S.left input.old) (S.left input.new) }
+    ensures never_falls { S.faults input.old ≤ S.faults input.new }
+{
+    match read_job(alloc, input) {
+        Ok(job) => match answer_parts(alloc, &job) {
+            Ok(answer) => Ok(answer),
+            Err(_) => Err(NoAnswer::Memory),
+        },
+        Err(JobFault::TooLong) => match refusal(alloc, Code::M1) {
+            Ok(answer) => Ok(answer),
+            Err(_) => Err(NoAnswer::Memory),
+        },
+        Err(JobFault::Read) => Err(NoAnswer::Read),
+        Err(JobFault::Memory) => Err(NoAnswer::Memory),
+    }
 }

@@ -4,8 +4,12 @@
 pub mod answer;
 pub mod deliver;
 pub mod first_form;
+pub mod front;
 pub mod numbers;
 pub mod spelling;
 pub mod status;
 pub mod sum;
 pub mod words;
+
+pub use front::weld_main;
+pub use status::Status;
