@@ -6,3 +6,5 @@ pub mod NumberLemmas
 pub mod Sums
 pub mod Sinks
 pub mod Answering
+pub mod OneAnswer
+pub mod Totals

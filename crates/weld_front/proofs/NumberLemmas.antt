@@ -310,3 +310,50 @@ pub pattern_no_longer : (pattern text rest : List ℕ) → after_pattern pattern
 pattern_no_longer pattern text rest h =
     let t = pattern_taken pattern text rest h in
     omega (arith, ap length t.parts, length-append t.front rest)
+
+-- ---- one reading
+
+no_integer : (rest : List ℕ) → integer_at (93 ∷ rest) ≡ None
+unfolding integer_at magnitude_at
+no_integer rest = refl
+
+-- the closing bracket is no number
+bracket_no_tail : (zs : List ℤ) (text : List ℕ) → IsTail zs text → ends (after_pattern bracket text) ≡ true → ⊥
+bracket_no_tail zs text t h =
+    let b = tail_begins zs text t in
+    let p = pattern_taken bracket text [] (ends_some _ h) in
+    let a = around 93 p.front refl p.matched in
+    let whole : text ≡ a.0 ++ (93 ∷ a.1) = p.parts ∙ append-nil p.front ∙ a.4 in
+    let bare : text ≡ 93 ∷ a.1 = sym (bare_stays text (tail_bare zs text t)) ∙ ap after_blanks whole ∙ blanks_skip a.0 (93 ∷ a.1) a.2 in
+    none_is (b.first, b.after) (sym (no_integer a.1) ∙ ap integer_at (sym bare) ∙ begins_read zs text b)
+
+follows_unique : (n : ℕ) (ys zs : List ℤ) (y : ℤ) (after : List ℕ) → ((ys' zs' : List ℤ) (rest : List ℕ) → length ys' < length ys → IsTail ys' rest → IsTail zs' rest → ys' ≡ zs') → Follows ys y after → Follows zs y after → ys ≡ zs
+follows_unique n ys zs y after again (inl p) (inl q) = p.0 ∙ sym q.0
+follows_unique n ys zs y after again (inl p) (inr (zs', between, rest, same, m, t, e)) = absurd (none_is rest (sym (bracket_no_comma after p.1) ∙ ap (after_pattern comma) e ∙ comma_read between rest zs' m t))
+follows_unique n ys zs y after again (inr (ys', between, rest, same, m, t, e)) (inl q) = absurd (none_is rest (sym (bracket_no_comma after q.1) ∙ ap (after_pattern comma) e ∙ comma_read between rest ys' m t))
+follows_unique n ys zs y after again (inr (ys', between, rest, same, m, t, e)) (inr (zs', between', rest', same', m', t', e')) =
+    let r : rest ≡ rest' = some_is rest rest' (sym (comma_read between rest ys' m t) ∙ ap (after_pattern comma) (sym e ∙ e') ∙ comma_read between' rest' zs' m' t') in
+    let tails = again ys' zs' rest (omega (arith, ap length same)) t (subst (λ (x : List ℕ). IsTail zs' x) (sym r) t') in
+    same ∙ ap (λ (x : List ℤ). y ∷ x) tails ∙ sym same'
+
+tail_unique : (n : ℕ) (ys zs : List ℤ) (text : List ℕ) → length ys ≤ n → IsTail ys text → IsTail zs text → ys ≡ zs
+tail_unique zero [] zs text l t u = absurd (t.some refl)
+tail_unique zero (y ∷ ys) zs text l t u = absurd (omega arith)
+tail_unique (suc n) ys zs text l t u =
+    let b = tail_begins ys text t in
+    let f = follows_at zs text b.first b.after (begins_read ys text b) u in
+    follows_unique n ys zs b.first b.after (λ ys' zs' rest lt t' u'. tail_unique n ys' zs' rest (omega arith) t' u') b.follows f
+
+vector_by : (xs ys : List ℤ) (rest : List ℕ) → (((xs ≡ []) × (ends (after_pattern bracket rest) ≡ true)) ⊎ IsTail xs rest) → (((ys ≡ []) × (ends (after_pattern bracket rest) ≡ true)) ⊎ IsTail ys rest) → xs ≡ ys
+vector_by xs ys rest (inl p) (inl q) = p.0 ∙ sym q.0
+vector_by xs ys rest (inl p) (inr u) = absurd (bracket_no_tail ys rest u p.1)
+vector_by xs ys rest (inr t) (inl q) = absurd (bracket_no_tail xs rest t q.1)
+vector_by xs ys rest (inr t) (inr u) = tail_unique (length xs) xs ys rest (omega arith) t u
+
+-- a text reads as one list of numbers at most
+pub reads_unique : (content : List ℕ) (xs ys : List ℤ) → ReadsAs content xs → ReadsAs content ys → xs ≡ ys
+reads_unique content xs ys r s =
+    let v = vector_rest xs content r in
+    let w = vector_rest ys content s in
+    let same : w.0 ≡ v.0 = some_is w.0 v.0 (sym w.1 ∙ v.1) in
+    vector_by xs ys v.0 v.2 (subst (λ (x : List ℕ). ((ys ≡ []) × (ends (after_pattern bracket x) ≡ true)) ⊎ IsTail ys x) same w.2)

@@ -5,6 +5,7 @@ pub mod answer;
 pub mod deliver;
 pub mod first_form;
 pub mod front;
+pub mod laws;
 pub mod numbers;
 pub mod spelling;
 pub mod status;
