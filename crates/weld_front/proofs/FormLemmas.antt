@@ -49,7 +49,7 @@ pub atom_taken : (text : List ℕ) (atom : Atom) (rest : List ℕ) → atom_at t
 unfolding atom_at
 atom_taken text atom rest h =
     either_taken text 120 Element (after_byte 120 text) _ atom rest refl refl
-        (λ g. either_taken text 105 Row (after_byte 105 text) _ atom rest refl refl (literal_taken text atom rest) g) h
+    (λ g. either_taken text 105 Row (after_byte 105 text) _ atom rest refl refl (literal_taken text atom rest) g) h
 
 -- a digit is neither letter
 digit_other : (byte other : ℕ) → is_digit byte ≡ true → (is_digit other ≡ false) → (byte == other) ≡ false
@@ -246,9 +246,15 @@ form_taken text body h =
     let middle = body_taken b.0 c.0.0 c.0.1 c.1 in
     let back = pattern_taken closing c.0.1 d.0 d.1 in
     let e = empty_is c.0.0 body d.0 d.2 in
-    let last : c.0.1 ≡ back.front = back.parts ∙ ap (λ (t : List ℕ). back.front ++ t) e.0 ∙ append-nil back.front in
-    (front.front, middle.spelled, back.front, front.matched, subst (λ (x : Body). SpellsBody x middle.spelled) e.1 middle.spells, back.matched,
-        front.parts ∙ ap (λ (t : List ℕ). front.front ++ t) (middle.parts ∙ ap (λ (t : List ℕ). middle.spelled ++ t) last) ∙ sym (append_assoc front.front middle.spelled back.front))
+    let last : c.0.1 ≡ back.front = back.parts ∙ ap (λ (t : List ℕ). back.front ++ t) e.0 ∙ append-nil back.front in (
+      front.front,
+      middle.spelled,
+      back.front,
+      front.matched,
+      subst (λ (x : Body). SpellsBody x middle.spelled) e.1 middle.spells,
+      back.matched,
+      front.parts ∙ ap (λ (t : List ℕ). front.front ++ t) (middle.parts ∙ ap (λ (t : List ℕ). middle.spelled ++ t) last) ∙ sym (append_assoc front.front middle.spelled back.front),
+    )
 
 end_of_form : Body × List ℕ → Option Body
 end_of_form found = option_and_then (if_empty found.0) (after_pattern closing found.1)

@@ -34,7 +34,7 @@ total_values body n sum [] (v ∷ vs) e w = absurd cc
 total_values body n sum (x ∷ xs) [] e w = absurd cc
 total_values body n sum (x ∷ xs) (v ∷ vs) e w =
     values_by body n sum xs (body_value body n x) v vs (row_values body (n + 1) xs) e
-        (λ t. total_values body (n + 1) (wrapped I64 (sum +ℤ v)) xs vs t (sym (wrap_twice (sum +ℤ v))))
+    (λ t. total_values body (n + 1) (wrapped I64 (sum +ℤ v)) xs vs t (sym (wrap_twice (sum +ℤ v))))
 
 fault_by : (body : Body) (n : ℕ) (sum : ℤ) (xs : List ℤ) (o : Option ℤ) → ((s : ℤ) → is_none (total_from body (n + 1) s xs) ≡ list_any is_none (row_values body (n + 1) xs)) → is_none (option_and_then (λ value. total_from body (n + 1) (wrapped I64 (sum +ℤ value)) xs) o) ≡ (is_none o || list_any is_none (row_values body (n + 1) xs))
 fault_by body n sum xs None again = refl

@@ -64,7 +64,10 @@ fn unfit(alloc: Global, number: u32, code: Code) -> Result<Answer, AllocError>
     ensures text { IfOk result (λ answer. answer.text ≡ unfit_text number code) }
 {
     let letters = code.text();
-    Ok(answer_of(Status::Unfit, format!(in alloc; "parameter {number}: {letters}\n")?))
+    Ok(answer_of(
+        Status::Unfit,
+        format!(in alloc; "parameter {number}: {letters}\n")?,
+    ))
 }
 
 /// The program's value.
@@ -147,9 +150,9 @@ fn answer_parts(alloc: Global, job: &Job) -> Result<Answer, AllocError>
     }
 }
 
-#[tactic(auto, using(crate::proofs::Answering::parts_answer, crate::proofs::Answering::parts_status, crate::proofs::Answering::within_extent, crate::proofs::Answering::over_extent))]
 /// Reads a job and finds its answer. Of a job that is too long it takes just one byte more than the limit;
 /// else it reads to the end, but where a read fails or memory is wanting.
+#[tactic(auto, using(crate::proofs::Answering::parts_answer, crate::proofs::Answering::parts_status, crate::proofs::Answering::within_extent, crate::proofs::Answering::over_extent))]
 pub fn read_answer<S: Source>(alloc: Global, input: &mut S) -> Result<Answer, NoAnswer>
     ensures ok { IfOk result (λ answer. IfSome (S.left input.old) (λ bytes. Answers bytes answer.status answer.text)) }
     ensures status { IfOk result (λ answer. IsOfJob answer.status) }

@@ -113,8 +113,8 @@ fn first_form(text: &[u8]) -> Option<Body>
     if rest.is_empty() { Some(body) } else { None }
 }
 
-#[tactic(auto, using(crate::proofs::FormLemmas::form_some, crate::proofs::FormLemmas::form_none))]
 /// Reads a program's text. It answers the expression exactly where the text is of the first form.
+#[tactic(auto, using(crate::proofs::FormLemmas::form_some, crate::proofs::FormLemmas::form_none))]
 pub fn read_first_form(text: &[u8]) -> Option<Body>
     ensures found { IfSome result (IsFirstForm text.now) }
     ensures none { IfNone result ((body : _) → IsFirstForm text.now body → ⊥) }

@@ -14,3 +14,6 @@ pub mod words;
 
 pub use front::weld_main;
 pub use status::Status;
+
+#[cfg(test)]
+mod tests;

@@ -38,8 +38,8 @@ fn leading_integer(text: &[u8]) -> Option<(i64, &[u8])>
     }
 }
 
-#[tactic(auto, unfolding(crate::specs::Reading::after_pattern))]
 /// What follows a comma at the front of the text, and the blanks around it.
+#[tactic(auto, unfolding(crate::specs::Reading::after_pattern))]
 fn after_comma(text: &[u8]) -> Option<&[u8]>
     ensures { option_copied result ≡ after_pattern (codes " , ") text.now }
 {

@@ -78,8 +78,8 @@ impl Operation for Product {
     }
 }
 
-#[tactic(auto, using(crate::proofs::Sums::row_number))]
 /// The atom's value at the row of this number and element.
+#[tactic(auto, using(crate::proofs::Sums::row_number))]
 fn value_at(atom: Atom, number: usize, element: i64) -> i64
     ensures { result ≡ atom_value atom number element }
 {
@@ -90,21 +90,24 @@ fn value_at(atom: Atom, number: usize, element: i64) -> i64
     }
 }
 
-#[tactic(auto, using(crate::proofs::Sums::step_by))]
 /// The sum over the rows of an operation that can't fault.
+#[tactic(auto, using(crate::proofs::Sums::step_by))]
 fn sum_by<O: Operation>(left: Atom, right: Atom, elements: &[i64]) -> i64
     ensures { result ≡ total_by O.gives left right 0 (pos 0) elements.now }
 {
-    let mut sum = 0i64;
+    let mut sum: i64 = 0;
     for (number, element) in elements.iter().enumerate() {
-        let value = O::apply(value_at(left, number, *element), value_at(right, number, *element));
+        let value = O::apply(
+            value_at(left, number, *element),
+            value_at(right, number, *element),
+        );
         sum = add(sum, value);
     }
     sum
 }
 
-#[tactic(auto, using(crate::proofs::Sums::step_from))]
 /// The sum over the rows of quotients, or none where a divisor is 0.
+#[tactic(auto, using(crate::proofs::Sums::step_from))]
 fn sum_quotients(left: Atom, right: Atom, elements: &[i64]) -> Option<i64>
     ensures { result ≡ total (bodies.Two operators.Over left right) elements.now }
 {
@@ -119,15 +122,17 @@ fn sum_quotients(left: Atom, right: Atom, elements: &[i64]) -> Option<i64>
     Some(sum)
 }
 
-#[tactic(auto, using(crate::proofs::Sums::first_is, crate::proofs::Sums::sum_is, crate::proofs::Sums::difference_is, crate::proofs::Sums::product_is))]
 /// The sum of the expression over the rows, one after another, or none where it faults at some row.
+#[tactic(auto, using(crate::proofs::Sums::first_is, crate::proofs::Sums::sum_is, crate::proofs::Sums::difference_is, crate::proofs::Sums::product_is))]
 pub fn sum_rows(body: Body, elements: &[i64]) -> Option<i64>
     ensures { result ≡ total body elements.now }
 {
     match body {
         Body::One(atom) => Some(sum_by::<First>(atom, atom, elements)),
         Body::Two(Operator::Plus, left, right) => Some(sum_by::<Sum>(left, right, elements)),
-        Body::Two(Operator::Minus, left, right) => Some(sum_by::<Difference>(left, right, elements)),
+        Body::Two(Operator::Minus, left, right) => Some(sum_by::<Difference>(
+            left, right, elements,
+        )),
         Body::Two(Operator::Times, left, right) => Some(sum_by::<Product>(left, right, elements)),
         Body::Two(Operator::Over, left, right) => sum_quotients(left, right, elements),
     }

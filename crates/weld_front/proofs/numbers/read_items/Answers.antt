@@ -24,8 +24,11 @@ returns-in_default-after_comma-clause-none c = λ ys t.
 
 pub loop-item-smaller : goal.loop-item-smaller
 loop-item-smaller c =
-    omega (arith, integer_shorter c.loop-item.rest.now c.in-Some.item c.in-Some.after.now (sym c.in-Some.ensures.value),
-        pattern_no_longer comma c.in-Some.after.now c.in-Some-after_comma.more.now (sym c.in-Some-after_comma.ensures))
+    omega (
+      arith,
+      integer_shorter c.loop-item.rest.now c.in-Some.item c.in-Some.after.now (sym c.in-Some.ensures.value),
+      pattern_no_longer comma c.in-Some.after.now c.in-Some-after_comma.more.now (sym c.in-Some-after_comma.ensures),
+    )
 
 pub loop-item-preserved : goal.loop-item-preserved
 loop-item-preserved c =

@@ -16,6 +16,7 @@ pub returns-in-len1 : goal.returns-in-len1
 returns-in-len1 c =
     let one = single c.args.words.now c.word-item.result c.in-len1.len_at_least c.in-len1.len_below c.word-item.is in
     let bytes : map (string_bytes {Z = Global}) c.args.words.now ≡ string_bytes c.word-item.result ∷ [] = ap (map (string_bytes {Z = Global})) one in
-    let d = slice_eq-Decides Decides-eqb c.as_str.result.now (codes "run") c.eq.result c.eq.ensures in
-    (λ h. bytes ∙ ap (λ (t : List ℕ). t ∷ []) (sym c.as_str.ensures.value ∙ d.0 h),
-     λ h. d.1 (c.as_str.ensures.value ∙ head_is (string_bytes c.word-item.result) (codes "run") (sym bytes ∙ h)))
+    let d = slice_eq-Decides Decides-eqb c.as_str.result.now (codes "run") c.eq.result c.eq.ensures in (
+      λ h. bytes ∙ ap (λ (t : List ℕ). t ∷ []) (sym c.as_str.ensures.value ∙ d.0 h),
+      λ h. d.1 (c.as_str.ensures.value ∙ head_is (string_bytes c.word-item.result) (codes "run") (sym bytes ∙ h)),
+    )
