@@ -10,6 +10,10 @@ use Rattle.weld_job.specs.declared.job.Job.{Job}
 abbrev pub is_space : ℕ → Bool
 is_space b = b == 32 || b == 9 || b == 13 || b == 10
 
+-- a byte that may not stand before the first header
+abbrev pub is_stray : ℕ → Bool
+is_stray b = not (is_space b)
+
 -- the lines of some bytes, each with the LF that ends it; the last one may have none
 abbrev pub lines : List ℕ → List (List ℕ)
 lines [] = []
@@ -51,9 +55,9 @@ blocks_of (line ∷ rest) =
     then record { form = form_of line; content = concat (before_first is_header rest) } ∷ blocks_of rest
     else blocks_of rest
 
--- some byte that is no space, tab, CR or LF stands before the first header
+-- a stray byte stands before the first header
 abbrev pub has_stray : List (List ℕ) → Bool
-has_stray rest = list_any (λ b. not (is_space b)) (concat (before_first is_header rest))
+has_stray rest = list_any is_stray (concat (before_first is_header rest))
 
 -- a job's text, blocks and stray mark
 abbrev pub job_of : List ℕ → Job

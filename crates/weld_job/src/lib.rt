@@ -3,6 +3,8 @@
 
 pub mod block;
 pub mod job;
+pub mod laws;
+mod lines;
 pub mod read;
 pub mod split;
 
@@ -10,3 +12,6 @@ pub use block::{Block, BlockForm, Blocks};
 pub use job::{Job, JobFault};
 pub use read::read_job;
 pub use split::split_blocks;
+
+#[cfg(test)]
+mod tests;

@@ -1,5 +1,5 @@
 -- What the failures of a source or a sink say, by this project's profile.
-use Rattle.std.specs.Prelude.{◌≡◌, ℕ, ◌+◌, ◌-◌, ◌^◌, ◌≤◌, List, Option, Some, length, min, IfSome}
+use Rattle.std.specs.Prelude.{◌≡◌, ℕ, ◌+◌, ◌-◌, ◌^◌, ◌≤◌, List, Option, length, min, IfSome}
 
 -- The count of failures rose. One that stands at its type's last value counts as risen.
 abbrev pub Rises : ℕ → ℕ → Type 0

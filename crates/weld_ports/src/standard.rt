@@ -17,9 +17,12 @@ pub struct StdinSource<R> {
     faults: u64,
 }
 
-impl<R> StdinSource<R> {
+impl<R: Read> StdinSource<R> {
     /// A source over a reader that nothing else reads from: `StdinSource::new(rt.reader())`.
-    pub fn new(reader: R) -> StdinSource<R> {
+    pub fn new(reader: R) -> StdinSource<R>
+        ensures bytes { ⟦<StdinSource<R> as Source>⟧.left result ≡ R.remaining reader }
+        ensures faults { ⟦<StdinSource<R> as Source>⟧.faults result ≡ 0 }
+    {
         StdinSource { reader, faults: 0 }
     }
 }
@@ -55,9 +58,12 @@ pub struct StdoutSink<W> {
     faults: u64,
 }
 
-impl<W> StdoutSink<W> {
+impl<W: Write> StdoutSink<W> {
     /// A sink over a writer that nothing else writes to: `StdoutSink::new(io::writer(&rt))`.
-    pub fn new(writer: W) -> StdoutSink<W> {
+    pub fn new(writer: W) -> StdoutSink<W>
+        ensures bytes { ⟦<StdoutSink<W> as Sink>⟧.held result ≡ W.contents writer }
+        ensures faults { ⟦<StdoutSink<W> as Sink>⟧.faults result ≡ 0 }
+    {
         StdoutSink { writer, faults: 0 }
     }
 }

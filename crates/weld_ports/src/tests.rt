@@ -5,7 +5,7 @@ use super::{
     SureSink, SureSource, WriteFailed,
 };
 use std::io;
-use std::io::{ErrorKind, Read};
+use std::io::{ErrorKind, Read, Write};
 use std::test::Fail;
 
 /// A read through the bound.
@@ -102,6 +102,27 @@ fn an_interrupted_read_is_tried_again(rt: HostRuntime) {
     let mut source = StdinSource::new(Stutter { reads: 0 });
     assert_eq!(rt; read_from(&mut source, &mut into), Ok(1));
     assert_eq!(rt; read_from(&mut source, &mut into), Err(ReadFailed));
+}
+
+/// A writer that takes nothing, and whose flush fails.
+#[derive(Drop)]
+struct Clogged;
+
+impl Write for Clogged {
+    fn write(&mut self, _from: &[u8]) -> io::Result<usize> {
+        Ok(0)
+    }
+
+    fn flush(&mut self) -> io::Result<()> {
+        Err(io::Error::from(ErrorKind::BrokenPipe))
+    }
+}
+
+#[test]
+fn a_writer_that_takes_nothing_fails(rt: HostRuntime) {
+    let mut sink = StdoutSink::new(Clogged);
+    assert_eq!(rt; write_to(&mut sink, b"abcd"), Err(WriteFailed));
+    assert_eq!(rt; sink.flush(), Err(WriteFailed));
 }
 
 #[test]
