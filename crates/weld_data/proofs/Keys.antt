@@ -1,5 +1,5 @@
 -- Laws of the order of keys.
-use Rattle.std.proofs.Common.{◌≡◌, ◌⊎◌, inl, inr, ⊎_elim, ℕ, ◌+◌, ◌<◌, ◌≤◌, zero, suc, ℤ, ◌<ℤ◌, List, [], ◌∷◌, map, length, take, slice_get, slice_index_or, Some, None, Ordering, Less, Equal, Greater, int_cmp, nat_cmp, Bool, true, false, pos, min, take_all, ap, ap₂, sym, subst, subst₂, refl, ◌∙◌, arith}
+use Rattle.std.proofs.Common.{add-one, ◌≡◌, ◌⊎◌, inl, inr, ⊎_elim, ℕ, ◌+◌, ◌<◌, ◌≤◌, zero, suc, ℤ, ◌<ℤ◌, List, [], ◌∷◌, ◌++◌, map, length, take, slice_get, slice_index_or, Some, None, Ordering, Less, Equal, Greater, int_cmp, nat_cmp, Bool, true, false, pos, min, take_all, ap, ap₂, sym, subst, subst₂, refl, ◌∙◌, arith}
 use Rattle.std.proofs.lemmas.List.{length-map}
 use Rattle.std.proofs.lemmas.Int.{ints, by_lt_z}
 use Rattle.std.specs.Ordering.{MatchOrdering, ordering_then, bool_cmp}
@@ -278,3 +278,12 @@ view_at {A} {B} view items vs i v e h p = subst (λ ws. slice_get ws i ≡ Some 
 
 pub view_within : {A B : Type 0} (view : A → B) (items : List A) (vs : List B) → map view items ≡ vs → length vs ≡ length items
 view_within view items vs e = sym (ap length e) ∙ length-map items view
+
+pub take-get : {A : Type 0} (xs : List A) (i : ℕ) (x : A) → slice_get xs i ≡ Some x → take (i + 1) xs ≡ take i xs ++ x ∷ []
+take-get [] i x p = cc
+take-get (y ∷ xs) zero x p = let e : y ≡ x = cc in ap (λ w. w ∷ []) e
+take-get (y ∷ xs) (suc i) x p = let h = take-get xs i x p in rw add-one (ap (λ w. y ∷ w) (rw add-one at h))
+
+-- one more element of a list of values
+pub take-view : {A B : Type 0} (view : A → B) (items : List A) (vs : List B) (i : ℕ) (v : A) → map view items ≡ vs → i < length items → v ≡ slice_index_or items i v → take (i + 1) vs ≡ take i vs ++ view v ∷ []
+take-view view items vs i v e h p = take-get vs i (view v) (view_at view items vs i v e h p)

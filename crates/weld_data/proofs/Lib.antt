@@ -5,3 +5,4 @@ pub mod Operations
 pub mod Keys
 pub mod Depths
 pub mod Lookups
+pub mod Sums

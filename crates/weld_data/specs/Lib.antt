@@ -1,3 +1,4 @@
+pub mod Callers
 pub mod Deeper
 pub mod Depth
 pub mod Kind

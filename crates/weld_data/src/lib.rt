@@ -1,6 +1,8 @@
 //! Values of Weld programs, and the operations on their numbers.
 #![tactic(auto)]
 
+#[cfg(test)]
+mod callers;
 pub mod items;
 pub mod kind;
 pub mod laws;

@@ -244,6 +244,8 @@ impl Pairs {
 
 impl Column {
     ghost use Rattle.std.specs.Prelude.{◌≡◌, ◌==◌, ◌<◌, length, slice_get, Some, IfOk};
+    ghost use Rattle.weld_data.specs.Value.{number, values};
+    ghost use Rattle.weld_data.specs.Order.{HaveOneKind};
     ghost use Rattle.weld_data.specs.View.{view_val, view_column};
 
     /// How many elements there are.
@@ -265,6 +267,25 @@ impl Column {
         ensures { result ≡ (length (view_column self.now) == 0) }
     {
         self.len() == 0
+    }
+
+    /// The number at an index, from 0, of a column of numbers of one kind. It takes no memory.
+    pub fn number_at(&self, index: usize) -> Num
+        requires within { index < length (view_column self.now) }
+        requires numbers { HaveOneKind (values (view_column self.now)) }
+        ensures { slice_get (view_column self.now) index ≡ Some (number result.kind result.value) }
+    {
+        match self {
+            Column::Bool(items) => Num::of_bool(items.as_slice()[index]),
+            Column::I8(items) => Num::of_i8(items.as_slice()[index]),
+            Column::U8(items) => Num::of_u8(items.as_slice()[index]),
+            Column::I32(items) => Num::of_i32(items.as_slice()[index]),
+            Column::I64(items) => Num::of_i64(items.as_slice()[index]),
+            Column::Nest(items) => match items.at(index) {
+                Val::Num(number) => *number,
+                _ => unreachable!(),
+            },
+        }
     }
 
     /// A copy of the element at an index, from 0.

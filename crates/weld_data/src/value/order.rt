@@ -1,13 +1,12 @@
 //! The order of keys.
 
-ghost use Rattle.std.specs.Prelude.{◌≡◌, ◌<◌, length, slice_get, Some};
+ghost use Rattle.std.specs.Prelude.{◌≡◌};
 ghost use Rattle.std.specs.Ordering.{MatchOrdering};
-ghost use Rattle.weld_data.specs.Value.{number, values};
+ghost use Rattle.weld_data.specs.Value.{values};
 ghost use Rattle.weld_data.specs.View.{view_val, view_column};
-ghost use Rattle.weld_data.specs.Order.{KeyLess, LexLess, SameKeyType, HaveOneKind, SameNumberKinds, SameFieldTypes};
+ghost use Rattle.weld_data.specs.Order.{KeyLess, LexLess, SameKeyType, SameNumberKinds, SameFieldTypes};
 
 use super::{Column, Val, Vals};
-use crate::num::Num;
 use std::cmp::Ordering;
 
 /// How two keys of one type stand to each other: numbers by size, false before true;
@@ -76,29 +75,10 @@ fn compare_numbers(a: &Column, b: &Column) -> Ordering
         (LexLess (values (view_column b.now)) (values (view_column a.now))) }
 {
     for i in 0..a.len().min(b.len()) {
-        match number_at(a, i).value.cmp(&number_at(b, i).value) {
+        match a.number_at(i).value.cmp(&b.number_at(i).value) {
             Ordering::Equal => {}
             unequal => return unequal,
         }
     }
     a.len().cmp(&b.len())
-}
-
-/// The number at an index of a list of numbers.
-fn number_at(column: &Column, index: usize) -> Num
-    requires within { index < length (view_column column.now) }
-    requires numbers { HaveOneKind (values (view_column column.now)) }
-    ensures { slice_get (view_column column.now) index ≡ Some (number result.kind result.value) }
-{
-    match column {
-        Column::Bool(items) => Num::of_bool(items.as_slice()[index]),
-        Column::I8(items) => Num::of_i8(items.as_slice()[index]),
-        Column::U8(items) => Num::of_u8(items.as_slice()[index]),
-        Column::I32(items) => Num::of_i32(items.as_slice()[index]),
-        Column::I64(items) => Num::of_i64(items.as_slice()[index]),
-        Column::Nest(items) => match items.at(index) {
-            Val::Num(number) => *number,
-            _ => unreachable!(),
-        },
-    }
 }

@@ -35,11 +35,13 @@ returns-in-Equal-clause-found c =
     let long = view_within view_pair c.self.inside.items.items c.args.self.now c.self.view_is in
     let within : middle < length c.args.self.now = omega arith in
     let p = c.index.result.now in
-    let here = view_at view_pair c.self.inside.items.items c.args.self.now middle p c.self.view_is (omega arith) c.index.ensures in
-    (view_pair p, record {
-      entry = here;
-      found = value_of_key-at c.args.self.now (view_val c.args.key.now) middle (view_pair p) (subst Rises c.self.view_is c.self.invariant) here c.in-Equal.ensures;
-    })
+    let here = view_at view_pair c.self.inside.items.items c.args.self.now middle p c.self.view_is (omega arith) c.index.ensures in (
+      view_pair p,
+      record {
+        entry = here;
+        found = value_of_key-at c.args.self.now (view_val c.args.key.now) middle (view_pair p) (subst Rises c.self.view_is c.self.invariant) here c.in-Equal.ensures;
+      },
+    )
 
 pub loop-low-preserved : goal.loop-low-preserved
 loop-low-preserved c =

@@ -1,5 +1,5 @@
 use Rattle.weld_data.proofs.Keys.{number_there}
-use Rattle.weld_data.proofs.value.order.number_at.Goals as goal
+use Rattle.weld_data.proofs.value.Column.number_at.Goals as goal
 
 pub unreachable-requires : goal.unreachable-requires
 unreachable-requires c =
