@@ -287,3 +287,8 @@ take-get (y ∷ xs) (suc i) x p = let h = take-get xs i x p in rw add-one (ap (�
 -- one more element of a list of values
 pub take-view : {A B : Type 0} (view : A → B) (items : List A) (vs : List B) (i : ℕ) (v : A) → map view items ≡ vs → i < length items → v ≡ slice_index_or items i v → take (i + 1) vs ≡ take i vs ++ view v ∷ []
 take-view view items vs i v e h p = take-get vs i (view v) (view_at view items vs i v e h p)
+
+-- a list of numbers of one kind, as a typed column has it
+pub AreNumbers-map : {T : Type 0} (kind : Kind) (f : T → ℤ) (xs : List T) → AreNumbers kind (values (map (λ (x : T). number kind (f x)) xs))
+AreNumbers-map kind f [] = tt
+AreNumbers-map kind f (x ∷ xs) = (refl, AreNumbers-map kind f xs)

@@ -1,6 +1,6 @@
 //! Callers from outside, which show that the crate's contracts serve.
 
-ghost use Rattle.std.specs.Prelude.{◌≡◌, ◌↔◌, pos, IfOk, is_some, map};
+ghost use Rattle.std.specs.Prelude.{◌≡◌, ◌↔◌, ℕ, pos, IfOk, is_some, map};
 ghost use Rattle.weld_data.specs.declared.kind.Kind.TheVariants as kinds;
 ghost use Rattle.weld_data.specs.Value.{Value, number, values};
 ghost use Rattle.weld_data.specs.View.{view_val, view_column};
@@ -13,8 +13,9 @@ use crate::value::{Column, Pair, Pairs, Val, Vals};
 use std::alloc::{AllocError, Global};
 
 /// A dictionary built by rising keys.
-fn build(alloc: Global, n: u8) -> Result<Pairs, AllocError>
-    ensures { IfOk result (λ pairs. pairs ≡ small_numbers n) }
+pub fn build(alloc: Global, n: u8) -> Result<Pairs, AllocError>
+    ensures entries { IfOk result (λ pairs. pairs ≡ small_numbers n) }
+    ensures keys { IfOk result (λ pairs. (k : ℕ) → IsKeyFor pairs (number kinds.U8 (pos k))) }
 {
     let mut pairs = Pairs::new(alloc);
     for k in 0..n {
@@ -26,15 +27,23 @@ fn build(alloc: Global, n: u8) -> Result<Pairs, AllocError>
 }
 
 /// A key looked up in it.
-fn find(pairs: &Pairs, k: u8) -> bool
+pub fn find(pairs: &Pairs, k: u8) -> bool
     requires { IsKeyFor pairs.now (number kinds.U8 (pos k)) }
     ensures { result ≡ is_some (value_of_key pairs.now (number kinds.U8 (pos k))) }
 {
     pairs.get(&Val::Num(Num::of_u8(k))).is_some()
 }
 
+/// The same question.
+pub fn has(pairs: &Pairs, k: u8) -> bool
+    requires { IsKeyFor pairs.now (number kinds.U8 (pos k)) }
+    ensures { result ≡ is_some (value_of_key pairs.now (number kinds.U8 (pos k))) }
+{
+    pairs.contains_key(&Val::Num(Num::of_u8(k)))
+}
+
 /// The sum of a column of numbers, whatever keeps it.
-fn sum(column: &Column) -> i64
+pub fn sum(column: &Column) -> i64
     requires { HaveOneKind (values (view_column column.now)) }
     ensures { result ≡ sum_of (view_column column.now) }
 {
@@ -87,7 +96,7 @@ fn size(value: &Val) -> i64
 
 /// A recursion over values by public calls alone.
 #[cycle(outside)]
-fn has_dict_in(value: &Val) -> bool
+pub fn has_dict_in(value: &Val) -> bool
     ensures { result ≡ has_dict (view_val value.now) }
 {
     match value {

@@ -1,9 +1,10 @@
 ghost use Rattle.std.specs.Prelude.{◌≡◌, ◌==◌, [], ◌∷◌, ◌++◌, length, OnOk, OnErr, IfOk};
 
+use crate::text::Text;
 use std::alloc::{AllocError, Global};
 use std::marker::Model;
 
-/// A list of numbers, truth values or texts, kept in a Vec. Contracts see it as the list of its items.
+/// A list of items that hold no values of this crate, kept in a Vec. Contracts see it as the list of its items.
 #[derive(Debug, Drop)]
 pub struct Items<T> {
     items: Vec<T>,
@@ -23,6 +24,9 @@ pub type I32s = Items<i32>;
 
 /// A list of numbers of kind i64.
 pub type I64s = Items<i64>;
+
+/// A list of texts, as of names.
+pub type Names = Items<Text>;
 
 impl<T> Model for Items<T> {
     ghost use Rattle.std.specs.Prelude.{List};

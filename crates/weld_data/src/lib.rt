@@ -13,7 +13,7 @@ pub mod stop;
 pub mod text;
 pub mod value;
 
-pub use items::{Bools, I8s, I32s, I64s, Items, U8s};
+pub use items::{Bools, I8s, I32s, I64s, Items, Names, U8s};
 pub use kind::Kind;
 pub use num::Num;
 pub use op::{BinOp, MergeOp};

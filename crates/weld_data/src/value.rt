@@ -303,3 +303,6 @@ impl Column {
         }
     }
 }
+
+#[cfg(test)]
+mod tests;

@@ -4,7 +4,7 @@ use Rattle.std.proofs.lemmas.Int.{ints}
 use Rattle.std.proofs.lemmas.List.FromFn.{get_or-map-range_with_len, length-map-range_with_len, map-range_with_len_more}
 use Rattle.weld_data.specs.declared.kind.Kind.TheVariants as kinds
 use Rattle.weld_data.specs.Value.{Value, number}
-use Rattle.weld_data.specs.Order.{KeyPrecedes, CanFollow}
+use Rattle.weld_data.specs.Order.{KeyPrecedes, CanFollow, SameKeyType, IsKeyFor}
 use Rattle.weld_data.specs.Callers.{small_numbers}
 use Rattle.weld_data.proofs.callers.build.Goals as goal
 
@@ -26,3 +26,11 @@ loop-k-preserved c =
     let k = ap₂ number c.of_u8.ensures.kind c.of_u8.ensures.value in
     let v = ap₂ number c.of_u8-in-loop-k.ensures.kind c.of_u8-in-loop-k.ensures.value in
     cc (c.in_ok-push.ensures.ok, more)
+
+keys_alike : (n k : ℕ) → IsKeyFor (small_numbers n) (number kinds.U8 (pos k))
+keys_alike n k i d h =
+    let below : i < n = subst (λ m. i < m) (length-map-range_with_len entry 0 n) h in
+    subst (λ (e : Value × Value). SameKeyType e.0 (number kinds.U8 (pos k))) (sym (get_or-map-range_with_len entry 0 n i i d below (omega arith))) refl
+
+pub returns-clause-keys : goal.returns-clause-keys
+returns-clause-keys c = λ k. subst (λ es. IsKeyFor es (number kinds.U8 (pos k))) (sym c.loop-k.invariant) (keys_alike c.loop-k.k k)
