@@ -23,3 +23,6 @@ unsigned_abs-le kind x r = let f = FitsSigned-kind kind x r in omega (arith, int
 pub product_fits : (kind : Kind) (x y : ℤ) → InRange kind x → InRange kind y → FitsSigned w128 (x *ℤ y)
 product_fits kind x y r s =
     fits_signed_mul w128 x y (2 ^ 63) (2 ^ 63) (unsigned_abs-le kind x r) (unsigned_abs-le kind y s) (omega arith)
+
+pub FitsSigned-wide : (x : ℤ) → FitsSigned w64 x → FitsSigned w128 x
+FitsSigned-wide x f = omega (arith, ints)

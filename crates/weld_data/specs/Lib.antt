@@ -1,3 +1,11 @@
+pub mod Callers
+pub mod Deeper
+pub mod Depth
 pub mod Kind
+pub mod Lookup
 pub mod Operation
+pub mod Order
+pub mod Value
+pub mod ValueCode
+pub mod View
 pub mod Wrapped

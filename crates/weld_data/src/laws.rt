@@ -1,12 +1,15 @@
 //! Laws of this crate's definitions, each the contract of a function that does nothing.
 
-ghost use Rattle.std.specs.Prelude.{◌≡◌, ◌≢◌, ◌↔◌, ℤ, pos, int_rem, IsNone, Some};
+ghost use Rattle.std.specs.Prelude.{◌≡◌, ◌≢◌, ◌↔◌, ◌⊎◌, IsTrue, ℤ, pos, int_rem, IsNone, Some};
 ghost use Rattle.std.specs.Int.{w64, int_wrapping_add, int_wrapping_sub, int_wrapping_mul, int_wrapping_div};
 ghost use Rattle.weld_data.specs.declared.op.BinOp.TheVariants as binary;
 ghost use Rattle.weld_data.specs.declared.kind.Kind.TheVariants as kinds;
 ghost use Rattle.weld_data.specs.Kind.{InRange};
 ghost use Rattle.weld_data.specs.Wrapped.{wrapped, IsWrapped};
 ghost use Rattle.weld_data.specs.Operation.{operation, combination, start_of, Divides};
+ghost use Rattle.weld_data.specs.Value.{Value};
+ghost use Rattle.weld_data.specs.Order.{KeyLess, SameKeyType};
+ghost use Rattle.weld_data.specs.Lookup.{same_value};
 
 use crate::kind::Kind;
 use crate::op::{BinOp, MergeOp};
@@ -48,4 +51,21 @@ pub fn operations_on_i64(x: i64, y: i64)
     ensures mul { operation binary.Mul kinds.I64 x y ≡ Some (int_wrapping_mul w64 x y) }
     ensures div { y ≢ pos 0 → operation binary.Div kinds.I64 x y ≡ Some (int_wrapping_div w64 x y) }
     ensures rem { y ≢ pos 0 → operation binary.Rem kinds.I64 x y ≡ Some (int_rem x y) }
+{}
+
+/// Keys are strictly ordered, those of one type totally.
+pub fn key_order()
+    ensures irreflexive { (x : Value) → ¬ (KeyLess x x) }
+    ensures transitive { (x y z : Value) → KeyLess x y → KeyLess y z → KeyLess x z }
+    ensures total { (x y : Value) → SameKeyType x y → KeyLess x y ⊎ ((x ≡ y) ⊎ KeyLess y x) }
+{}
+
+/// To be keys of one type is symmetric.
+pub fn one_key_type()
+    ensures { (x y : Value) → SameKeyType x y → SameKeyType y x }
+{}
+
+/// The test of equality of two values.
+pub fn equal_values()
+    ensures { (x y : Value) → IsTrue (same_value x y) ↔ (x ≡ y) }
 {}

@@ -9,3 +9,64 @@ pub struct Num {
     pub value: i128,
     ghost in_range: { InRange kind value },
 }
+
+impl Num {
+    ghost use Rattle.std.specs.Prelude.{◌≡◌, pos};
+    ghost use Rattle.weld_data.specs.Operation.{truth};
+    ghost use Rattle.weld_data.specs.declared.kind.Kind.TheVariants as kinds;
+
+    /// The number of a truth value.
+    pub fn of_bool(x: bool) -> Num
+        ensures kind { result.kind ≡ kinds.Bool }
+        ensures value { result.value ≡ truth x }
+    {
+        Num {
+            kind: Kind::Bool,
+            value: if x { 1 } else { 0 },
+        }
+    }
+
+    /// The number of kind i8.
+    pub fn of_i8(x: i8) -> Num
+        ensures kind { result.kind ≡ kinds.I8 }
+        ensures value { result.value ≡ x }
+    {
+        Num {
+            kind: Kind::I8,
+            value: i128::from(x),
+        }
+    }
+
+    /// The number of kind u8.
+    pub fn of_u8(x: u8) -> Num
+        ensures kind { result.kind ≡ kinds.U8 }
+        ensures value { result.value ≡ pos x }
+    {
+        Num {
+            kind: Kind::U8,
+            value: i128::from(x),
+        }
+    }
+
+    /// The number of kind i32.
+    pub fn of_i32(x: i32) -> Num
+        ensures kind { result.kind ≡ kinds.I32 }
+        ensures value { result.value ≡ x }
+    {
+        Num {
+            kind: Kind::I32,
+            value: i128::from(x),
+        }
+    }
+
+    /// The number of kind i64.
+    pub fn of_i64(x: i64) -> Num
+        ensures kind { result.kind ≡ kinds.I64 }
+        ensures value { result.value ≡ x }
+    {
+        Num {
+            kind: Kind::I64,
+            value: i128::from(x),
+        }
+    }
+}

@@ -1,58 +1,68 @@
 ghost use Rattle.std.specs.Prelude.{◌≡◌, ◌==◌, [], ◌∷◌, ◌++◌, length, OnOk, OnErr, IfOk};
 
+use crate::text::Text;
 use std::alloc::{AllocError, Global};
 use std::marker::Model;
 
-/// A list of numbers of kind i64.
+/// A list of items that hold no values of this crate, kept in a Vec. Contracts see it as the list of its items.
 #[derive(Debug, Drop)]
-pub struct I64s {
-    items: Vec<i64>,
+pub struct Items<T> {
+    items: Vec<T>,
 }
 
-impl Model for I64s {
-    ghost use Rattle.std.specs.Prelude.{List, ℤ};
+/// A list of truth values.
+pub type Bools = Items<bool>;
 
-    ghost Value = { List ℤ };
+/// A list of numbers of kind i8.
+pub type I8s = Items<i8>;
+
+/// A list of numbers of kind u8.
+pub type U8s = Items<u8>;
+
+/// A list of numbers of kind i32.
+pub type I32s = Items<i32>;
+
+/// A list of numbers of kind i64.
+pub type I64s = Items<i64>;
+
+/// A list of texts, as of names.
+pub type Names = Items<Text>;
+
+impl<T> Model for Items<T> {
+    ghost use Rattle.std.specs.Prelude.{List};
+
+    ghost Value = { List T };
 
     ghost view = { λ l. l.items.items };
 }
 
-impl I64s {
+impl<T> Items<T> {
     /// The list without items. It takes no memory.
-    pub fn new(alloc: Global) -> I64s
+    pub fn new(alloc: Global) -> Items<T>
         ensures { result ≡ [] }
     {
-        I64s {
+        Items {
             items: Vec::new(alloc),
         }
     }
 
     /// The list of these items, which it keeps. It takes no memory.
-    pub fn from_vec(items: Vec<i64>) -> I64s
+    pub fn from_vec(items: Vec<T>) -> Items<T>
         ensures { result ≡ items.items }
     {
-        I64s { items }
-    }
-
-    /// The list of a copy of these items.
-    pub fn copy_of(alloc: Global, items: &[i64]) -> Result<I64s, AllocError>
-        ensures { IfOk result (λ list. list ≡ items.now) }
-    {
-        Ok(I64s {
-            items: Vec::from_slice(alloc, items)?,
-        })
+        Items { items }
     }
 
     /// The items, given up. It takes no memory.
-    pub fn into_vec(self) -> Vec<i64>
+    pub fn into_vec(self) -> Vec<T>
         ensures { result.items ≡ self }
     {
-        let I64s { items } = self;
+        let Items { items } = self;
         items
     }
 
     /// The items.
-    pub fn as_slice(&self) -> &[i64]
+    pub fn as_slice(&self) -> &[T]
         ensures { result.now ≡ self.now }
     {
         self.items.as_slice()
@@ -71,18 +81,31 @@ impl I64s {
     {
         self.items.is_empty()
     }
+}
 
-    /// Appends a number. Where memory is wanting, the list stays as it was.
-    pub fn push(&mut self, item: i64) -> Result<(), AllocError>
+impl<T: Drop> Items<T> {
+    /// Appends an item. Where memory is wanting, the list stays as it was.
+    pub fn push(&mut self, item: T) -> Result<(), AllocError>
         ensures ok { OnOk result (self.new ≡ self.old ++ item ∷ []) }
         ensures err { OnErr result (self.new ≡ self.old) }
     {
         self.items.push(item)?;
         Ok(())
     }
+}
+
+impl<T: Copy> Items<T> {
+    /// The list of a copy of these items.
+    pub fn copy_of(alloc: Global, items: &[T]) -> Result<Items<T>, AllocError>
+        ensures { IfOk result (λ list. list ≡ items.now) }
+    {
+        Ok(Items {
+            items: Vec::from_slice(alloc, items)?,
+        })
+    }
 
     /// Appends items. Where memory is wanting, the list stays as it was.
-    pub fn push_all(&mut self, items: &[i64]) -> Result<(), AllocError>
+    pub fn push_all(&mut self, items: &[T]) -> Result<(), AllocError>
         ensures ok { OnOk result (self.new ≡ self.old ++ items.now) }
         ensures err { OnErr result (self.new ≡ self.old) }
     {

@@ -1,0 +1,34 @@
+-- How deep the parts of a value are.
+use Rattle.std.proofs.Common.{◌≡◌, ℕ, ◌+◌, ◌<◌, ◌≤◌, zero, suc, List, [], ◌∷◌, map, length, slice_get, slice_index_or, Some, ap, arith}
+use denote.Param.Weighed.{most, at_most}
+use Rattle.weld_data.specs.declared.value.Val.{Val}
+use Rattle.weld_data.specs.declared.value.Pairs.TheDeep.{deep-Val}
+use Rattle.weld_data.specs.Value.{Value, number, list, struct, dict, values, entries}
+use Rattle.weld_data.specs.Depth.{depth, depth_of_list, depth_of_pairs}
+use Rattle.weld_data.specs.Deeper.{most_le-depth_vals}
+use Rattle.weld_data.specs.View.{view_val}
+
+-- an element of the code's list is no deeper than the list
+pub deep-Val-at : (items : List Val) (vs : List Value) (i : ℕ) (v : Val) → map view_val items ≡ vs → i < length items → v ≡ slice_index_or items i v → deep-Val v ≤ depth_of_list vs
+deep-Val-at items vs i v e h p =
+    let a = at_most deep-Val items i v h in
+    let b = most_le-depth_vals items in
+    let c = ap depth_of_list e in
+    let d = ap deep-Val p in omega (arith, a, b, c, d)
+
+-- an element is less deep than its list
+pub depth-at : (vs : List Value) (i : ℕ) (v : Value) → slice_get vs i ≡ Some v → depth v < depth_of_list vs
+depth-at [] i v p = cc
+depth-at (w ∷ vs) zero v p = let e : w ≡ v = cc in let d = ap depth e in omega arith
+depth-at (w ∷ vs) (suc i) v p = let h = depth-at vs i v p in omega arith
+
+-- and a key or its value less deep than their dictionary
+pub depth-key_at : (es : List (Value × Value)) (i : ℕ) (e : Value × Value) → slice_get es i ≡ Some e → depth e.0 < depth_of_pairs es
+depth-key_at [] i e p = cc
+depth-key_at (d ∷ es) zero e p = let h : d ≡ e = cc in let g = ap (λ (x : Value × Value). depth x.0) h in omega arith
+depth-key_at (d ∷ es) (suc i) e p = let h = depth-key_at es i e p in omega arith
+
+pub depth-value_at : (es : List (Value × Value)) (i : ℕ) (e : Value × Value) → slice_get es i ≡ Some e → depth e.1 < depth_of_pairs es
+depth-value_at [] i e p = cc
+depth-value_at (d ∷ es) zero e p = let h : d ≡ e = cc in let g = ap (λ (x : Value × Value). depth x.1) h in omega arith
+depth-value_at (d ∷ es) (suc i) e p = let h = depth-value_at es i e p in omega arith

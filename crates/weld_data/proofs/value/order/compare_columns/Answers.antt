@@ -1,0 +1,28 @@
+use Rattle.std.proofs.Common.{ap, int_cmp, nat_cmp, refl, pos, ℕ, Bool}
+use Rattle.std.specs.Ordering.{bool_cmp}
+use Rattle.weld_data.specs.declared.kind.Kind.TheVariants as kinds
+use Rattle.weld_data.specs.Operation.{truth}
+use Rattle.weld_data.specs.Value.{number}
+use Rattle.weld_data.specs.View.{view_column}
+use Rattle.weld_data.proofs.Keys.{columns_stand, ints_stand, nats_stand, bools_stand}
+use Rattle.weld_data.proofs.value.order.compare_columns.Goals as goal
+
+pub returns-in-Bool-Bool : goal.returns-in-Bool-Bool
+returns-in-Bool-Bool c =
+    columns_stand bool_cmp (λ (b : Bool). number kinds.Bool (truth b)) (bools_stand kinds.Bool) c.in-Bool-Bool.x c.in-Bool-Bool.y _ _ _ _ _ c.cmp.ensures c.as_slice.ensures c.as_slice-in-Bool-Bool.ensures (ap view_column c.in-Bool-Bool.is-0) (ap view_column c.in-Bool-Bool.is-1)
+
+pub returns-in-I8-I8 : goal.returns-in-I8-I8
+returns-in-I8-I8 c =
+    columns_stand int_cmp (number kinds.I8) (λ x y. ints_stand kinds.I8 kinds.I8 x y refl) c.in-I8-I8.x c.in-I8-I8.y _ _ _ _ _ c.cmp-in-I8-I8.ensures c.as_slice-in-I8-I8.ensures c.as_slice-in-I8-I8-2.ensures (ap view_column c.in-I8-I8.is-0) (ap view_column c.in-I8-I8.is-1)
+
+pub returns-in-U8-U8 : goal.returns-in-U8-U8
+returns-in-U8-U8 c =
+    columns_stand nat_cmp (λ (n : ℕ). number kinds.U8 (pos n)) (nats_stand kinds.U8) c.in-U8-U8.x c.in-U8-U8.y _ _ _ _ _ c.cmp-in-U8-U8.ensures c.as_slice-in-U8-U8.ensures c.as_slice-in-U8-U8-2.ensures (ap view_column c.in-U8-U8.is-0) (ap view_column c.in-U8-U8.is-1)
+
+pub returns-in-I32-I32 : goal.returns-in-I32-I32
+returns-in-I32-I32 c =
+    columns_stand int_cmp (number kinds.I32) (λ x y. ints_stand kinds.I32 kinds.I32 x y refl) c.in-I32-I32.x c.in-I32-I32.y _ _ _ _ _ c.cmp-in-I32-I32.ensures c.as_slice-in-I32-I32.ensures c.as_slice-in-I32-I32-2.ensures (ap view_column c.in-I32-I32.is-0) (ap view_column c.in-I32-I32.is-1)
+
+pub returns-in-I64-I64 : goal.returns-in-I64-I64
+returns-in-I64-I64 c =
+    columns_stand int_cmp (number kinds.I64) (λ x y. ints_stand kinds.I64 kinds.I64 x y refl) c.in-I64-I64.x c.in-I64-I64.y _ _ _ _ _ c.cmp-in-I64-I64.ensures c.as_slice-in-I64-I64.ensures c.as_slice-in-I64-I64-2.ensures (ap view_column c.in-I64-I64.is-0) (ap view_column c.in-I64-I64.is-1)

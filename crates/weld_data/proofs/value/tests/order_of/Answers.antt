@@ -1,0 +1,11 @@
+use Rattle.std.proofs.Common.{ap, sym, subst, ◌≡◌, map}
+use Rattle.weld_data.specs.declared.kind.Kind.TheVariants as kinds
+use Rattle.weld_data.specs.Value.{values, number}
+use Rattle.weld_data.specs.View.{view_column}
+use Rattle.weld_data.specs.Order.{AreNumbers}
+use Rattle.weld_data.proofs.Keys.{AreNumbers-map}
+use Rattle.weld_data.proofs.value.tests.order_of.Goals as goal
+
+pub compare_keys-requires : goal.compare_keys-requires
+compare_keys-requires c =
+    (kinds.I8, rw c.in_ok-a.ensures (AreNumbers-map kinds.I8 (λ x. x) c.args.a.now), rw c.in_ok-b.ensures (AreNumbers-map kinds.I8 (λ x. x) c.args.b.now))

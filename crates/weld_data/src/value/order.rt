@@ -1,0 +1,84 @@
+//! The order of keys.
+
+ghost use Rattle.std.specs.Prelude.{◌≡◌};
+ghost use Rattle.std.specs.Ordering.{MatchOrdering};
+ghost use Rattle.weld_data.specs.Value.{values};
+ghost use Rattle.weld_data.specs.View.{view_val, view_column};
+ghost use Rattle.weld_data.specs.Order.{KeyLess, LexLess, SameKeyType, SameNumberKinds, SameFieldTypes};
+
+use super::{Column, Val, Vals};
+use std::cmp::Ordering;
+
+/// How two keys of one type stand to each other: numbers by size, false before true;
+/// lists and structs lexicographically, a proper prefix first. It takes no memory.
+#[cycle(compare)]
+pub fn compare_keys(a: &Val, b: &Val) -> Ordering
+    requires { SameKeyType (view_val a.now) (view_val b.now) }
+    ensures { MatchOrdering result (KeyLess (view_val a.now) (view_val b.now))
+        (view_val a.now ≡ view_val b.now) (KeyLess (view_val b.now) (view_val a.now)) }
+{
+    match a {
+        Val::Num(x) => match b {
+            Val::Num(y) => x.value.cmp(&y.value),
+            _ => unreachable!(),
+        },
+        Val::List(x) => match b {
+            Val::List(y) => compare_columns(x, y),
+            _ => unreachable!(),
+        },
+        Val::Struct(x) => match b {
+            Val::Struct(y) => compare_fields(x, y),
+            _ => unreachable!(),
+        },
+        Val::Dict(_) => unreachable!(),
+    }
+}
+
+/// The order of two structs by their fields, which are of one key type one by one.
+#[cycle(compare)]
+fn compare_fields(a: &Vals, b: &Vals) -> Ordering
+    requires { SameFieldTypes (values a.now) (values b.now) }
+    ensures { MatchOrdering result (LexLess (values a.now) (values b.now)) (a.now ≡ b.now)
+        (LexLess (values b.now) (values a.now)) }
+{
+    for i in 0..a.items.len() {
+        match compare_keys(&a.items[i], &b.items[i]) {
+            Ordering::Equal => {}
+            unequal => return unequal,
+        }
+    }
+    Ordering::Equal
+}
+
+/// The order of two lists of numbers of one kind.
+fn compare_columns(a: &Column, b: &Column) -> Ordering
+    requires { SameNumberKinds (values (view_column a.now)) (values (view_column b.now)) }
+    ensures { MatchOrdering result (LexLess (values (view_column a.now)) (values (view_column b.now)))
+        (view_column a.now ≡ view_column b.now)
+        (LexLess (values (view_column b.now)) (values (view_column a.now))) }
+{
+    match (a, b) {
+        (Column::Bool(x), Column::Bool(y)) => x.as_slice().cmp(&y.as_slice()),
+        (Column::I8(x), Column::I8(y)) => x.as_slice().cmp(&y.as_slice()),
+        (Column::U8(x), Column::U8(y)) => x.as_slice().cmp(&y.as_slice()),
+        (Column::I32(x), Column::I32(y)) => x.as_slice().cmp(&y.as_slice()),
+        (Column::I64(x), Column::I64(y)) => x.as_slice().cmp(&y.as_slice()),
+        _ => compare_numbers(a, b),
+    }
+}
+
+/// The same, where the lists may be kept in different ways.
+fn compare_numbers(a: &Column, b: &Column) -> Ordering
+    requires { SameNumberKinds (values (view_column a.now)) (values (view_column b.now)) }
+    ensures { MatchOrdering result (LexLess (values (view_column a.now)) (values (view_column b.now)))
+        (view_column a.now ≡ view_column b.now)
+        (LexLess (values (view_column b.now)) (values (view_column a.now))) }
+{
+    for i in 0..a.len().min(b.len()) {
+        match a.number_at(i).value.cmp(&b.number_at(i).value) {
+            Ordering::Equal => {}
+            unequal => return unequal,
+        }
+    }
+    a.len().cmp(&b.len())
+}
