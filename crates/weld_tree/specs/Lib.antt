@@ -1,1 +1,6 @@
 pub mod Code
+pub mod TypeTree
+pub mod TypeCode
+pub mod TypeFalls
+pub mod TypeView
+pub mod Types
