@@ -4,3 +4,6 @@ pub mod TypeCode
 pub mod TypeFalls
 pub mod TypeView
 pub mod Types
+pub mod ExprTree
+pub mod LabelCode
+pub mod ExprCode
