@@ -7,3 +7,6 @@ pub mod Types
 pub mod ExprTree
 pub mod LabelCode
 pub mod ExprCode
+pub mod ExprFalls
+pub mod ExprView
+pub mod LegFalls

@@ -3,6 +3,7 @@
 
 pub mod binder;
 pub mod code;
+pub mod expr;
 pub mod known;
 pub mod place;
 pub mod refusal;
@@ -11,6 +12,7 @@ pub mod ty;
 
 pub use binder::Binder;
 pub use code::Code;
+pub use expr::{Expr, Exprs, Form, Leg, Legs};
 pub use known::Known;
 pub use place::Place;
 pub use refusal::Refusal;
