@@ -75,7 +75,7 @@ back_expr (gcons a b) = record {
   expr = expr_by (num a) (first b) (rest (back_expr b).exprs) (rest_legs (back_expr b).legs);
   exprs = more_exprs (back_expr a).expr (back_expr b).exprs;
   leg = leg_by (num a) (rest (back_expr b).exprs);
-  legs = more_legs (back_expr a).leg (back_expr b).legs
+  legs = more_legs (back_expr a).leg (back_expr b).legs;
 }
 
 mutual

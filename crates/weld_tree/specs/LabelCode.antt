@@ -1,7 +1,9 @@
 -- Codes for what stands at the nodes of expressions, from which it can be read back.
 use Rattle.std.specs.Prelude.{◌≡◌, ℕ, zero, suc, ℤ, Bool, true, false, Option, Some, None, List, [], ◌∷◌, refl}
 use Rattle.std.proofs.Common.{ap, pos, negsuc}
+use Rattle.std.specs.Coded.{Coded, code_by}
 use base.Stored.{Gv, gnil, gnum, gcons, num}
+use denote.Struct.Codes.{itself}
 use Rattle.weld_data.specs.declared.op.BinOp.{BinOp}
 use Rattle.weld_data.specs.declared.op.BinOp.TheVariants.{Add, Sub, Mul, Div, Rem, Eq, Ne, Lt, Le, Gt, Ge}
 use Rattle.weld_tree.specs.declared.place.Place.{Place}
@@ -255,3 +257,6 @@ many_at (suc n) = make_struct
 pub many_at-many_number : (m : Many) → many_at (many_number m) ≡ m
 many_at-many_number make_vec = refl
 many_at-many_number make_struct = refl
+
+abbrev pub coded_binder : Coded Binder
+coded_binder = code_by Gv itself code_binder binder_at binder_at-code_binder

@@ -10,3 +10,4 @@ pub mod ExprCode
 pub mod ExprFalls
 pub mod ExprView
 pub mod LegFalls
+pub mod Program

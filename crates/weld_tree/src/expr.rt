@@ -6,6 +6,11 @@ use crate::ty::BuildTy;
 use std::marker::Model;
 use weld_data::{BinOp, Kind, Text};
 
+mod list;
+mod loops;
+
+pub use loops::loops_of;
+
 /// An expression of a program. Contracts see it as plain data, an `ExprTree`.
 #[cycle(expr)]
 #[derive(Drop)]
