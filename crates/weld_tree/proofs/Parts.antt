@@ -1,8 +1,9 @@
 -- What is left of a list of expressions or legs from a place on.
-use Rattle.std.proofs.Common.{◌≡◌, ℕ, ◌+◌, ◌<◌, ◌≤◌, List, [], ◌∷◌, length, drop, get_or, map, sym, ap, ◌∙◌}
-use Rattle.std.proofs.lemmas.List.{at_drop_more, drop_all}
-use Rattle.weld_tree.specs.ExprTree.{ExprTree, pack_exprs, pack_legs}
+use Rattle.std.proofs.Common.{◌≡◌, ℕ, ◌+◌, ◌<◌, ◌≤◌, List, [], ◌∷◌, ◌++◌, length, take, drop, get_or, map, zero, suc, sym, ap, ◌∙◌, arith}
+use Rattle.std.proofs.lemmas.List.{at_drop_more, drop_all, map_more, map-append, get_or_read}
+use Rattle.weld_tree.specs.ExprTree.{ExprTree, LegTree, pack_exprs, pack_legs}
 use Rattle.weld_tree.specs.ExprView.{view_leg}
+use Rattle.weld_tree.specs.ExprFalls.{expr_nodes, exprs_nodes, leg_nodes, legs_nodes}
 use Rattle.weld_tree.specs.Program.{loops, loops_in, loops_in_leg, loops_in_legs}
 use Rattle.weld_tree.specs.declared.expr.Leg.{Leg}
 
@@ -17,3 +18,19 @@ leg_loops_left ls i l h p = at_drop_more (λ rest. loops_in_legs (pack_legs (map
 
 pub no_leg_loops_left : (ls : List Leg) (i : ℕ) → length ls ≤ i → loops_in_legs (pack_legs (map view_leg (drop i ls))) ≡ 0
 no_leg_loops_left ls i h = ap (λ rest. loops_in_legs (pack_legs (map view_leg rest))) (drop_all i ls h)
+
+-- the legs up to a place, as data
+pub legs_more : (ls : List Leg) (i : ℕ) (l : Leg) → i < length ls → l ≡ get_or ls i l → map view_leg (take (i + 1) ls) ≡ map view_leg (take i ls) ++ view_leg l ∷ []
+legs_more ls i l h p = map_more view_leg ls i l h ∙ ap (λ u. map view_leg (take i ls) ++ view_leg u ∷ []) (sym p)
+
+pub legs_push : (ls : List Leg) (l : Leg) → map view_leg (ls ++ l ∷ []) ≡ map view_leg ls ++ view_leg l ∷ []
+legs_push ls l = map-append view_leg ls (l ∷ [])
+
+-- a leg of a list has no more nodes than the list
+leg_under : (ls : List Leg) (i : ℕ) (d : Leg) → i < length ls → leg_nodes (view_leg (get_or ls i d)) ≤ legs_nodes (pack_legs (map view_leg ls))
+leg_under [] i d h = absurd (omega arith)
+leg_under (l ∷ ls) zero d h = omega arith
+leg_under (l ∷ ls) (suc i) d h = let r : leg_nodes (view_leg (get_or ls i d)) ≤ legs_nodes (pack_legs (map view_leg ls)) = leg_under ls i d (omega arith) in omega arith
+
+pub leg_nodes_le : (ls : List Leg) (i : ℕ) (l : Leg) → i < length ls → l ≡ get_or ls i l → leg_nodes (view_leg l) ≤ legs_nodes (pack_legs (map view_leg ls))
+leg_nodes_le ls i l h p = rw p (leg_under ls i l h)

@@ -11,3 +11,4 @@ pub mod ExprFalls
 pub mod ExprView
 pub mod LegFalls
 pub mod Program
+pub mod Blank
