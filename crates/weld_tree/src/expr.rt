@@ -6,6 +6,7 @@ use crate::ty::BuildTy;
 use std::marker::Model;
 use weld_data::{BinOp, Kind, Text};
 
+mod callers;
 mod copy;
 mod list;
 mod loops;
