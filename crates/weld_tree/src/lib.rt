@@ -5,6 +5,7 @@ pub mod binder;
 pub mod code;
 pub mod expr;
 pub mod known;
+pub mod laws;
 pub mod place;
 pub mod program;
 pub mod refusal;
