@@ -81,6 +81,17 @@ impl Binders {
         self.items.as_slice()
     }
 
+    /// A copy of the list.
+    pub fn copy(&self, alloc: Global) -> Result<Binders, AllocError>
+        ensures { IfOk result (λ copy. copy ≡ self.now) }
+    {
+        let mut items = Vec::new(alloc);
+        for binder in &self.items {
+            items.push(binder.copy(alloc)?)?;
+        }
+        Ok(Binders { items })
+    }
+
     /// How many binders there are.
     pub fn len(&self) -> usize
         ensures { result ≡ length self.now }

@@ -1,5 +1,8 @@
+ghost use Rattle.std.specs.Prelude.{◌≡◌, IfOk};
+
 use crate::binder::Binders;
 use crate::expr::Expr;
+use std::alloc::{AllocError, Global};
 use std::marker::Model;
 
 /// A program: its parameters and its body. Contracts see it as a `ProgramTree`, and every program
@@ -22,4 +25,17 @@ impl Model for Program {
     ghost view = { λ p. record { params = p.params; body = p.body } };
 
     ghost invariant = { λ p. IsProgram p.params p.body };
+}
+
+impl Program {
+    /// A copy of the program.
+    pub fn copy(&self, alloc: Global) -> Result<Program, AllocError>
+        ensures { IfOk result (λ copy. copy ≡ self.now) }
+    {
+        let params = self.params.copy(alloc)?;
+        Ok(Program {
+            params,
+            body: self.body.copy(alloc)?,
+        })
+    }
 }

@@ -4,6 +4,7 @@ use weld_data::{Kind, MergeOp};
 mod copy;
 mod facts;
 mod list;
+mod make;
 mod same;
 mod size;
 
