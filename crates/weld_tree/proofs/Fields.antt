@@ -1,5 +1,5 @@
 -- What holds of each type of a list, and of the types as data.
-use Rattle.std.proofs.Common.{◌≡◌, ℕ, ◌+◌, ◌<◌, ◌≤◌, max, List, [], ◌∷◌, length, drop, get_or, refl, sym, ap, ◌∙◌, arith}
+use Rattle.std.proofs.Common.{◌≡◌, ℕ, ◌+◌, ◌<◌, ◌≤◌, max, List, [], ◌∷◌, length, drop, get_or, sym, ap, ◌∙◌, arith}
 use Rattle.std.proofs.lemmas.List.{at_drop_more, same_lists, drop_all}
 use Rattle.std.specs.List.{All}
 use Rattle.std.proofs.lemmas.List.Elements.{All-cons, All-head, All-tail, All-nil}

@@ -1,9 +1,9 @@
 -- What is left of a list of expressions or legs from a place on.
 use Rattle.std.proofs.Common.{◌≡◌, ℕ, ◌+◌, ◌<◌, ◌≤◌, List, [], ◌∷◌, ◌++◌, length, take, drop, get_or, map, zero, suc, sym, ap, ◌∙◌, arith}
-use Rattle.std.proofs.lemmas.List.{at_drop_more, drop_all, map_more, map-append, get_or_read}
-use Rattle.weld_tree.specs.ExprTree.{ExprTree, LegTree, pack_exprs, pack_legs}
+use Rattle.std.proofs.lemmas.List.{at_drop_more, drop_all, map_more, map-append}
+use Rattle.weld_tree.specs.ExprTree.{ExprTree, pack_exprs, pack_legs}
 use Rattle.weld_tree.specs.ExprView.{view_leg}
-use Rattle.weld_tree.specs.ExprFalls.{expr_nodes, exprs_nodes, leg_nodes, legs_nodes}
+use Rattle.weld_tree.specs.ExprFalls.{leg_nodes, legs_nodes}
 use Rattle.weld_tree.specs.Program.{loops, loops_in, loops_in_leg, loops_in_legs}
 use Rattle.weld_tree.specs.declared.expr.Leg.{Leg}
 

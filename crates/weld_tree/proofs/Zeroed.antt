@@ -1,5 +1,5 @@
 -- Lists whose parts are changed one by one.
-use Rattle.std.proofs.Common.{◌≡◌, ℕ, zero, suc, ◌<◌, List, [], ◌∷◌, length, get_or, map, refl, ap, arith}
+use Rattle.std.proofs.Common.{◌≡◌, ℕ, suc, ◌<◌, List, [], ◌∷◌, length, get_or, map, refl, arith}
 use Rattle.weld_tree.specs.ExprTree.{ExprTree, more_exprs, more_legs, pack_exprs, pack_legs}
 use Rattle.weld_tree.specs.ExprView.{view_leg}
 use Rattle.weld_tree.specs.Callers.{zeroed, all_zeroed, leg_zeroed, legs_zeroed}

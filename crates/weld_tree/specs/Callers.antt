@@ -2,10 +2,9 @@
 use Rattle.std.specs.Prelude.{ℕ, pos, Some, None, [], ◌∷◌}
 use Rattle.weld_data.specs.declared.kind.Kind.TheVariants.{I64}
 use Rattle.weld_data.specs.declared.op.MergeOp.TheVariants.{Add}
-use Rattle.weld_tree.specs.declared.place.Place.{Place}
 use Rattle.weld_tree.specs.declared.binder.Binder.{Binder}
 use Rattle.weld_tree.specs.declared.known.Known.TheVariants.{Blank}
-use Rattle.weld_tree.specs.TypeTree.{TypeTree, scalar, vec, total}
+use Rattle.weld_tree.specs.TypeTree.{scalar, vec, total}
 use Rattle.weld_tree.specs.ExprTree.{At, ExprTree, leaf, one, two, three, many, let_in, loop, iterate, ExprTrees, no_exprs, more_exprs, LegTree, whole, strided, LegTrees, no_legs, more_legs, Leaf, int, truth, chars, name, fresh, finish, merge}
 use Rattle.weld_tree.specs.Program.{ProgramTree}
 

@@ -1,9 +1,9 @@
 -- Expressions of Weld programs as plain data.
-use Rattle.std.specs.Prelude.{◌≡◌, ℕ, ◌+◌, ℤ, Bool, Option, List, [], ◌∷◌, refl}
+use Rattle.std.specs.Prelude.{◌≡◌, ℕ, ℤ, Bool, List, [], ◌∷◌, refl}
 use Rattle.std.proofs.Common.{ap}
 use Rattle.weld_data.specs.declared.kind.Kind.{Kind}
 use Rattle.weld_data.specs.declared.op.BinOp.{BinOp}
-use Rattle.weld_tree.specs.TypeTree.{TypeTree, BuildTree}
+use Rattle.weld_tree.specs.TypeTree.{BuildTree}
 use Rattle.weld_tree.specs.declared.place.Place.{Place}
 use Rattle.weld_tree.specs.declared.binder.Binder.{Binder}
 use Rattle.weld_tree.specs.declared.known.Known.{Known}

@@ -1,6 +1,5 @@
 -- The program's expressions seen as plain data.
-use Rattle.std.specs.Prelude.{Option, Some, None}
-use Rattle.std.specs.declared.boxed.Box.{Box}
+use Rattle.std.specs.Prelude.{Some, None}
 use Rattle.weld_tree.specs.TypeView.{view_build}
 use Rattle.weld_tree.specs.ExprTree.{ExprTree, At, leaf, one, two, three, many, let_in, loop, iterate, LegTree, whole, strided, pack_exprs, pack_legs, int, truth, chars, name, fresh, neg, not, cast, len, field, finish, started, binary, and, or, look_up, key_exists, merge, if_else, select, slice, make_vec, make_struct}
 use Rattle.weld_tree.specs.declared.expr.Form.{Form}

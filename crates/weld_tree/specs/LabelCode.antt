@@ -7,11 +7,10 @@ use denote.Struct.Codes.{itself}
 use Rattle.weld_data.specs.declared.op.BinOp.{BinOp}
 use Rattle.weld_data.specs.declared.op.BinOp.TheVariants.{Add, Sub, Mul, Div, Rem, Eq, Ne, Lt, Le, Gt, Ge}
 use Rattle.weld_tree.specs.declared.place.Place.{Place}
-use Rattle.weld_tree.specs.declared.sym.Sym.{Sym}
 use Rattle.weld_tree.specs.declared.binder.Binder.{Binder}
 use Rattle.weld_tree.specs.declared.known.Known.{Known}
 use Rattle.weld_tree.specs.declared.known.Known.TheVariants.{Blank, Is}
-use Rattle.weld_tree.specs.TypeTree.{TypeTree, BuildTree}
+use Rattle.weld_tree.specs.TypeTree.{TypeTree}
 use Rattle.weld_tree.specs.TypeCode.{tail, kind_number, kind_at, kind_at-kind_number, code_type, code_build, back, back-code_type, back-code_build}
 use Rattle.weld_tree.specs.ExprTree.{At, Leaf, int, truth, chars, name, fresh, One, neg, not, cast, len, field, finish, started, Two, binary, and, or, look_up, key_exists, merge, Three, if_else, select, slice, Many, make_vec, make_struct}
 

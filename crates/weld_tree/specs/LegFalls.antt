@@ -1,5 +1,5 @@
 -- Legs are smaller than their list.
-use Rattle.std.specs.Prelude.{ℕ, ◌+◌, ◌*◌, ◌≤◌, List, [], ◌∷◌, map}
+use Rattle.std.specs.Prelude.{◌+◌, ◌*◌, ◌≤◌, List, [], ◌∷◌, map}
 use Rattle.std.proofs.Common.{arith}
 use denote.Param.Weighed.{most}
 use Rattle.weld_tree.specs.ExprFalls.{leg_nodes, legs_size}

@@ -1,6 +1,5 @@
 -- What types are, and what builders take and give.
-use Rattle.std.specs.Prelude.{◌≡◌, ℕ, ◌≤◌, ◌⊎◌, List, [], ◌∷◌}
-use Rattle.weld_data.specs.declared.kind.Kind.{Kind}
+use Rattle.std.specs.Prelude.{◌≤◌, ◌⊎◌}
 use Rattle.weld_data.specs.declared.kind.Kind.TheVariants.{I64}
 use Rattle.weld_data.specs.Kind.{IsInteger}
 use Rattle.weld_tree.specs.TypeTree.{TypeTree, BuildTree, TypeTrees, scalar, vec, struct, dict, build, list, total, keyed, cells, groups, no_types, more_types, type_nodes, type_depth}

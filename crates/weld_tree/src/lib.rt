@@ -21,3 +21,6 @@ pub use program::Program;
 pub use refusal::Refusal;
 pub use sym::Sym;
 pub use ty::{BuildTy, Ty, TyForm, Tys};
+
+#[cfg(test)]
+mod tests;

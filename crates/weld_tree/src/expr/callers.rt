@@ -6,6 +6,7 @@ ghost use Rattle.weld_tree.specs.TypeTree.{scalar, vec};
 ghost use Rattle.weld_tree.specs.ExprTree.{ExprTree, At, leaf, loop, two, name, merge, whole, pack_exprs, pack_legs};
 ghost use Rattle.weld_tree.specs.ExprFalls.{expr_nodes, exprs_nodes, leg_nodes, legs_nodes};
 ghost use Rattle.weld_tree.specs.ExprView.{view_form, view_leg};
+ghost use Rattle.weld_tree.specs.Program.{loops};
 ghost use Rattle.weld_tree.specs.Callers.{node_at, plain_binder, sum_loop, sum_program, zeroed, all_zeroed, leg_zeroed, legs_zeroed};
 
 use crate::binder::{Binder, Binders};
@@ -32,6 +33,16 @@ fn sum(alloc: Global) -> Result<Program, AllocError>
     params.push(vector_binder(alloc)?)?;
     let body = node(16, Form::Finish(Box::new(alloc, make_sum_loop(alloc)?)?));
     Ok(Program { params, body })
+}
+
+/// The program whose body is the number.
+fn constant(alloc: Global, number: i64) -> Program
+    ensures { loops result.body ≡ 0 }
+{
+    Program {
+        params: Binders::new(alloc),
+        body: node(1, Form::Int(Kind::I64, i128::from(number))),
+    }
 }
 
 fn vector_binder(alloc: Global) -> Result<Binder, AllocError>
@@ -219,3 +230,6 @@ impl Legs {
         }
     }
 }
+
+#[cfg(test)]
+mod tests;

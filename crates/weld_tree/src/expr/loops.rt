@@ -44,11 +44,10 @@ impl Expr {
                     .saturating_add(g.loops())
             }
             Form::MakeVec(es) | Form::MakeStruct(es) => es.loops(),
-            Form::For(legs, builder, _, _, _, body) => legs
-                .loops()
-                .saturating_add(builder.loops())
-                .saturating_add(body.loops())
-                .saturating_add(1),
+            Form::For(legs, builder, _, _, _, body) => {
+                let inside = builder.loops().saturating_add(body.loops());
+                legs.loops().saturating_add(inside).saturating_add(1)
+            }
         }
     }
 }

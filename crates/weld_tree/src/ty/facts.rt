@@ -72,10 +72,10 @@ impl Ty {
         ensures { IsTrue result ↔ IsKey self.now }
     {
         match &self.form {
-            TyForm::Scalar(_) => true,
-            TyForm::Vec(item) => item.is_scalar(),
             TyForm::Struct(fields) => !fields.is_empty() && fields.are_key_fields(),
-            TyForm::Dict(_, _) | TyForm::Build(_) => false,
+            TyForm::Scalar(_) | TyForm::Vec(_) | TyForm::Dict(_, _) | TyForm::Build(_) => {
+                self.is_key_field()
+            }
         }
     }
 

@@ -38,7 +38,7 @@ impl BuildTy {
                 op == other_op && key.same(other_key) && value.same(other_value)
             }
             (BuildTy::Cells(item, op), BuildTy::Cells(other_item, other_op)) => {
-                op == other_op && item.same(other_item)
+                item.same(other_item) && op == other_op
             }
             (BuildTy::Groups(key, value), BuildTy::Groups(other_key, other_value)) => {
                 key.same(other_key) && value.same(other_value)

@@ -1,4 +1,4 @@
-use Rattle.std.proofs.Common.{◌≡◌, ap, ◌∙◌, map, arith}
+use Rattle.std.proofs.Common.{ap, ◌∙◌, map, arith}
 use Rattle.std.proofs.lemmas.List.{with_items_is}
 use Rattle.weld_tree.specs.ExprTree.{pack_exprs, pack_legs}
 use Rattle.weld_tree.specs.ExprView.{view_leg}
