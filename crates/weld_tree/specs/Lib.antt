@@ -1,1 +1,15 @@
 pub mod Code
+pub mod TypeTree
+pub mod TypeCode
+pub mod TypeFalls
+pub mod TypeView
+pub mod Types
+pub mod ExprTree
+pub mod LabelCode
+pub mod ExprCode
+pub mod ExprFalls
+pub mod ExprView
+pub mod LegFalls
+pub mod Program
+pub mod Blank
+pub mod Callers
