@@ -1,7 +1,7 @@
 -- Lemmas on the lines of some bytes, and on what stands before the first line that passes a test.
-use Rattle.std.proofs.Common.{◌≡◌, ℕ, zero, suc, ◌+◌, ◌-◌, ◌<◌, ◌≤◌, Bool, true, false, not, cond, eqb, List, [], ◌∷◌, ◌++◌, length, take, drop, get_or, refl, sym, ap, subst, ◌∙◌, arith, append_assoc, length-drop}
+use Rattle.std.proofs.Common.{◌≡◌, ℕ, zero, suc, ◌+◌, ◌-◌, ◌<◌, ◌≤◌, Bool, true, false, not, cond, eqb, List, [], ◌∷◌, ◌++◌, length, take, drop, get_or, refl, sym, ap, subst, ◌∙◌, arith, append_assoc, append-nil, length-drop}
 use Rattle.std.proofs.Math.Seq.{take-add}
-use Rattle.std.proofs.lemmas.List.{drop-drop, drop_all, take_all, get_or-drop}
+use Rattle.std.proofs.lemmas.List.{take-append-drop, drop-drop, drop_all, take_all, get_or-drop}
 use Rattle.std.proofs.lemmas.List.Sums.{take_while-cons}
 use Rattle.std.proofs.lemmas.Bool.{false_from_ne_true, eqb-true, eq-eqb}
 use Rattle.std.specs.List.{concat, before_first, position_or_len, onto_first, list_any}
@@ -196,3 +196,24 @@ job_of-parts job text rest after front blocks stray t r d b f s =
     let e : lines after ≡ data_lines job =
     d ∙ ap (drop 1) r ∙ drop-drop 1 (position_or_len is_separator (lines job)) (lines job) in
     rw (t, b, s, f, e) refl
+
+-- ---- cutting in the job's own memory
+
+-- what is left after a place is the end of the bytes, as long as it is
+pub suffix_by : (bytes rest : List ℕ) (n size : ℕ) → size ≡ length bytes → n ≤ length bytes → rest ≡ drop n bytes → drop (size - length rest) bytes ≡ rest
+suffix_by bytes rest n size all within is =
+    let e : size - length rest ≡ n = omega (arith, ap length is, length-drop n bytes) in
+    ap (λ k. drop k bytes) e ∙ sym is
+
+-- the front is the whole where nothing follows it
+pub front_whole : (after : List ℕ) (n : ℕ) → drop n after ≡ [] → take n after ≡ after
+front_whole after n none = sym (append-nil (take n after)) ∙ ap (λ (t : List ℕ). take n after ++ t) (sym none) ∙ take-append-drop n after
+
+-- where nothing is left the blocks are made
+pub Cut-end : (bytes : List ℕ) (made : List Block) (rest : List ℕ) → rest ≡ [] → Cut bytes made rest → made ≡ blocks_of (lines bytes)
+Cut-end bytes made rest none cut = sym (append-nil made) ∙ ap (λ (t : List ℕ). made ++ blocks_of (lines t)) (sym none) ∙ cut.blocks
+
+-- bytes of no length are none
+pub none_by_length : (bytes : List ℕ) → length bytes ≡ 0 → bytes ≡ []
+none_by_length [] h = refl
+none_by_length (b ∷ bs) h = absurd (omega arith)

@@ -5,7 +5,7 @@ ghost use Rattle.weld_job.specs.Blocks.{job_of};
 ghost use Rattle.weld_job.specs.Reading.{Takes, TakesJust, IsOfTaken};
 
 use super::job::{Job, JobFault};
-use super::split::split_blocks;
+use super::split::cut_job;
 use std::alloc::{AllocError, Global};
 use weld_ports::Source;
 
@@ -28,7 +28,7 @@ pub fn read_job<S: Source>(alloc: Global, input: &mut S) -> Result<Job, JobFault
     ensures never_falls { S.faults input.old ≤ S.faults input.new }
 {
     let bytes = read_bytes(alloc, input)?;
-    match split_blocks(alloc, &bytes) {
+    match cut_job(alloc, bytes) {
         Ok(job) => Ok(job),
         Err(_) => Err(JobFault::Memory),
     }
