@@ -1,20 +1,11 @@
 -- How deep the parts of a value are.
-use Rattle.std.proofs.Common.{◌≡◌, ℕ, ◌+◌, ◌<◌, ◌≤◌, zero, suc, List, [], ◌∷◌, map, length, slice_get, slice_index_or, Some, ap, arith}
-use denote.Param.Weighed.{most, at_most}
+use Rattle.std.proofs.Common.{◌≡◌, ℕ, ◌<◌, ◌≤◌, zero, suc, List, [], ◌∷◌, slice_get, Some, ap, arith}
 use Rattle.weld_data.specs.declared.value.Val.{Val}
 use Rattle.weld_data.specs.declared.value.Pairs.TheDeep.{deep-Val}
-use Rattle.weld_data.specs.Value.{Value, number, list, struct, dict, values, entries}
+use Rattle.weld_data.specs.Value.{Value}
 use Rattle.weld_data.specs.Depth.{depth, depth_of_list, depth_of_pairs}
-use Rattle.weld_data.specs.Deeper.{most_le-depth_vals}
+use Rattle.weld_data.specs.Deeper.{deep-Val-le}
 use Rattle.weld_data.specs.View.{view_val}
-
--- an element of the code's list is no deeper than the list
-pub deep-Val-at : (items : List Val) (vs : List Value) (i : ℕ) (v : Val) → map view_val items ≡ vs → i < length items → v ≡ slice_index_or items i v → deep-Val v ≤ depth_of_list vs
-deep-Val-at items vs i v e h p =
-    let a = at_most deep-Val items i v h in
-    let b = most_le-depth_vals items in
-    let c = ap depth_of_list e in
-    let d = ap deep-Val p in omega (arith, a, b, c, d)
 
 -- an element is less deep than its list
 pub depth-at : (vs : List Value) (i : ℕ) (v : Value) → slice_get vs i ≡ Some v → depth v < depth_of_list vs
@@ -32,3 +23,7 @@ pub depth-value_at : (es : List (Value × Value)) (i : ℕ) (e : Value × Value)
 depth-value_at [] i e p = cc
 depth-value_at (d ∷ es) zero e p = let h : d ≡ e = cc in let g = ap (λ (x : Value × Value). depth x.1) h in omega arith
 depth-value_at (d ∷ es) (suc i) e p = let h = depth-value_at es i e p in omega arith
+
+-- a value of the code that stands for an element of the list is no deeper than the list
+pub deep-Val-in : (vs : List Value) (i : ℕ) (v : Val) → slice_get vs i ≡ Some (view_val v) → deep-Val v ≤ depth_of_list vs
+deep-Val-in vs i v p = let d = depth-at vs i (view_val v) p in let h = deep-Val-le v in omega arith

@@ -1,6 +1,5 @@
 -- Laws of the order of keys.
-use Rattle.std.proofs.Common.{add-one, ◌≡◌, ◌⊎◌, inl, inr, ⊎_elim, ℕ, ◌+◌, ◌<◌, ◌≤◌, zero, suc, ℤ, ◌<ℤ◌, List, [], ◌∷◌, ◌++◌, map, length, take, slice_get, slice_index_or, Some, None, Ordering, Less, Equal, Greater, int_cmp, nat_cmp, Bool, true, false, pos, min, take_all, ap, ap₂, sym, subst, subst₂, refl, ◌∙◌, arith}
-use Rattle.std.proofs.lemmas.List.{length-map}
+use Rattle.std.proofs.Common.{◌≡◌, ◌⊎◌, inl, inr, ⊎_elim, ℕ, ◌<◌, zero, suc, ℤ, ◌<ℤ◌, List, [], ◌∷◌, map, length, take, slice_get, Some, Ordering, Less, Equal, Greater, int_cmp, nat_cmp, Bool, true, false, pos, min, take_all, ap, ap₂, sym, subst, subst₂, refl, ◌∙◌, arith}
 use Rattle.std.proofs.lemmas.Int.{ints, by_lt_z}
 use Rattle.std.specs.Ordering.{MatchOrdering, ordering_then, bool_cmp}
 use Rattle.std.specs.Cmp.{ranks, int_ranks}
@@ -10,9 +9,9 @@ use Rattle.weld_data.specs.declared.num.Num.{Num}
 use Rattle.weld_data.specs.declared.value.Val.{Val}
 use Rattle.weld_data.specs.declared.value.Val.TheVariants as val
 use Rattle.weld_data.specs.Operation.{truth}
-use Rattle.weld_data.specs.Value.{Value, number, list, struct, dict, Values, no_values, and_value, Entries, no_entries, and_entry, values}
+use Rattle.weld_data.specs.Value.{Value, number, list, struct, dict, Values, no_values, and_value, values}
 use Rattle.weld_data.specs.View.{view_val}
-use Rattle.weld_data.specs.Order.{KeyLess, LexLess, AreNumbers, SameNumberKinds, SameKeyType, SameFieldTypes}
+use Rattle.weld_data.specs.Order.{KeyLess, LexLess, AreNumbers, SameKeyType, SameFieldTypes}
 
 -- ---- a strict order
 
@@ -266,27 +265,6 @@ number_there kind (number k x ∷ xs) (suc i) v a p h = number_there kind xs i v
 number_there kind (list ys ∷ xs) i v a p h = absurd a
 number_there kind (struct ys ∷ xs) i v a p h = absurd a
 number_there kind (dict es ∷ xs) i v a p h = absurd a
-
--- an element of the code's list, seen in the list that it stands for
-pub view_at : {A B : Type 0} (view : A → B) (items : List A) (vs : List B) (i : ℕ) (v : A) → map view items ≡ vs → i < length items → v ≡ slice_index_or items i v → slice_get vs i ≡ Some (view v)
-view_at {A} {B} view items vs i v e h p = subst (λ ws. slice_get ws i ≡ Some (view v)) e (go items i h p)
-  where
-    go : (items : List A) (i : ℕ) → i < length items → v ≡ slice_index_or items i v → slice_get (map view items) i ≡ Some (view v)
-    go [] i h p = absurd (omega arith)
-    go (w ∷ items) zero h p = ap (λ u. Some (view u)) (sym p)
-    go (w ∷ items) (suc i) h p = go items i (omega arith) p
-
-pub view_within : {A B : Type 0} (view : A → B) (items : List A) (vs : List B) → map view items ≡ vs → length vs ≡ length items
-view_within view items vs e = sym (ap length e) ∙ length-map items view
-
-pub take-get : {A : Type 0} (xs : List A) (i : ℕ) (x : A) → slice_get xs i ≡ Some x → take (i + 1) xs ≡ take i xs ++ x ∷ []
-take-get [] i x p = cc
-take-get (y ∷ xs) zero x p = let e : y ≡ x = cc in ap (λ w. w ∷ []) e
-take-get (y ∷ xs) (suc i) x p = let h = take-get xs i x p in rw add-one (ap (λ w. y ∷ w) (rw add-one at h))
-
--- one more element of a list of values
-pub take-view : {A B : Type 0} (view : A → B) (items : List A) (vs : List B) (i : ℕ) (v : A) → map view items ≡ vs → i < length items → v ≡ slice_index_or items i v → take (i + 1) vs ≡ take i vs ++ view v ∷ []
-take-view view items vs i v e h p = take-get vs i (view v) (view_at view items vs i v e h p)
 
 -- a list of numbers of one kind, as a typed column has it
 pub AreNumbers-map : {T : Type 0} (kind : Kind) (f : T → ℤ) (xs : List T) → AreNumbers kind (values (map (λ (x : T). number kind (f x)) xs))

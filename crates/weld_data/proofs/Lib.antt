@@ -1,8 +1,9 @@
-pub mod Integers
-pub mod Ranges
-pub mod Wrapping
-pub mod Operations
-pub mod Keys
 pub mod Depths
+pub mod Integers
+pub mod Keys
 pub mod Lookups
+pub mod Operations
+pub mod Ranges
 pub mod Sums
+pub mod Views
+pub mod Wrapping

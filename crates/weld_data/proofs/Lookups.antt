@@ -1,11 +1,11 @@
 -- `same_value` decides whether two values are equal, and a key of a dictionary is found at its one place.
-use Rattle.std.proofs.Common.{◌≡◌, ◌≢◌, ◌⊎◌, inl, inr, ⊎_elim, ℕ, ◌+◌, ◌<◌, ◌≤◌, ltb, ltb-true, ltb-false, eq-or-lt_of_le, zero, suc, Bool, true, false, ◌&&◌, cond, ℤ, int_eq, List, [], ◌∷◌, map, length, slice_get, slice_index_or, Option, Some, None, unwrap_or, Decides, All, AllPairs, ap, ap₂, sym, subst, subst₂, refl, ◌∙◌, true≢false, arith}
+use Rattle.std.proofs.Common.{◌≡◌, ◌≢◌, ◌⊎◌, inl, inr, ⊎_elim, ℕ, ◌+◌, ◌<◌, ◌≤◌, ltb, ltb-true, ltb-false, eq-or-lt_of_le, zero, suc, Bool, true, false, cond, ℤ, List, [], ◌∷◌, slice_get, slice_index_or, Option, Some, None, unwrap_or, Decides, ap, ap₂, sym, subst, subst₂, refl, ◌∙◌, true≢false, arith}
 use Rattle.std.proofs.lemmas.Option.{slice_get_within, unwrap_or-slice_get}
 use Rattle.std.proofs.lemmas.Bool.Decides.{Decides-and, Decides-like, Decides-int_eq}
 use Rattle.weld_data.specs.declared.kind.Kind.{Kind}
 use Rattle.weld_data.specs.declared.kind.Kind.TheVariants as kinds
 use Rattle.weld_data.specs.Value.{Value, number, list, struct, dict, Values, no_values, and_value, Entries, no_entries, and_entry}
-use Rattle.weld_data.specs.Order.{KeyLess, KeyPrecedes, Rises}
+use Rattle.weld_data.specs.Order.{KeyLess, SameKeyType, KeyPrecedes, Rises, IsKeyFor}
 use Rattle.weld_data.specs.Lookup.{same_kind, same_value, same_values, same_entries, value_of_key}
 use Rattle.weld_data.proofs.Keys.{KeyLess_irrefl, KeyLess_trans}
 
@@ -67,7 +67,7 @@ mutual
 
 -- ---- a dictionary
 
-pub slice_index_or-get : {X : Type 0} (xs : List X) (i : ℕ) (x d : X) → slice_get xs i ≡ Some x → slice_index_or xs i d ≡ x
+slice_index_or-get : {X : Type 0} (xs : List X) (i : ℕ) (x d : X) → slice_get xs i ≡ Some x → slice_index_or xs i d ≡ x
 slice_index_or-get xs i x d p = sym (unwrap_or-slice_get xs i d) ∙ ap (λ o. unwrap_or o d) p
 
 -- the first entry decides
@@ -129,3 +129,7 @@ pub value_of_key-between : (es : List (Value × Value)) (key : Value) (low : ℕ
 value_of_key-between es key low below above =
     value_of_key-none es key
     (λ i e p q. ⊎_elim (λ h. KeyLess_irrefl key (subst (λ x. KeyLess x key) q (below i e h p))) (λ h. KeyLess_irrefl key (subst (KeyLess key) q (above i e h p))) (order i low))
+
+-- the key is of one type with the one at that place
+pub IsKeyFor-at : (es : List (Value × Value)) (key : Value) (i : ℕ) (e : Value × Value) → IsKeyFor es key → slice_get es i ≡ Some e → SameKeyType e.0 key
+IsKeyFor-at es key i e h p = subst (λ (x : Value × Value). SameKeyType x.0 key) (slice_index_or-get es i e e p) (h i e (slice_get_within es i e p))

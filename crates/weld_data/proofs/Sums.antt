@@ -1,5 +1,5 @@
 -- The sums of the proved callers, one more element at a time.
-use Rattle.std.proofs.Common.{◌≡◌, ℕ, ◌+◌, ◌%◌, ◌^◌, ◌<◌, ℤ, pos, ◌+ℤ◌, List, [], ◌∷◌, ◌++◌, fold, FitsSigned, w64, ap, ap₂, sym, ◌∙◌}
+use Rattle.std.proofs.Common.{◌≡◌, ℕ, ◌+◌, ◌%◌, ◌^◌, ◌<◌, ℤ, pos, ◌+ℤ◌, List, [], ◌∷◌, ◌++◌, FitsSigned, w64, ap₂, sym, ◌∙◌}
 use Rattle.std.specs.Int.{cast_signed, cast_unsigned, int_wrap}
 use Rattle.std.proofs.lemmas.Int.{wrapping_add_onto}
 use Rattle.std.proofs.lemmas.List.Sums.{fold-append}

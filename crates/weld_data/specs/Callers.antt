@@ -3,7 +3,7 @@ use Rattle.std.specs.Prelude.{ℕ, Bool, true, false, ◌||◌, ℤ, pos, ◌+�
 use Rattle.std.specs.List.{range_with_len}
 use Rattle.weld_data.specs.declared.kind.Kind.TheVariants as kinds
 use Rattle.weld_data.specs.Wrapped.{wrapped}
-use Rattle.weld_data.specs.Value.{Value, number, list, struct, dict, Values, no_values, and_value, Entries}
+use Rattle.weld_data.specs.Value.{Value, number, list, struct, dict, Values, no_values, and_value}
 
 -- the numbers below n, each as its own key and value
 abbrev pub small_numbers : ℕ → List (Value × Value)

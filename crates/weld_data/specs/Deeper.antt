@@ -10,7 +10,8 @@ use Rattle.weld_data.specs.declared.value.Pairs.TheDeep.{deep-Val, deep-Pair}
 use Rattle.weld_data.specs.Depth.{depth, depth_of_list, depth_of_pairs}
 use Rattle.weld_data.specs.View.{view_val, view_pair}
 
-deep-Val-le : (v : Val) → deep-Val v ≤ depth (view_val v) + 1
+-- a value of the code is as deep as what it stands for
+pub deep-Val-le : (v : Val) → deep-Val v ≤ depth (view_val v) + 1
 deep-Val-le (val.Num n) = omega arith
 deep-Val-le (val.List (column.Bool items)) = omega arith
 deep-Val-le (val.List (column.I8 items)) = omega arith

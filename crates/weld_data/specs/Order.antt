@@ -1,7 +1,7 @@
 -- The order of keys, by this project's profile of Weld, and which values are keys of one type.
-use Rattle.std.specs.Prelude.{◌≡◌, ◌⊎◌, ℤ, ◌<ℤ◌, List, All, AllPairs}
+use Rattle.std.specs.Prelude.{◌≡◌, ◌⊎◌, ◌<ℤ◌, List, All, AllPairs}
 use Rattle.weld_data.specs.declared.kind.Kind.{Kind}
-use Rattle.weld_data.specs.Value.{Value, number, list, struct, dict, Values, no_values, and_value, Entries}
+use Rattle.weld_data.specs.Value.{Value, number, list, struct, dict, Values, no_values, and_value}
 
 abbrev mutual
   -- numbers by size, false before true; lists and structs lexicographically

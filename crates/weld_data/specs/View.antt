@@ -1,5 +1,5 @@
 -- What the code's values stand for.
-use Rattle.std.specs.Prelude.{ℕ, ℤ, pos, Bool, List, map}
+use Rattle.std.specs.Prelude.{ℕ, pos, Bool, List, map}
 use Rattle.weld_data.specs.declared.kind.Kind.TheVariants as kinds
 use Rattle.weld_data.specs.declared.value.Val.{Val}
 use Rattle.weld_data.specs.declared.value.Val.TheVariants as val

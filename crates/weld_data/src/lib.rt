@@ -1,4 +1,9 @@
 //! Values of Weld programs, and the operations on their numbers.
+//!
+//! Contracts see a value as plain data, `Value` of specs/: a number with its kind, a list, a struct
+//! or a dictionary. `view_val` says what a `Val` stands for, `view_column` what a `Column` does: a
+//! typed column and a nested one show alike, as a list of values. `Vals` and `Pairs` are seen as
+//! lists themselves, and `Pairs` keeps that its keys rise.
 #![tactic(auto)]
 
 #[cfg(test)]

@@ -212,7 +212,8 @@ impl Pairs {
     /// The entry at an index, from 0.
     pub fn at(&self, index: usize) -> &Pair
         requires { index < length self.now }
-        ensures { slice_get self.now index ≡ Some (view_pair result.now) }
+        ensures entry { slice_get self.now index ≡ Some (view_pair result.now) }
+        ensures rises { Rises self.now }
     {
         &self.items[index]
     }

@@ -16,7 +16,7 @@ impl Pairs {
         ensures { option_map (λ v. view_val v.now) result ≡ value_of_key self.now (view_val key.now) }
     {
         match self.position_of(key) {
-            Some(index) => Some(&self.items[index].value),
+            Some(index) => Some(&self.at(index).value),
             None => None,
         }
     }
@@ -36,10 +36,10 @@ impl Pairs {
         ensures missing { IfNone result (value_of_key self.now (view_val key.now) ≡ None) }
     {
         let mut low = 0;
-        let mut high = self.items.len();
+        let mut high = self.len();
         while low < high {
             let middle = low + (high - low) / 2;
-            match compare_keys(&self.items[middle].key, key) {
+            match compare_keys(&self.at(middle).key, key) {
                 Ordering::Less => low = middle + 1,
                 Ordering::Equal => return Some(middle),
                 Ordering::Greater => high = middle,

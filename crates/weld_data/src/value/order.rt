@@ -41,8 +41,8 @@ fn compare_fields(a: &Vals, b: &Vals) -> Ordering
     ensures { MatchOrdering result (LexLess (values a.now) (values b.now)) (a.now ≡ b.now)
         (LexLess (values b.now) (values a.now)) }
 {
-    for i in 0..a.items.len() {
-        match compare_keys(&a.items[i], &b.items[i]) {
+    for i in 0..a.len() {
+        match compare_keys(a.at(i), b.at(i)) {
             Ordering::Equal => {}
             unequal => return unequal,
         }

@@ -1,11 +1,11 @@
-use Rattle.std.proofs.Common.{◌≡◌, ℕ, zero, suc, ◌+◌, ◌<◌, ◌≤◌, Bool, false, true, true≢false, ◌||◌, ◌++◌, slice_get, Some, ap, sym, ◌∙◌, refl, arith, List, [], ◌∷◌, map, take, length}
+use Rattle.std.proofs.Common.{◌≡◌, ℕ, zero, suc, Bool, false, true, true≢false, ◌||◌, ◌++◌, slice_get, Some, sym, refl, arith, List, [], ◌∷◌, map, take}
 use Rattle.weld_data.specs.declared.value.Column.{Column}
 use Rattle.weld_data.specs.declared.value.Column.TheVariants as column
-use Rattle.weld_data.specs.Value.{Value, list, values}
+use Rattle.weld_data.specs.Value.{Value, values}
 use Rattle.weld_data.specs.View.{view_val, view_column}
 use Rattle.weld_data.specs.Callers.{has_dict, some_has_dict}
-use Rattle.weld_data.proofs.Depths.{deep-Val-at}
-use Rattle.weld_data.proofs.Keys.{view_within, view_at, take-view}
+use Rattle.weld_data.proofs.Depths.{deep-Val-in}
+use Rattle.weld_data.proofs.Views.{view_at, take-view}
 use Rattle.weld_data.proofs.callers.+outside.Goals as goal
 
 numbers_have_none : {T : Type 0} (f : T → Value) → ((x : T) → has_dict (f x) ≡ false) → (xs : List T) → some_has_dict (values (map f xs)) ≡ false
@@ -25,8 +25,8 @@ has_dict_in-returns-in_default t c = rw c.in-List.is (typed_has_none c.in-List.c
 
 pub some_has_dict_in-has_dict_in-requires : goal.some_has_dict_in-has_dict_in-requires
 some_has_dict_in-has_dict_in-requires t c =
-    let d = deep-Val-at c.as_slice-item-items.result.now c.args.items.now c.loop-item.item-index c.item-item.result c.as_slice-item-items.ensures (omega arith) c.item-item.is in
-    (omega (arith, d), tt)
+    let here = view_at view_val c.as_slice-item-items.result.now c.args.items.now c.loop-item.item-index c.item-item.result c.as_slice-item-items.ensures c.loop-item-test.true c.item-item.is in
+    let d = deep-Val-in c.args.items.now c.loop-item.item-index c.item-item.result here in (omega (arith, d), tt)
 
 some_at : (vs : List Value) (i : ℕ) (v : Value) → slice_get vs i ≡ Some v → true ≡ has_dict v → true ≡ some_has_dict (values vs)
 some_at [] i v p h = cc

@@ -1,9 +1,9 @@
-use Rattle.std.proofs.Common.{take, subst, sym, FitsSigned, w64, ◌≡◌}
+use Rattle.std.proofs.Common.{take, subst, sym, FitsSigned, w64}
 use Rattle.std.specs.Int.{w128, cast_signed, cast_unsigned}
 use Rattle.std.proofs.lemmas.Int.{to_z-of_z}
 use Rattle.weld_data.specs.Value.{number}
 use Rattle.weld_data.specs.View.{view_column}
-use Rattle.weld_data.proofs.Keys.{take-get}
+use Rattle.weld_data.proofs.Views.{take-get}
 use Rattle.weld_data.proofs.Ranges.{FitsSigned-kind, FitsSigned-wide}
 use Rattle.weld_data.proofs.Sums.{sum_of-push}
 use Rattle.weld_data.proofs.callers.sum_by_index.Goals as goal

@@ -1,6 +1,6 @@
-use Rattle.std.proofs.Common.{take, arith}
+use Rattle.std.proofs.Common.{take}
 use Rattle.weld_data.specs.View.{view_val}
-use Rattle.weld_data.proofs.Keys.{take-view}
+use Rattle.weld_data.proofs.Views.{take-view}
 use Rattle.weld_data.proofs.Sums.{sum_of-push}
 use Rattle.weld_data.proofs.callers.sum_nested.Goals as goal
 

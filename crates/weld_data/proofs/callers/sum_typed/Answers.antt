@@ -1,4 +1,4 @@
-use Rattle.std.proofs.Common.{◌≡◌, ◌+◌, ◌++◌, [], ◌∷◌, pos, map, take, slice_index_or, FitsSigned, w64, refl, rules}
+use Rattle.std.proofs.Common.{pos, map, take, slice_index_or, FitsSigned, w64, refl, rules}
 use Rattle.std.proofs.lemmas.List.{take_more, map-append}
 use Rattle.weld_data.specs.declared.kind.Kind.TheVariants as kinds
 use Rattle.weld_data.specs.Value.{number}

@@ -1,4 +1,4 @@
-use Rattle.std.proofs.Common.{subst, sym, ap, ap₂, ◌∙◌, add-one, min, length, arith, ◌≡◌, nat_cmp, Ordering}
+use Rattle.std.proofs.Common.{subst, sym, ap₂, ◌∙◌, add-one, min, length, arith, ◌≡◌, nat_cmp, Ordering}
 use Rattle.weld_data.specs.Value.{number}
 use Rattle.weld_data.specs.View.{view_column}
 use Rattle.weld_data.proofs.Keys.{ListStands, Stands, ListStands-at, ListStands-end, ints_stand, kind_at, take-agree}

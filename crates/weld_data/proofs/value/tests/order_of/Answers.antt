@@ -1,8 +1,4 @@
-use Rattle.std.proofs.Common.{ap, sym, subst, ◌≡◌, map}
 use Rattle.weld_data.specs.declared.kind.Kind.TheVariants as kinds
-use Rattle.weld_data.specs.Value.{values, number}
-use Rattle.weld_data.specs.View.{view_column}
-use Rattle.weld_data.specs.Order.{AreNumbers}
 use Rattle.weld_data.proofs.Keys.{AreNumbers-map}
 use Rattle.weld_data.proofs.value.tests.order_of.Goals as goal
 
