@@ -11,7 +11,7 @@ use Rattle.weld_data.specs.declared.value.Val.TheVariants as val
 use Rattle.weld_data.specs.Operation.{truth}
 use Rattle.weld_data.specs.Value.{Value, number, list, struct, dict, Values, no_values, and_value, values}
 use Rattle.weld_data.specs.View.{view_val}
-use Rattle.weld_data.specs.Order.{KeyLess, LexLess, AreNumbers, SameKeyType, SameFieldTypes}
+use Rattle.weld_data.specs.Order.{KeyLess, LexLess, KeyStands, ListStands, AreNumbers, SameKeyType, SameFieldTypes}
 
 -- ---- a strict order
 
@@ -53,15 +53,12 @@ mutual
 
 -- ---- total on keys of one type
 
--- how x and y stand to each other
-abbrev pub Stands : Ordering → Value → Value → Type 0
-Stands r x y = MatchOrdering r (KeyLess x y) (x ≡ y) (KeyLess y x)
-
+-- how the fields or elements stand to each other
 abbrev pub LexStands : Ordering → Values → Values → Type 0
 LexStands r xs ys = MatchOrdering r (LexLess xs ys) (xs ≡ ys) (LexLess ys xs)
 
 -- the first elements decide, and else the rest
-pub LexStands-then : (r s : Ordering) (x y : Value) (xs ys : Values) → Stands r x y → LexStands s xs ys → LexStands (ordering_then r s) (and_value x xs) (and_value y ys)
+pub LexStands-then : (r s : Ordering) (x y : Value) (xs ys : Values) → KeyStands r x y → LexStands s xs ys → LexStands (ordering_then r s) (and_value x xs) (and_value y ys)
 LexStands-then Less s x y xs ys h g = inl h
 LexStands-then Greater s x y xs ys h g = inl h
 LexStands-then Equal Less x y xs ys h g = inr (h, g)
@@ -69,7 +66,7 @@ LexStands-then Equal Equal x y xs ys h g = ap₂ and_value h g
 LexStands-then Equal Greater x y xs ys h g = inr (sym h, g)
 
 abbrev pub Compares : Value → Value → Type 0
-Compares x y = (r : Ordering) × Stands r x y
+Compares x y = (r : Ordering) × KeyStands r x y
 
 abbrev pub LexCompares : Values → Values → Type 0
 LexCompares xs ys = (r : Ordering) × LexStands r xs ys
@@ -90,12 +87,12 @@ lists_compare kind (and_value (number k x) xs) (and_value (number m y) ys) p q =
 lists_compare kind (and_value (number k x) xs) (and_value _ ys) p q = absurd q
 lists_compare kind (and_value _ xs) (and_value y ys) p q = absurd p
 
-under_list : (r : Ordering) (xs ys : Values) → LexStands r xs ys → Stands r (list xs) (list ys)
+under_list : (r : Ordering) (xs ys : Values) → LexStands r xs ys → KeyStands r (list xs) (list ys)
 under_list Less xs ys h = h
 under_list Equal xs ys h = ap list h
 under_list Greater xs ys h = h
 
-under_struct : (r : Ordering) (xs ys : Values) → LexStands r xs ys → Stands r (struct xs) (struct ys)
+under_struct : (r : Ordering) (xs ys : Values) → LexStands r xs ys → KeyStands r (struct xs) (struct ys)
 under_struct Less xs ys h = h
 under_struct Equal xs ys h = ap struct h
 under_struct Greater xs ys h = h
@@ -121,7 +118,7 @@ mutual
 pub KeyLess_total : (x y : Value) → SameKeyType x y → KeyLess x y ⊎ ((x ≡ y) ⊎ KeyLess y x)
 KeyLess_total x y s = let c = keys_compare x y s in by c.0 c.1
   where
-    by : (r : Ordering) → Stands r x y → KeyLess x y ⊎ ((x ≡ y) ⊎ KeyLess y x)
+    by : (r : Ordering) → KeyStands r x y → KeyLess x y ⊎ ((x ≡ y) ⊎ KeyLess y x)
     by Less h = inl h
     by Equal h = inr (inl h)
     by Greater h = inr (inr h)
@@ -144,10 +141,7 @@ mutual
 
 -- ---- lists of the code
 
-abbrev pub ListStands : Ordering → List Value → List Value → Type 0
-ListStands r xs ys = MatchOrdering r (LexLess (values xs) (values ys)) (xs ≡ ys) (LexLess (values ys) (values xs))
-
-ListStands-then : (r s : Ordering) (x y : Value) (xs ys : List Value) → Stands r x y → ListStands s xs ys → ListStands (ordering_then r s) (x ∷ xs) (y ∷ ys)
+ListStands-then : (r s : Ordering) (x y : Value) (xs ys : List Value) → KeyStands r x y → ListStands s xs ys → ListStands (ordering_then r s) (x ∷ xs) (y ∷ ys)
 ListStands-then Less s x y xs ys h g = inl h
 ListStands-then Greater s x y xs ys h g = inl h
 ListStands-then Equal Less x y xs ys h g = inr (h, g)
@@ -155,7 +149,7 @@ ListStands-then Equal Equal x y xs ys h g = ap₂ ◌∷◌ h g
 ListStands-then Equal Greater x y xs ys h g = inr (sym h, g)
 
 -- where a comparison of elements says how their values stand, the lexicographic one says how the lists stand
-ListStands-slice_cmp : {T : Type 0} (cmp : T → T → Ordering) (f : T → Value) → ((x y : T) → Stands (cmp x y) (f x) (f y)) → (xs ys : List T) → ListStands (slice_cmp cmp xs ys) (map f xs) (map f ys)
+ListStands-slice_cmp : {T : Type 0} (cmp : T → T → Ordering) (f : T → Value) → ((x y : T) → KeyStands (cmp x y) (f x) (f y)) → (xs ys : List T) → ListStands (slice_cmp cmp xs ys) (map f xs) (map f ys)
 ListStands-slice_cmp cmp f h [] [] = refl
 ListStands-slice_cmp cmp f h [] (y ∷ ys) = tt
 ListStands-slice_cmp cmp f h (x ∷ xs) [] = tt
@@ -163,28 +157,28 @@ ListStands-slice_cmp cmp f h (x ∷ xs) (y ∷ ys) =
     ListStands-then (cmp x y) (slice_cmp cmp xs ys) (f x) (f y) _ _ (h x y) (ListStands-slice_cmp cmp f h xs ys)
 
 -- the same of two columns of one kind, as the code has them
-pub columns_stand : {T : Type 0} (cmp : T → T → Ordering) (f : T → Value) → ((x y : T) → Stands (cmp x y) (f x) (f y)) → (xs ys ps qs : List T) (vs ws : List Value) (r : Ordering) → r ≡ slice_cmp cmp ps qs → ps ≡ xs → qs ≡ ys → vs ≡ map f xs → ws ≡ map f ys → ListStands r vs ws
+pub columns_stand : {T : Type 0} (cmp : T → T → Ordering) (f : T → Value) → ((x y : T) → KeyStands (cmp x y) (f x) (f y)) → (xs ys ps qs : List T) (vs ws : List Value) (r : Ordering) → r ≡ slice_cmp cmp ps qs → ps ≡ xs → qs ≡ ys → vs ≡ map f xs → ws ≡ map f ys → ListStands r vs ws
 columns_stand cmp f h xs ys ps qs vs ws r e p q v w =
     subst (λ (o : Ordering). ListStands o vs ws) (sym (e ∙ ap₂ (slice_cmp cmp) p q))
     (subst₂ (ListStands (slice_cmp cmp xs ys)) (sym v) (sym w) (ListStands-slice_cmp cmp f h xs ys))
 
-pub ints_stand : (k m : Kind) (x y : ℤ) → k ≡ m → Stands (int_cmp x y) (number k x) (number m y)
+pub ints_stand : (k m : Kind) (x y : ℤ) → k ≡ m → KeyStands (int_cmp x y) (number k x) (number m y)
 ints_stand k m x y e = by (int_cmp x y) (int_ranks x y)
   where
-    by : (r : Ordering) → MatchOrdering r (x <ℤ y) (x ≡ y) (y <ℤ x) → Stands r (number k x) (number m y)
+    by : (r : Ordering) → MatchOrdering r (x <ℤ y) (x ≡ y) (y <ℤ x) → KeyStands r (number k x) (number m y)
     by Less h = h
     by Equal h = ap₂ number e h
     by Greater h = h
 
-pub nats_stand : (k : Kind) (x y : ℕ) → Stands (nat_cmp x y) (number k (pos x)) (number k (pos y))
+pub nats_stand : (k : Kind) (x y : ℕ) → KeyStands (nat_cmp x y) (number k (pos x)) (number k (pos y))
 nats_stand k x y = by (nat_cmp x y) (ranks x y)
   where
-    by : (r : Ordering) → MatchOrdering r (x < y) (x ≡ y) (y < x) → Stands r (number k (pos x)) (number k (pos y))
+    by : (r : Ordering) → MatchOrdering r (x < y) (x ≡ y) (y < x) → KeyStands r (number k (pos x)) (number k (pos y))
     by Less h = omega (arith, ints)
     by Equal h = ap (λ n. number k (pos n)) h
     by Greater h = omega (arith, ints)
 
-pub bools_stand : (k : Kind) (x y : Bool) → Stands (bool_cmp x y) (number k (truth x)) (number k (truth y))
+pub bools_stand : (k : Kind) (x y : Bool) → KeyStands (bool_cmp x y) (number k (truth x)) (number k (truth y))
 bools_stand k false false = refl
 bools_stand k false true = omega (arith, ints)
 bools_stand k true false = omega (arith, ints)
@@ -208,7 +202,7 @@ LexLess-prefix (x ∷ xs) (y ∷ ys) e h =
     let xy : x ≡ y = cc in let rest : take (length xs) xs ≡ take (length xs) ys = cc in inr (xy, LexLess-prefix xs ys rest (omega arith))
 
 -- a loop over two lists stops where they differ
-pub ListStands-at : (r : Ordering) (xs ys : List Value) (i : ℕ) (x y : Value) → slice_get xs i ≡ Some x → slice_get ys i ≡ Some y → take i xs ≡ take i ys → Stands r x y → (r ≡ Equal → ⊥) → ListStands r xs ys
+pub ListStands-at : (r : Ordering) (xs ys : List Value) (i : ℕ) (x y : Value) → slice_get xs i ≡ Some x → slice_get ys i ≡ Some y → take i xs ≡ take i ys → KeyStands r x y → (r ≡ Equal → ⊥) → ListStands r xs ys
 ListStands-at Less xs ys i x y p q e h n = LexLess-at xs ys i x y p q e h
 ListStands-at Equal xs ys i x y p q e h n = absurd (n refl)
 ListStands-at Greater xs ys i x y p q e h n = LexLess-at ys xs i y x q p (sym e) h

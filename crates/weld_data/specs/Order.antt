@@ -1,7 +1,9 @@
 -- The order of keys, by this project's profile of Weld, and which values are keys of one type.
 use Rattle.std.specs.Prelude.{◌≡◌, ◌⊎◌, ◌<ℤ◌, List, All, AllPairs}
+use Rattle.std.specs.Ordering.{MatchOrdering}
+use Rattle.std.specs.declared.cmp.Ordering.{Ordering}
 use Rattle.weld_data.specs.declared.kind.Kind.{Kind}
-use Rattle.weld_data.specs.Value.{Value, number, list, struct, dict, Values, no_values, and_value}
+use Rattle.weld_data.specs.Value.{Value, number, list, struct, dict, Values, no_values, and_value, values}
 
 abbrev mutual
   -- numbers by size, false before true; lists and structs lexicographically
@@ -17,6 +19,15 @@ abbrev mutual
   LexLess no_values (and_value y ys) = Unit {0}
   LexLess (and_value x xs) no_values = ⊥
   LexLess (and_value x xs) (and_value y ys) = KeyLess x y ⊎ ((x ≡ y) × LexLess xs ys)
+
+-- how the first key stands to the second: it is less, equal or greater
+abbrev pub KeyStands : Ordering → Value → Value → Type 0
+KeyStands order x y = MatchOrdering order (KeyLess x y) (x ≡ y) (KeyLess y x)
+
+-- how the first list stands to the second
+abbrev pub ListStands : Ordering → List Value → List Value → Type 0
+ListStands order xs ys =
+    MatchOrdering order (LexLess (values xs) (values ys)) (xs ≡ ys) (LexLess (values ys) (values xs))
 
 -- each value is a number of the kind
 abbrev pub AreNumbers : Kind → Values → Type 0

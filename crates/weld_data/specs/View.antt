@@ -9,7 +9,7 @@ use Rattle.weld_data.specs.declared.value.Pair.{Pair}
 use Rattle.weld_data.specs.Operation.{truth}
 use Rattle.weld_data.specs.Value.{Value, number, list, struct, dict, values, entries}
 
--- a column of any kind is a list of values
+-- a column of any kind is a list of values: how it is kept doesn't show
 abbrev pub view_column : Column → List Value
 view_column (column.Bool items) = map (λ (b : Bool). number kinds.Bool (truth b)) items
 view_column (column.I8 items) = map (number kinds.I8) items

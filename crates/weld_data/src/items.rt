@@ -112,3 +112,6 @@ impl<T: Copy> Items<T> {
         self.items.extend_from_slice(items)
     }
 }
+
+#[cfg(test)]
+mod tests;

@@ -1,10 +1,8 @@
 //! The order of keys.
 
-ghost use Rattle.std.specs.Prelude.{◌≡◌};
-ghost use Rattle.std.specs.Ordering.{MatchOrdering};
 ghost use Rattle.weld_data.specs.Value.{values};
 ghost use Rattle.weld_data.specs.View.{view_val, view_column};
-ghost use Rattle.weld_data.specs.Order.{KeyLess, LexLess, SameKeyType, SameNumberKinds, SameFieldTypes};
+ghost use Rattle.weld_data.specs.Order.{KeyStands, ListStands, SameKeyType, SameNumberKinds, SameFieldTypes};
 
 use super::{Column, Val, Vals};
 use std::cmp::Ordering;
@@ -14,8 +12,7 @@ use std::cmp::Ordering;
 #[cycle(compare)]
 pub fn compare_keys(a: &Val, b: &Val) -> Ordering
     requires { SameKeyType (view_val a.now) (view_val b.now) }
-    ensures { MatchOrdering result (KeyLess (view_val a.now) (view_val b.now))
-        (view_val a.now ≡ view_val b.now) (KeyLess (view_val b.now) (view_val a.now)) }
+    ensures { KeyStands result (view_val a.now) (view_val b.now) }
 {
     match a {
         Val::Num(x) => match b {
@@ -38,8 +35,7 @@ pub fn compare_keys(a: &Val, b: &Val) -> Ordering
 #[cycle(compare)]
 fn compare_fields(a: &Vals, b: &Vals) -> Ordering
     requires { SameFieldTypes (values a.now) (values b.now) }
-    ensures { MatchOrdering result (LexLess (values a.now) (values b.now)) (a.now ≡ b.now)
-        (LexLess (values b.now) (values a.now)) }
+    ensures { ListStands result a.now b.now }
 {
     for i in 0..a.len() {
         match compare_keys(a.at(i), b.at(i)) {
@@ -53,9 +49,7 @@ fn compare_fields(a: &Vals, b: &Vals) -> Ordering
 /// The order of two lists of numbers of one kind.
 fn compare_columns(a: &Column, b: &Column) -> Ordering
     requires { SameNumberKinds (values (view_column a.now)) (values (view_column b.now)) }
-    ensures { MatchOrdering result (LexLess (values (view_column a.now)) (values (view_column b.now)))
-        (view_column a.now ≡ view_column b.now)
-        (LexLess (values (view_column b.now)) (values (view_column a.now))) }
+    ensures { ListStands result (view_column a.now) (view_column b.now) }
 {
     match (a, b) {
         (Column::Bool(x), Column::Bool(y)) => x.as_slice().cmp(&y.as_slice()),
@@ -70,9 +64,7 @@ fn compare_columns(a: &Column, b: &Column) -> Ordering
 /// The same, where the lists may be kept in different ways.
 fn compare_numbers(a: &Column, b: &Column) -> Ordering
     requires { SameNumberKinds (values (view_column a.now)) (values (view_column b.now)) }
-    ensures { MatchOrdering result (LexLess (values (view_column a.now)) (values (view_column b.now)))
-        (view_column a.now ≡ view_column b.now)
-        (LexLess (values (view_column b.now)) (values (view_column a.now))) }
+    ensures { ListStands result (view_column a.now) (view_column b.now) }
 {
     for i in 0..a.len().min(b.len()) {
         match a.number_at(i).value.cmp(&b.number_at(i).value) {

@@ -1,7 +1,8 @@
 use Rattle.std.proofs.Common.{subst, sym, ap₂, ◌∙◌, add-one, min, length, arith, ◌≡◌, nat_cmp, Ordering}
 use Rattle.weld_data.specs.Value.{number}
 use Rattle.weld_data.specs.View.{view_column}
-use Rattle.weld_data.proofs.Keys.{ListStands, Stands, ListStands-at, ListStands-end, ints_stand, kind_at, take-agree}
+use Rattle.weld_data.specs.Order.{KeyStands, ListStands}
+use Rattle.weld_data.proofs.Keys.{ListStands-at, ListStands-end, ints_stand, kind_at, take-agree}
 use Rattle.weld_data.proofs.value.order.compare_numbers.Goals as goal
 
 pub returns-in_default : goal.returns-in_default
@@ -11,7 +12,7 @@ returns-in_default c =
     let x = c.number_at.result in
     let y = c.number_at-in-loop-i.result in
     let same = kind_at c.requires.0 xs c.loop-i.i x.kind x.value c.requires.1 c.number_at.ensures ∙ sym (kind_at c.requires.0 ys c.loop-i.i y.kind y.value c.requires.2 c.number_at-in-loop-i.ensures) in
-    ListStands-at c.cmp.result xs ys c.loop-i.i (number x.kind x.value) (number y.kind y.value) c.number_at.ensures c.number_at-in-loop-i.ensures c.loop-i.invariant (subst (λ (r : Ordering). Stands r (number x.kind x.value) (number y.kind y.value)) (sym c.cmp.ensures) (ints_stand x.kind y.kind x.value y.value same)) c.in_default.not-Equal
+    ListStands-at c.cmp.result xs ys c.loop-i.i (number x.kind x.value) (number y.kind y.value) c.number_at.ensures c.number_at-in-loop-i.ensures c.loop-i.invariant (subst (λ (r : Ordering). KeyStands r (number x.kind x.value) (number y.kind y.value)) (sym c.cmp.ensures) (ints_stand x.kind y.kind x.value y.value same)) c.in_default.not-Equal
 
 pub loop-i-preserved : goal.loop-i-preserved
 loop-i-preserved c =
@@ -20,7 +21,7 @@ loop-i-preserved c =
     let x = c.number_at.result in
     let y = c.number_at-in-loop-i.result in
     let same = kind_at c.requires.0 xs c.loop-i.i x.kind x.value c.requires.1 c.number_at.ensures ∙ sym (kind_at c.requires.0 ys c.loop-i.i y.kind y.value c.requires.2 c.number_at-in-loop-i.ensures) in
-    let stands = subst (λ (r : Ordering). Stands r (number x.kind x.value) (number y.kind y.value)) (sym c.cmp.ensures ∙ c.in-Equal.is) (ints_stand x.kind y.kind x.value y.value same) in
+    let stands = subst (λ (r : Ordering). KeyStands r (number x.kind x.value) (number y.kind y.value)) (sym c.cmp.ensures ∙ c.in-Equal.is) (ints_stand x.kind y.kind x.value y.value same) in
     rw add-one
     (take-agree xs ys c.loop-i.i (number x.kind x.value) (number y.kind y.value) c.number_at.ensures c.number_at-in-loop-i.ensures stands c.loop-i.invariant)
 
