@@ -194,6 +194,7 @@ impl Expr {
 
 impl Exprs {
     #[cycle(zero)]
+    #[tactic(auto, using(crate::proofs::Zeroed::all_zeroed_by_each, std::proofs::lemmas::List::with_items_is))]
     fn zero(&mut self)
         ensures { pack_exprs self.new ≡ all_zeroed (pack_exprs self.old) }
     {
@@ -222,6 +223,7 @@ impl Leg {
 
 impl Legs {
     #[cycle(zero)]
+    #[tactic(auto, using(crate::proofs::Zeroed::legs_zeroed_by_each, std::proofs::lemmas::List::with_items_is))]
     fn zero(&mut self)
         ensures { pack_legs self.new ≡ legs_zeroed (pack_legs self.old) }
     {
