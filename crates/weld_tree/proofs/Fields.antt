@@ -1,5 +1,5 @@
 -- What holds of each type of a list, and of the types as data.
-use Rattle.std.proofs.Common.{◌≡◌, ℕ, ◌+◌, ◌<◌, ◌≤◌, max, List, [], ◌∷◌, length, drop, get_or, sym, ap, ◌∙◌, arith}
+use Rattle.std.proofs.Common.{zero, suc, ◌≡◌, ℕ, ◌+◌, ◌<◌, ◌≤◌, max, List, [], ◌∷◌, length, drop, get_or, sym, ap, ◌∙◌, arith}
 use Rattle.std.proofs.lemmas.List.{at_drop_more, same_lists, drop_all}
 use Rattle.std.specs.List.{All}
 use Rattle.std.proofs.lemmas.List.Elements.{All-cons, All-head, All-tail, All-nil}
@@ -67,3 +67,12 @@ no_nodes_left ts i h = ap (λ rest. types_nodes (pack rest)) (drop_all i ts h)
 
 pub no_depth_left : (ts : List TypeTree) (i : ℕ) → length ts ≤ i → types_depth (pack (drop i ts)) ≡ 0
 no_depth_left ts i h = ap (λ rest. types_depth (pack rest)) (drop_all i ts h)
+
+-- a type of a list has no more nodes than the list
+type_under : (ts : List TypeTree) (i : ℕ) (d : TypeTree) → i < length ts → type_nodes (get_or ts i d) ≤ types_nodes (pack ts)
+type_under [] i d h = absurd (omega arith)
+type_under (t ∷ ts) zero d h = omega arith
+type_under (t ∷ ts) (suc i) d h = let r : type_nodes (get_or ts i d) ≤ types_nodes (pack ts) = type_under ts i d (omega arith) in omega arith
+
+pub types_parts : (ts : List TypeTree) → All (λ t. type_nodes t ≤ types_nodes (pack ts)) ts
+types_parts ts k d h = type_under ts k d h

@@ -1,10 +1,12 @@
 -- What is left of a list of expressions or legs from a place on.
 use Rattle.std.proofs.Common.{◌≡◌, ℕ, ◌+◌, ◌<◌, ◌≤◌, List, [], ◌∷◌, ◌++◌, length, take, drop, get_or, map, zero, suc, sym, ap, ◌∙◌, arith}
-use Rattle.std.proofs.lemmas.List.{at_drop_more, drop_all, map_more, map-append}
+use Rattle.std.proofs.lemmas.List.{at_drop_more, drop_all, map_more, map-append, drop-map, length-map}
+use Rattle.std.specs.List.{take-map, All}
 use Rattle.weld_tree.specs.ExprTree.{ExprTree, pack_exprs, pack_legs}
 use Rattle.weld_tree.specs.ExprView.{view_leg}
-use Rattle.weld_tree.specs.ExprFalls.{leg_nodes, legs_nodes}
+use Rattle.weld_tree.specs.ExprFalls.{expr_nodes, exprs_nodes, leg_nodes, legs_nodes}
 use Rattle.weld_tree.specs.Program.{loops, loops_in, loops_in_leg, loops_in_legs}
+use Rattle.weld_tree.specs.Lending.{refill}
 use Rattle.weld_tree.specs.declared.expr.Leg.{Leg}
 
 pub loops_left : (es : List ExprTree) (i : ℕ) (e : ExprTree) → i < length es → e ≡ get_or es i e → loops_in (pack_exprs (drop i es)) ≡ loops e + loops_in (pack_exprs (drop (i + 1) es))
@@ -34,3 +36,22 @@ leg_under (l ∷ ls) (suc i) d h = let r : leg_nodes (view_leg (get_or ls i d)) 
 
 pub leg_nodes_le : (ls : List Leg) (i : ℕ) (l : Leg) → i < length ls → l ≡ get_or ls i l → leg_nodes (view_leg l) ≤ legs_nodes (pack_legs (map view_leg ls))
 leg_nodes_le ls i l h p = rw p (leg_under ls i l h)
+
+-- legs that are lent, as data
+pub refill-map : (n : ℕ) (old new : List Leg) → n ≡ length old → map view_leg (take n (new ++ drop (length new) old)) ≡ refill (map view_leg old) (map view_leg new)
+refill-map n old new e =
+    sym (take-map view_leg n (new ++ drop (length new) old))
+    ∙ ap (take n) (map-append view_leg new (drop (length new) old) ∙ ap (λ r. map view_leg new ++ r) (sym (drop-map view_leg (length new) old)))
+    ∙ (λ i. take ((e ∙ sym (length-map old view_leg)) i) (map view_leg new ++ drop (sym (length-map new view_leg) i) (map view_leg old)))
+
+-- an expression of a list has no more nodes than the list
+expr_under : (es : List ExprTree) (i : ℕ) (d : ExprTree) → i < length es → expr_nodes (get_or es i d) ≤ exprs_nodes (pack_exprs es)
+expr_under [] i d h = absurd (omega arith)
+expr_under (e ∷ es) zero d h = omega arith
+expr_under (e ∷ es) (suc i) d h = let r : expr_nodes (get_or es i d) ≤ exprs_nodes (pack_exprs es) = expr_under es i d (omega arith) in omega arith
+
+pub exprs_parts : (es : List ExprTree) → All (λ e. expr_nodes e ≤ exprs_nodes (pack_exprs es)) es
+exprs_parts es k d h = expr_under es k d h
+
+pub legs_parts : (ls : List Leg) → All (λ l. leg_nodes (view_leg l) ≤ legs_nodes (pack_legs (map view_leg ls))) ls
+legs_parts ls k d h = leg_under ls k d h

@@ -13,3 +13,4 @@ pub mod LegFalls
 pub mod Program
 pub mod Blank
 pub mod Callers
+pub mod Lending

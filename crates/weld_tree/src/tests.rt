@@ -1,4 +1,6 @@
-use crate::{BuildTy, Code, Ty, Tys};
+use crate::{
+    Binder, Binders, BuildTy, Code, Expr, Exprs, Form, Known, Leg, Legs, Place, Sym, Ty, Tys, laws,
+};
 use std::alloc::{AllocError, Global};
 use std::test::Fail;
 use weld_data::{Kind, MergeOp};
@@ -87,4 +89,50 @@ fn builders_take_and_give(rt: HostRuntime) -> Result<(), Fail> {
     let given = Ty::dict_of(alloc, Ty::scalar(Kind::U8), vec_of(alloc, Kind::I64)?)?;
     assert!(rt; groups.gives(alloc)?.same(&given));
     Ok(())
+}
+
+fn number(alloc: Global) -> Result<Expr, AllocError> {
+    let ty = Known::Is(Ty::scalar(Kind::I64)).copy(alloc)?;
+    Ok(Expr {
+        form: Form::Int(Kind::I64, 7),
+        place: Place { line: 1, column: 1 },
+        ty,
+    })
+}
+
+#[test]
+fn lists_keep_what_they_hold(rt: HostRuntime) -> Result<(), Fail> {
+    let alloc = rt.alloc();
+    let tys = Tys::from_vec(vec![in alloc; Ty::scalar(Kind::I64), Ty::scalar(Kind::Bool)]?);
+    assert!(rt; tys.same(&tys.copy(alloc)?));
+    assert!(rt; tys.as_slice()[0].is_integer() && tys.as_slice()[1].is_scalar());
+    assert!(rt; tys.as_slice()[0].boxed_copy(alloc)?.is_within_limits());
+    assert_eq!(rt; tys.into_vec().len(), 2);
+
+    let mut exprs = Exprs::from_vec(vec![in alloc; number(alloc)?]?);
+    assert_eq!(rt; exprs.as_mut_slice().len(), 1);
+    assert_eq!(rt; exprs.copy(alloc)?.as_slice()[0].loops(), 0);
+    assert_eq!(rt; exprs.into_vec().len(), 1);
+
+    let mut legs = Legs::from_vec(vec![in alloc; Leg::Whole(number(alloc)?)]?);
+    assert_eq!(rt; legs.as_mut_slice().len(), 1);
+    assert!(rt; matches!(legs.as_slice()[0].copy(alloc)?, Leg::Whole(_)));
+    assert_eq!(rt; legs.copy(alloc)?.into_vec().len(), 1);
+
+    let binder = Binder {
+        sym: Sym(0),
+        place: Place { line: 1, column: 1 },
+        note: None,
+    };
+    let binders = Binders::from_vec(vec![in alloc; binder]?);
+    assert!(rt; !binders.copy(alloc)?.is_empty());
+    assert_eq!(rt; binders.into_vec().len(), 1);
+    Ok(())
+}
+
+#[test]
+fn laws_can_be_called() {
+    laws::sameness_is_an_equivalence();
+    laws::same_programs_have_same_counts();
+    laws::distance_tells_binders_apart();
 }

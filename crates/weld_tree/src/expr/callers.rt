@@ -194,10 +194,11 @@ impl Expr {
 
 impl Exprs {
     #[cycle(zero)]
+    #[tactic(auto, using(crate::proofs::Zeroed::all_zeroed_by_each, crate::specs::Lending::refill_is))]
     fn zero(&mut self)
         ensures { pack_exprs self.new ≡ all_zeroed (pack_exprs self.old) }
     {
-        for e in self.items.iter_mut() {
+        for e in self.as_mut_slice().iter_mut() {
             e.zero();
         }
     }
@@ -222,10 +223,11 @@ impl Leg {
 
 impl Legs {
     #[cycle(zero)]
+    #[tactic(auto, using(crate::proofs::Zeroed::legs_zeroed_by_each, crate::specs::Lending::refill_legs))]
     fn zero(&mut self)
         ensures { pack_legs self.new ≡ legs_zeroed (pack_legs self.old) }
     {
-        for leg in self.items.iter_mut() {
+        for leg in self.as_mut_slice().iter_mut() {
             leg.zero();
         }
     }

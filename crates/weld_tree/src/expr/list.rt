@@ -1,5 +1,9 @@
-ghost use Rattle.std.specs.Prelude.{◌≡◌, ◌==◌, [], ◌∷◌, ◌++◌, length, map, OnOk, OnErr};
+ghost use Rattle.std.specs.Prelude.{◌≡◌, ◌==◌, [], ◌∷◌, ◌++◌, length, map, All, ◌≤◌, OnOk, OnErr};
+ghost use Rattle.weld_tree.specs.ExprTree.{pack_exprs, pack_legs};
+ghost use Rattle.weld_tree.specs.ExprFalls.{expr_nodes, exprs_nodes, leg_nodes, legs_nodes};
+ghost use Rattle.std.specs.Borrow.{sem};
 ghost use Rattle.weld_tree.specs.ExprView.{view_leg};
+ghost use Rattle.weld_tree.specs.Lending.{LendsExprs, LendsLegs};
 
 use crate::expr::{Expr, Exprs, Leg, Legs};
 use std::alloc::{AllocError, Global};
@@ -29,11 +33,23 @@ impl Exprs {
         items
     }
 
-    /// The expressions.
+    /// The expressions. None has more nodes than all of them together.
+    #[tactic(auto, using(crate::proofs::Parts::exprs_parts))]
     pub fn as_slice(&self) -> &[Expr]
-        ensures { result.now ≡ self.now }
+        ensures value { result.now ≡ self.now }
+        ensures parts { All (λ e. expr_nodes e ≤ exprs_nodes (pack_exprs self.now)) result.now }
     {
         self.items.as_slice()
+    }
+
+    /// The expressions, to be changed in place. None has more nodes than all of them together.
+    #[tactic(auto, using(crate::proofs::Parts::exprs_parts))]
+    pub fn as_mut_slice(&mut self) -> &mut [Expr]
+        ensures* writes_back { sem 𝓛 (LendsExprs self.entry result) }
+        ensures value { result.now ≡ self.old }
+        ensures parts { All (λ e. expr_nodes e ≤ exprs_nodes (pack_exprs self.old)) result.now }
+    {
+        self.items.as_mut_slice()
     }
 
     /// How many expressions there are.
@@ -86,11 +102,22 @@ impl Legs {
         items
     }
 
-    /// The legs.
+    /// The legs. None has more nodes than all of them together.
+    #[tactic(auto, using(crate::proofs::Parts::legs_parts))]
     pub fn as_slice(&self) -> &[Leg]
-        ensures { map view_leg result.now ≡ self.now }
+        ensures value { map view_leg result.now ≡ self.now }
+        ensures parts { All (λ leg. leg_nodes (view_leg leg) ≤ legs_nodes (pack_legs self.now)) result.now }
     {
         self.items.as_slice()
+    }
+
+    /// The legs, to be changed in place. None has more nodes than all of them together.
+    pub fn as_mut_slice(&mut self) -> &mut [Leg]
+        ensures* writes_back { sem 𝓛 (LendsLegs self.entry result) }
+        ensures value { map view_leg result.now ≡ self.old }
+        ensures parts { All (λ leg. leg_nodes (view_leg leg) ≤ legs_nodes (pack_legs self.old)) result.now }
+    {
+        self.items.as_mut_slice()
     }
 
     /// How many legs there are.

@@ -1,4 +1,5 @@
-ghost use Rattle.std.specs.Prelude.{◌≡◌, ◌==◌, [], ◌∷◌, ◌++◌, length, OnOk, OnErr};
+ghost use Rattle.std.specs.Prelude.{◌≡◌, ◌==◌, [], ◌∷◌, ◌++◌, length, All, ◌≤◌, OnOk, OnErr};
+ghost use Rattle.weld_tree.specs.TypeTree.{pack, type_nodes, types_nodes};
 
 use crate::ty::{Ty, Tys};
 use std::alloc::{AllocError, Global};
@@ -28,9 +29,11 @@ impl Tys {
         items
     }
 
-    /// The types.
+    /// The types. None has more nodes than all of them together.
+    #[tactic(auto, using(crate::proofs::Fields::types_parts))]
     pub fn as_slice(&self) -> &[Ty]
-        ensures { result.now ≡ self.now }
+        ensures value { result.now ≡ self.now }
+        ensures parts { All (λ t. type_nodes t ≤ types_nodes (pack self.now)) result.now }
     {
         self.items.as_slice()
     }
