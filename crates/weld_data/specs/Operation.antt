@@ -3,6 +3,7 @@ use Rattle.std.specs.Prelude.{Bool, true, false, not, if◌then◌else◌, ℤ, 
 use Rattle.std.specs.Int.{int_min, int_max}
 use Rattle.std.specs.Ordering.{int_eq}
 use Rattle.weld_data.specs.declared.kind.Kind.{Kind}
+use Rattle.weld_data.specs.declared.kind.Kind.TheVariants as kinds
 use Rattle.weld_data.specs.declared.op.BinOp.{BinOp}
 use Rattle.weld_data.specs.declared.op.BinOp.TheVariants.{Add, Sub, Mul, Div, Rem, Eq, Ne, Lt, Le, Gt, Ge}
 use Rattle.weld_data.specs.declared.op.MergeOp.{MergeOp}
@@ -26,6 +27,20 @@ abbrev pub Divides : BinOp → Type 0
 Divides Div = Unit {0}
 Divides Rem = Unit {0}
 Divides _ = ⊥
+
+-- the kind of the operator's answer: comparisons answer truth values
+abbrev pub answer_kind : BinOp → Kind → Kind
+answer_kind Add kind = kind
+answer_kind Sub kind = kind
+answer_kind Mul kind = kind
+answer_kind Div kind = kind
+answer_kind Rem kind = kind
+answer_kind Eq kind = kinds.Bool
+answer_kind Ne kind = kinds.Bool
+answer_kind Lt kind = kinds.Bool
+answer_kind Le kind = kinds.Bool
+answer_kind Gt kind = kinds.Bool
+answer_kind Ge kind = kinds.Bool
 
 -- the wrapped sum, difference, product or quotient, truncated; the remainder, with the sign of the dividend; or the truth of the comparison. A quotient or a remainder by 0 is none
 abbrev pub operation : BinOp → Kind → ℤ → ℤ → Option ℤ

@@ -1,10 +1,11 @@
 //! Operations on the numbers of one kind.
 
-ghost use Rattle.std.specs.Prelude.{◌≡◌, ◌≢◌, ◌↔◌, pos, ◌+ℤ◌, ◌-ℤ◌, ◌*ℤ◌, int_div, int_rem, IsNone};
+ghost use Rattle.std.specs.Prelude.{◌≡◌, ◌≢◌, ◌↔◌, pos, ◌+ℤ◌, ◌-ℤ◌, ◌*ℤ◌, int_div, int_rem, IsNone, IfSome};
 ghost use Rattle.weld_data.specs.Kind as kinds;
+ghost use Rattle.weld_data.specs.declared.kind.Kind.TheVariants as kind_names;
 ghost use Rattle.weld_data.specs.Kind.{IsInteger, InRange};
 ghost use Rattle.weld_data.specs.Wrapped.{wrapped};
-ghost use Rattle.weld_data.specs.Operation.{truth, operation, combination, start_of, TakesKind, Divides};
+ghost use Rattle.weld_data.specs.Operation.{truth, operation, combination, start_of, answer_kind, TakesKind, Divides};
 
 use crate::kind::Kind;
 use crate::op::{BinOp, MergeOp};
@@ -32,6 +33,7 @@ pub fn binary(op: BinOp, kind: Kind, x: i128, y: i128) -> Option<i128>
     requires takes { TakesKind op kind }
     ensures value { result ≡ operation op kind x y }
     ensures none { IsNone result ↔ (Divides op × (y ≡ pos 0)) }
+    ensures in_range { IfSome result (InRange (answer_kind op kind)) }
 {
     match op {
         BinOp::Add => Some(sum(kind, x, y)),
@@ -107,7 +109,8 @@ fn least(kind: Kind) -> i128
 
 /// 1 for true, 0 for false.
 fn number_of(test: bool) -> i128
-    ensures { result ≡ truth test }
+    ensures value { result ≡ truth test }
+    ensures in_range { InRange kind_names.Bool result }
 {
     if test { 1 } else { 0 }
 }
@@ -128,7 +131,8 @@ fn difference(kind: Kind, x: i128, y: i128) -> i128
     requires integer { IsInteger kind }
     requires left { InRange kind x }
     requires right { InRange kind y }
-    ensures { result ≡ wrapped kind (x -ℤ y) }
+    ensures value { result ≡ wrapped kind (x -ℤ y) }
+    ensures in_range { InRange kind result }
 {
     wrap(kind, x - y)
 }
@@ -150,7 +154,8 @@ fn quotient(kind: Kind, x: i128, y: i128) -> i128
     requires left { InRange kind x }
     requires right { InRange kind y }
     requires divides { y ≢ pos 0 }
-    ensures { result ≡ wrapped kind (int_div x y) }
+    ensures value { result ≡ wrapped kind (int_div x y) }
+    ensures in_range { InRange kind result }
 {
     wrap(kind, x / y)
 }
@@ -160,7 +165,8 @@ fn remainder(kind: Kind, x: i128, y: i128) -> i128
     requires left { InRange kind x }
     requires right { InRange kind y }
     requires divides { y ≢ pos 0 }
-    ensures { result ≡ int_rem x y }
+    ensures value { result ≡ int_rem x y }
+    ensures in_range { InRange kind result }
 {
     x % y
 }

@@ -1,5 +1,5 @@
 -- The steps of the sums.
-use Rattle.std.proofs.Common.{◌≡◌, ◌≢◌, ℕ, ◌+◌, ◌<◌, ◌^◌, ◌%◌, List, [], ◌∷◌, length, drop, get_or, Option, Some, None, refl, sym, ap, ◌∙◌, arith, ℤ, pos, ◌+ℤ◌, ◌-ℤ◌, ◌*ℤ◌, w64, to_z}
+use Rattle.std.proofs.Common.{◌≡◌, ◌≢◌, ℕ, ◌+◌, ◌<◌, ◌≤◌, ◌^◌, ◌%◌, List, [], ◌∷◌, length, drop, get_or, Option, Some, None, refl, sym, ap, ◌∙◌, arith, ℤ, pos, ◌+ℤ◌, ◌-ℤ◌, ◌*ℤ◌, w64, to_z}
 use Rattle.std.specs.Prelude.{int_div}
 use Rattle.std.specs.Option.{option_and_then}
 use Rattle.std.specs.Int.{int_wrap, int_wrapping_div, cast_signed}
@@ -42,3 +42,8 @@ difference_is left right xs = same (Two Minus left right) (λ x y. wrapped I64 (
 
 pub product_is : (left right : Atom) (xs : List ℤ) → total (Two Times left right) xs ≡ Some (total_by (λ x y. wrapped I64 (x *ℤ y)) left right 0 (pos 0) xs)
 product_is left right xs = same (Two Times left right) (λ x y. wrapped I64 (x *ℤ y)) left right (λ n x. refl) 0 (pos 0) xs
+
+-- the first row, and then the others
+pub total_first : (body : Body) (n : ℕ) (sum : ℤ) (xs : List ℤ) → 1 ≤ length xs → total_from body n sum xs ≡ option_and_then (λ value. total_from body (n + 1) (wrapped I64 (sum +ℤ value)) (drop 1 xs)) (body_value body n (get_or xs 0 (pos 0)))
+total_first body n sum [] h = absurd (omega arith)
+total_first body n sum (x ∷ xs) h = refl

@@ -1,5 +1,7 @@
 ghost use Rattle.std.specs.Prelude.{◌≤◌};
 
+use crate::first_form::{Atom, Body, Operator};
+use crate::plain::plain_total;
 use crate::{Status, weld_main};
 use std::alloc::{AllocError, Global};
 use std::test::Fail;
@@ -123,6 +125,85 @@ static SUMS: [(&str, &str, Status, &str); 33] = [
     ("x", "[1] 2", Status::Unfit, "parameter 1: DATA\n"),
     ("x", "1", Status::Unfit, "parameter 1: DATA\n"),
 ];
+
+/// Expressions and vectors, read by hand.
+static READ: [(&str, Body, &str, &[i64]); 11] = [
+    (
+        "x * x",
+        Body::Two(Operator::Times, Atom::Element, Atom::Element),
+        "[1,2,3]",
+        &[1, 2, 3],
+    ),
+    ("x", Body::One(Atom::Element), "[]", &[]),
+    (
+        "x",
+        Body::One(Atom::Element),
+        "[9223372036854775807,1]",
+        &[i64::MAX, 1],
+    ),
+    ("i", Body::One(Atom::Row), "[0,0,0,0]", &[0, 0, 0, 0]),
+    (
+        "i - x",
+        Body::Two(Operator::Minus, Atom::Row, Atom::Element),
+        "[7,-7]",
+        &[7, -7],
+    ),
+    (
+        "5L + i",
+        Body::Two(Operator::Plus, Atom::Literal(5), Atom::Row),
+        "[1,1]",
+        &[1, 1],
+    ),
+    (
+        "x * 3L",
+        Body::Two(Operator::Times, Atom::Element, Atom::Literal(3)),
+        "[-9223372036854775808]",
+        &[i64::MIN],
+    ),
+    (
+        "10L / x",
+        Body::Two(Operator::Over, Atom::Literal(10), Atom::Element),
+        "[-3,4]",
+        &[-3, 4],
+    ),
+    (
+        "10L / x",
+        Body::Two(Operator::Over, Atom::Literal(10), Atom::Element),
+        "[2,0]",
+        &[2, 0],
+    ),
+    (
+        "x / i",
+        Body::Two(Operator::Over, Atom::Element, Atom::Row),
+        "[5]",
+        &[5],
+    ),
+    (
+        "9223372036854775807L / x",
+        Body::Two(Operator::Over, Atom::Literal(i64::MAX), Atom::Element),
+        "[-1,-1]",
+        &[-1, -1],
+    ),
+];
+
+/// What is written is what the plain slow program finds, row after row.
+#[test]
+fn plain_meaning(rt: HostRuntime) -> Result<(), Fail> {
+    for (expression, body, vector, elements) in &READ {
+        let answer = match plain_total(*body, 0, 0, elements) {
+            Some(value) => format!(in rt.alloc(); "{value}\n")?,
+            None => String::from_str(rt.alloc(), "fault\n")?,
+        };
+        let job = sum_of(rt.alloc(), expression, vector)?;
+        let outcome = call(rt.alloc(), &["run"], job.as_str(), (1000, 1000), (0, 0))?;
+        assert_eq!(rt;
+            outcome.held.as_slice(),
+            answer.as_bytes(),
+            "{expression} over {vector}"
+        );
+    }
+    Ok(())
+}
 
 #[test]
 fn sums(rt: HostRuntime) -> Result<(), Fail> {
