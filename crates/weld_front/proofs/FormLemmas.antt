@@ -1,7 +1,7 @@
 -- Reading a program of the first form finds just the texts that spell one.
-use Rattle.std.proofs.Common.{◌≡◌, ℕ, ◌≤◌, Bool, true, false, ◌==◌, cond, IsTrue, List, [], ◌∷◌, ◌++◌, Option, Some, None, refl, sym, ap, subst, ◌∙◌, append_assoc, append-nil, not, arith, pos, codes, rules, IfSome, IfNone}
+use Rattle.std.proofs.Common.{◌≡◌, ℕ, ◌≤◌, Bool, true, false, ◌==◌, cond, IsTrue, List, [], ◌∷◌, ◌++◌, Option, Some, None, refl, sym, ap, subst, ◌∙◌, append_assoc, append-nil, not, arith, pos, codes, IfSome, IfNone}
 use Rattle.std.specs.Option.{option_map, option_and_then}
-use Rattle.std.proofs.lemmas.Bool.{false≢true, and_parts, eqb-true}
+use Rattle.std.proofs.lemmas.Bool.{and_parts, eqb-true}
 use Rattle.weld_front.specs.Spelling.{is_blank, all_blank, is_digit, all_digits, Matches, IsNumeral}
 use Rattle.weld_front.specs.FirstForm.{opening, closing, SpellsAtom, operator_pattern, SpellsBody, IsFirstForm}
 use Rattle.weld_front.specs.Reading.{after_blanks, after_byte, after_pattern, magnitude_at, or_else, literal_at, atom_at, operator_of, operator_first, operator_at, body_from, body_at, if_empty, first_form_of}
@@ -11,8 +11,8 @@ use Rattle.weld_front.specs.declared.first_form.Operator.{Operator}
 use Rattle.weld_front.specs.declared.first_form.Operator.TheVariants.{Plus, Minus, Times, Over}
 use Rattle.weld_front.specs.declared.first_form.Body.{Body}
 use Rattle.weld_front.specs.declared.first_form.Body.TheVariants.{One, Two}
-use Rattle.weld_front.proofs.Patterns.{some_is, none_is, bind_some, byte_taken, byte_there, Gap, blanks_split, blanks_skip, bare_stays, is_bare, Takes, pattern_taken, pattern_there, pattern_there_bare}
-use Rattle.weld_front.proofs.Numerals.{ends_number, TakesNumeral, number_taken, number_there}
+use Rattle.weld_front.proofs.Patterns.{some_is, none_is, bind_some, byte_taken, blanks_split, blanks_skip, bare_stays, is_bare, pattern_taken, pattern_there, pattern_there_bare}
+use Rattle.weld_front.proofs.Numerals.{number_taken, number_there}
 
 -- ---- atoms
 

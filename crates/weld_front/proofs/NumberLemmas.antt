@@ -1,17 +1,16 @@
 -- Reading numbers with commas between them finds just the texts that spell some.
-use Rattle.std.proofs.Common.{◌≡◌, ◌≢◌, ℕ, ◌+◌, ◌<◌, ◌≤◌, zero, suc, Bool, true, false, ◌==◌, ◌⊎◌, inl, inr, cond, not, IsTrue, List, [], ◌∷◌, ◌++◌, length, Option, Some, None, refl, sym, ap, subst, ◌∙◌, append_assoc, append-nil, length-append, arith, ℤ, pos, neg_ℤ, codes, rules}
+use Rattle.std.proofs.Common.{◌≡◌, ◌≢◌, ℕ, ◌<◌, ◌≤◌, zero, suc, Bool, true, false, ◌==◌, ◌⊎◌, inl, inr, cond, not, IsTrue, List, [], ◌∷◌, ◌++◌, length, Option, Some, None, refl, sym, ap, subst, ◌∙◌, append_assoc, append-nil, length-append, arith, ℤ, pos, neg_ℤ, codes}
 use Rattle.std.specs.Option.{option_map, option_and_then}
 use Rattle.std.specs.Bool.{MatchBool}
-use Rattle.std.specs.List.{AllByRecursion}
 use Rattle.std.proofs.lemmas.Bool.{false≢true, and_parts, both_ways}
 use Rattle.std.proofs.lemmas.Int.{ints}
 use Rattle.weld_data.specs.Kind.{InRange}
 use Rattle.weld_data.specs.declared.kind.Kind.TheVariants.{I64}
 use Rattle.weld_front.specs.Spelling.{is_blank, all_blank, is_digit, all_digits, Matches, IsNumeral}
-use Rattle.weld_front.specs.Numbers.{SpellsInteger, SpellsItems, SpellsVector, ReadsAs}
-use Rattle.weld_front.specs.Reading.{after_blanks, after_byte, after_step, after_pattern, magnitude_at, signed_at, integer_at, IsTail, ends}
-use Rattle.weld_front.proofs.Patterns.{some_is, none_is, byte_taken, byte_there, blanks_skip, blanks_only, bare_stays, is_bare, Takes, pattern_taken, pattern_there, pattern_there_bare}
-use Rattle.weld_front.proofs.Numerals.{ends_number, TakesNumeral, number_taken, number_there}
+use Rattle.weld_front.specs.Numbers.{SpellsInteger, ReadsAs}
+use Rattle.weld_front.specs.Reading.{after_blanks, after_byte, after_pattern, magnitude_at, signed_at, integer_at, IsTail, ends}
+use Rattle.weld_front.proofs.Patterns.{some_is, none_is, byte_taken, blanks_skip, blanks_only, bare_stays, is_bare, pattern_taken, pattern_there, pattern_there_bare}
+use Rattle.weld_front.proofs.Numerals.{ends_number, number_taken, number_there}
 use Rattle.weld_front.proofs.FormLemmas.{map_some, digits_bare}
 
 -- ---- one number

@@ -1,6 +1,6 @@
 -- Reading the digits at the front of a text finds just the numerals that end there.
-use Rattle.std.proofs.Common.{◌≡◌, ◌≢◌, ℕ, ◌+◌, ◌*◌, ◌-◌, ◌<◌, ◌≤◌, Bool, true, false, ◌&&◌, cond, not, IsTrue, List, [], ◌∷◌, ◌++◌, length, Option, Some, None, refl, sym, ap, ◌∙◌, arith, nat_le, if◌then◌else◌}
-use Rattle.std.proofs.lemmas.Bool.{false≢true, and_parts, and_from, both_ways, leb-true, le-leb, not-true}
+use Rattle.std.proofs.Common.{◌≡◌, ◌≢◌, ℕ, ◌<◌, ◌≤◌, Bool, true, false, cond, not, IsTrue, List, [], ◌∷◌, ◌++◌, length, Option, Some, None, refl, sym, ap, ◌∙◌, arith, nat_le}
+use Rattle.std.proofs.lemmas.Bool.{and_parts, and_from, leb-true, not-true}
 use Rattle.weld_front.specs.Spelling.{is_digit, all_digits, value_after, IsNumeral}
 use Rattle.weld_front.specs.Reading.{digit_run, after_digits, magnitude_of, magnitude_at}
 use Rattle.weld_front.proofs.Patterns.{some_is, none_is}

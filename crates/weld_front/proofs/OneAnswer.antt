@@ -1,5 +1,5 @@
 -- A job has one answer at most.
-use Rattle.std.proofs.Common.{◌≡◌, ℕ, ◌⊎◌, inl, inr, Bool, true, false, List, [], ◌∷◌, Option, Some, None, sym, ap, subst, refl, ◌∙◌, ℤ}
+use Rattle.std.proofs.Common.{◌≡◌, ℕ, inl, inr, Bool, true, false, List, [], ◌∷◌, Option, Some, None, sym, ap, refl, ◌∙◌, ℤ}
 use Rattle.std.specs.Bool.{MatchBool}
 use Rattle.weld_tree.specs.declared.code.Code.{Code}
 use Rattle.weld_job.specs.Blocks.{job_of}
@@ -10,7 +10,7 @@ use Rattle.weld_job.specs.declared.block.BlockForm.TheVariants as forms
 use Rattle.weld_front.specs.FirstForm.{IsFirstForm}
 use Rattle.weld_front.specs.Numbers.{ReadsAs}
 use Rattle.weld_front.specs.Total.{total}
-use Rattle.weld_front.specs.Answer.{Answers, AnswersParts, is_too_long, Fits, FitsBlocks, IsUnfit, IsUnfitBlock, IsUnfitBlocks, value_text, unfit_text}
+use Rattle.weld_front.specs.Answer.{Answers, AnswersParts, is_too_long, Fits, FitsBlocks, IsUnfitBlock, IsUnfitBlocks, value_text, unfit_text}
 use Rattle.weld_front.specs.declared.first_form.Body.{Body}
 use Rattle.weld_front.specs.declared.status.Status.{Status}
 use Rattle.weld_front.specs.declared.status.Status.TheVariants.{Done, Fault, Words, Refused, Unfit, Read, Write, Memory}

@@ -1,8 +1,7 @@
 -- The steps of the sums.
-use Rattle.std.proofs.Common.{◌≡◌, ◌≢◌, ℕ, ◌+◌, ◌<◌, ◌≤◌, ◌^◌, ◌%◌, List, [], ◌∷◌, length, drop, get_or, Option, Some, None, refl, sym, ap, ◌∙◌, arith, ℤ, pos, ◌+ℤ◌, ◌-ℤ◌, ◌*ℤ◌, w64, to_z}
-use Rattle.std.specs.Prelude.{int_div}
+use Rattle.std.proofs.Common.{◌≡◌, ℕ, ◌+◌, ◌<◌, ◌≤◌, ◌^◌, ◌%◌, List, [], ◌∷◌, length, drop, get_or, Option, Some, refl, ap, ◌∙◌, arith, ℤ, pos, ◌+ℤ◌, ◌-ℤ◌, ◌*ℤ◌, w64}
 use Rattle.std.specs.Option.{option_and_then}
-use Rattle.std.specs.Int.{int_wrap, int_wrapping_div, cast_signed}
+use Rattle.std.specs.Int.{int_wrap, cast_signed}
 use Rattle.std.proofs.lemmas.List.{at_drop_more}
 use Rattle.weld_data.specs.Wrapped.{wrapped}
 use Rattle.weld_data.specs.declared.kind.Kind.TheVariants.{I64}
@@ -11,7 +10,7 @@ use Rattle.weld_front.specs.Reading.{total_by}
 use Rattle.weld_front.specs.declared.first_form.Atom.{Atom}
 use Rattle.weld_front.specs.declared.first_form.Body.{Body}
 use Rattle.weld_front.specs.declared.first_form.Body.TheVariants.{One, Two}
-use Rattle.weld_front.specs.declared.first_form.Operator.TheVariants.{Plus, Minus, Times, Over}
+use Rattle.weld_front.specs.declared.first_form.Operator.TheVariants.{Plus, Minus, Times}
 
 -- a number of 64 bits, taken as one of kind i64
 pub row_number : (n : ℕ) → n < 2 ^ 64 → cast_signed w64 n ≡ wrapped I64 (pos n)

@@ -1,9 +1,9 @@
 -- The sum of a program of the first form, all rows at once.
-use Rattle.std.proofs.Common.{◌≡◌, ℕ, ◌+◌, List, [], ◌∷◌, map, Bool, true, false, ◌||◌, ◌↔◌, Option, Some, None, sym, ap, refl, ◌∙◌, ℤ, pos, ◌+ℤ◌, IsTrue, IsNone, w64, arith}
+use Rattle.std.proofs.Common.{◌≡◌, ℕ, ◌+◌, List, [], ◌∷◌, map, ◌||◌, Option, Some, None, sym, ap, refl, ◌∙◌, ℤ, pos, ◌+ℤ◌, w64, arith}
 use Rattle.std.specs.Option.{option_and_then, is_none}
 use Rattle.std.specs.Int.{int_wrap}
 use Rattle.std.specs.List.{list_any}
-use Rattle.std.proofs.lemmas.Int.{int_wrap-add_left, int_wrap-add_right, ints}
+use Rattle.std.proofs.lemmas.Int.{int_wrap-add_left, ints}
 use Rattle.weld_data.specs.Wrapped.{wrapped}
 use Rattle.weld_data.specs.declared.kind.Kind.TheVariants.{I64}
 use Rattle.weld_front.specs.Total.{body_value, total_from, total, row_values, whole_sum}

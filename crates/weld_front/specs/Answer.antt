@@ -1,5 +1,5 @@
 -- What `weld run` answers to a job: a status and a text. From the Weld papers' meaning; the texts and the order of refusals by this project's profile.
-use Rattle.std.specs.Prelude.{◌≡◌, ℕ, ◌⊎◌, Bool, true, false, nat_lt, IsTrue, List, [], ◌∷◌, ◌++◌, Option, Some, None, ℤ, length, take, codes, IfSome}
+use Rattle.std.specs.Prelude.{◌≡◌, ℕ, ◌⊎◌, Bool, true, false, nat_lt, List, [], ◌∷◌, ◌++◌, Option, Some, None, ℤ, length, take, codes, IfSome}
 use Rattle.std.specs.Bool.{MatchBool}
 use Rattle.std.specs.Fmt.{decimal, signed_decimal}
 use Rattle.std.specs.Io.KnownBytes.{Appends, IsAtEnd}
@@ -16,7 +16,7 @@ use Rattle.weld_front.specs.FirstForm.{IsFirstForm}
 use Rattle.weld_front.specs.Numbers.{ReadsAs}
 use Rattle.weld_front.specs.Total.{total}
 use Rattle.weld_front.specs.declared.status.Status.{Status}
-use Rattle.weld_front.specs.declared.status.Status.TheVariants.{Done, Fault, Words, Refused, Unfit, Read, Write, Memory}
+use Rattle.weld_front.specs.declared.status.Status.TheVariants.{Done, Fault, Refused, Unfit, Read, Write, Memory}
 use Rattle.weld_front.specs.declared.first_form.Body.{Body}
 
 -- ---- the data of a program with one parameter of type vec[i64]

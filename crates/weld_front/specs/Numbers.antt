@@ -1,5 +1,5 @@
 -- What a data block of type vec[i64] reads as, by this project's profile of Weld.
-use Rattle.std.specs.Prelude.{◌≡◌, ℕ, ◌≤◌, ◌⊎◌, List, [], ◌∷◌, ◌++◌, ℤ, pos, neg_ℤ, codes}
+use Rattle.std.specs.Prelude.{◌≡◌, ℕ, ◌⊎◌, List, [], ◌∷◌, ◌++◌, ℤ, pos, neg_ℤ, codes}
 use Rattle.std.specs.List.{AllByRecursion}
 use Rattle.weld_data.specs.Kind.{InRange}
 use Rattle.weld_data.specs.declared.kind.Kind.TheVariants.{I64}

@@ -1,5 +1,5 @@
 -- What a program of the first form means: the sum of its expression over the rows, one after another. From the Weld papers; wrapping and the fault at a zero divisor by this project's profile.
-use Rattle.std.specs.Prelude.{◌≡◌, ℕ, ◌+◌, List, [], ◌∷◌, Option, Some, None, ℤ, pos, ◌+ℤ◌, option_and_then}
+use Rattle.std.specs.Prelude.{ℕ, ◌+◌, List, [], ◌∷◌, Option, Some, ℤ, pos, ◌+ℤ◌, option_and_then}
 use Rattle.weld_data.specs.Wrapped.{wrapped}
 use Rattle.weld_data.specs.Operation.{operation}
 use Rattle.weld_data.specs.declared.kind.Kind.TheVariants.{I64}

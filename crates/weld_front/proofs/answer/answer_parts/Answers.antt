@@ -1,9 +1,9 @@
-use Rattle.std.proofs.Common.{List, ℕ, ℤ, subst, Some, sym, ◌∙◌, ap, ◌≡◌, refl}
+use Rattle.std.proofs.Common.{List, ℕ, subst}
 use Rattle.weld_front.specs.FirstForm.{IsFirstForm}
 use Rattle.weld_front.specs.declared.first_form.Body.{Body}
 use Rattle.weld_front.specs.declared.answer.Data.{Data}
 use Rattle.weld_front.specs.Data.{DataSays}
-use Rattle.weld_front.proofs.Answering.{refused_parts, unfit_parts, concluded_parts, some_at}
+use Rattle.weld_front.proofs.Answering.{refused_parts, unfit_parts, concluded_parts}
 use Rattle.weld_front.proofs.answer.answer_parts.Goals as goal
 
 pub returns-in_default : goal.returns-in_default

@@ -1,4 +1,4 @@
-use Rattle.std.proofs.Common.{List, ℕ, ℤ, subst, Some, sym, ◌∙◌, ◌≡◌, ◌<◌, arith, length}
+use Rattle.std.proofs.Common.{List, ℕ, subst, ◌<◌, arith, length}
 use Rattle.std.proofs.lemmas.Bool.Decides.{nat_tests}
 use Rattle.weld_front.specs.Numbers.{ReadsAs}
 use Rattle.weld_front.proofs.Answering.{extra_unfit, some_at}

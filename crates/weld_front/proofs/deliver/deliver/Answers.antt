@@ -1,7 +1,3 @@
-use Rattle.std.proofs.Common.{length, Result, OnErr, sym, subst, List, ℕ}
-use Rattle.std.proofs.lemmas.Result.{on_err_weaker}
-use Rattle.std.specs.Io.KnownBytes.{Appends}
-use Rattle.weld_front.specs.Answer.{AppendsFront}
 use Rattle.weld_front.proofs.Sinks.{appends_keeps, appends_all}
 use Rattle.weld_front.proofs.deliver.deliver.Goals as goal
 

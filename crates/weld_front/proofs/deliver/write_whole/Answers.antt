@@ -1,4 +1,4 @@
-use Rattle.std.proofs.Common.{arith, length, List, ℕ, take, drop, ap, length-drop, subst, ◌-◌}
+use Rattle.std.proofs.Common.{arith, length, List, ℕ, take, ap, length-drop, subst}
 use Rattle.std.specs.Io.KnownBytes.{Appends}
 use Rattle.weld_front.proofs.Sinks.{appends_more, rest_whole}
 use Rattle.weld_front.proofs.deliver.write_whole.Goals as goal

@@ -1,4 +1,4 @@
-use Rattle.std.proofs.Common.{rules, ◌≡◌, ℤ, List, ℕ, [], ◌∷◌, ◌++◌, sym, ◌∙◌, Some, None, ap, subst, append_assoc, arith, w64, FitsSigned, to_z, of_z}
+use Rattle.std.proofs.Common.{rules, ◌≡◌, ℤ, List, [], ◌∷◌, ◌++◌, sym, ◌∙◌, ap, subst, append_assoc, arith, w64, FitsSigned}
 use Rattle.std.proofs.lemmas.Int.{to_z-of_z}
 use Rattle.weld_front.specs.Reading.{IsTail}
 use Rattle.weld_front.proofs.NumberLemmas.{no_number, last_found, last_none, after_comma_found, after_comma_only, integer_shorter, pattern_no_longer, comma}

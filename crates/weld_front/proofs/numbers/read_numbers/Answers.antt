@@ -1,4 +1,4 @@
-use Rattle.std.proofs.Common.{◌≡◌, ℤ, List, [], sym, ◌∙◌, subst, Option, Some, None, IfSome, IfNone}
+use Rattle.std.proofs.Common.{ℤ, List, sym, ◌∙◌, subst, Option, Some, None, IfSome, IfNone}
 use Rattle.std.proofs.lemmas.Result.{IfOk-weaker}
 use Rattle.weld_front.specs.Numbers.{ReadsAs}
 use Rattle.weld_front.specs.Reading.{IsTail}

@@ -1,4 +1,4 @@
-use Rattle.std.proofs.Common.{rules, arith, ◌≡◌, ℕ, ◌+◌, ◌-◌, List, length, get_or, drop, take, Option, Some, sym, ap, ◌∙◌, ℤ, pos, ◌+ℤ◌, FitsSigned, w64, to_z, of_z}
+use Rattle.std.proofs.Common.{rules, arith, ◌≡◌, ◌+◌, ◌-◌, length, get_or, drop, take, Option, Some, sym, ap, ◌∙◌, ℤ, pos, ◌+ℤ◌, FitsSigned, w64, to_z, of_z}
 use Rattle.std.specs.Int.{w128}
 use Rattle.std.specs.Option.{option_and_then}
 use Rattle.std.proofs.lemmas.Int.{to_z-of_z}
@@ -22,9 +22,9 @@ returns-in_ok-value-in-len1-up t c =
     let fits_sum : FitsSigned w128 c.combine.result = search rules in
     let row : body_value body n z ≡ Some value = sym (c.in_ok-value-in-len1-up.ensures.value ∙ ap (body_value body n) (to_z-of_z w64 z fits_z)) in
     let sum : c.combine.result ≡ wrapped I64 (c.args.sum +ℤ value) =
-        c.combine.ensures.value
-        ∙ ap (λ (x : ℤ). wrapped I64 (x +ℤ to_z w128 (of_z w128 value))) (to_z-of_z w128 c.args.sum c.ranges.sum)
-        ∙ ap (λ (x : ℤ). wrapped I64 (c.args.sum +ℤ x)) (to_z-of_z w128 value fits_value) in
+    c.combine.ensures.value
+    ∙ ap (λ (x : ℤ). wrapped I64 (x +ℤ to_z w128 (of_z w128 value))) (to_z-of_z w128 c.args.sum c.ranges.sum)
+    ∙ ap (λ (x : ℤ). wrapped I64 (c.args.sum +ℤ x)) (to_z-of_z w128 value fits_value) in
     let rest : take (length xs - 1) (drop 1 xs) ≡ drop 1 xs = take_all (length xs - 1) (drop 1 xs) (omega (arith, length-drop 1 xs)) in
     c.plain_total.ensures
     ∙ ap (λ (x : ℤ). total_from body (n + 1) x (take (length xs - 1) (drop 1 xs))) (to_z-of_z w128 c.combine.result fits_sum ∙ sum)

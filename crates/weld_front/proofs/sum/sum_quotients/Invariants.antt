@@ -1,4 +1,4 @@
-use Rattle.std.proofs.Common.{◌≡◌, drop, pos}
+use Rattle.std.proofs.Common.{◌≡◌, drop}
 use Rattle.weld_front.specs.Total.{total_from, total}
 use Rattle.weld_front.specs.declared.first_form.Body.TheVariants.{Two}
 use Rattle.weld_front.specs.declared.first_form.Operator.TheVariants.{Over}
