@@ -2,10 +2,10 @@
 #![tactic(auto)]
 
 use std::alloc::AllocError;
+use std::env;
 use std::io::{self, ErrorKind};
 use std::process::ExitCode;
 use std::rt::Env;
-use std::env;
 use weld_front::{Status, weld_main};
 use weld_ports::{NoGate, StdinSource, StdoutSink};
 
@@ -31,7 +31,13 @@ fn main(rt: HostRuntime) -> ExitCode {
     let mut input = StdinSource::new(rt.reader());
     let mut output = StdoutSink::new(io::writer(&rt));
     let status = match read_words(&rt) {
-        Ok(words) => weld_main(rt.alloc(), words.as_slice(), &mut input, &mut output, &NoGate),
+        Ok(words) => weld_main(
+            rt.alloc(),
+            words.as_slice(),
+            &mut input,
+            &mut output,
+            &NoGate,
+        ),
         Err(_) => Status::Memory,
     };
     ExitCode::from(status.exit())
