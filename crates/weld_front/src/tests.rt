@@ -334,6 +334,13 @@ fn failing_writes(rt: HostRuntime) -> Result<(), Fail> {
             );
             assert_eq!(rt; outcome.settled, 0);
         }
+        // A sink that takes all at once is called twice: one write of the whole answer, and one flush.
+        let outcome = call(rt.alloc(), &[word], job, (1000, 1000), (0, 2))?;
+        assert_eq!(rt; outcome.status, Status::Write, "{answer}, the flush");
+        assert_eq!(rt; outcome.held.as_slice(), answer.as_bytes());
+        assert_eq!(rt; outcome.settled, 0);
+        let outcome = call(rt.alloc(), &[word], job, (1000, 1000), (0, 3))?;
+        assert_eq!(rt; outcome.settled, answer.len(), "{answer}, no third call");
     }
     Ok(())
 }
