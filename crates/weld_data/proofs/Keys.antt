@@ -1,5 +1,5 @@
 -- Laws of the order of keys.
-use Rattle.std.proofs.Common.{◌≡◌, ◌⊎◌, inl, inr, ⊎_elim, ℕ, ◌<◌, zero, suc, ℤ, ◌<ℤ◌, List, [], ◌∷◌, map, length, take, slice_get, Some, Ordering, Less, Equal, Greater, int_cmp, nat_cmp, Bool, true, false, pos, min, take_all, ap, ap₂, sym, subst, subst₂, refl, ◌∙◌, arith}
+use Rattle.std.proofs.Common.{◌≡◌, ◌⊎◌, inl, inr, ⊎_elim, ℕ, ◌<◌, zero, suc, ℤ, ◌<ℤ◌, List, [], ◌∷◌, map, length, take, slice_get, Some, IfSome, Ordering, Less, Equal, Greater, int_cmp, nat_cmp, Bool, true, false, pos, min, take_all, ap, ap₂, sym, subst, subst₂, refl, ◌∙◌, arith}
 use Rattle.std.proofs.lemmas.Int.{ints, by_lt_z}
 use Rattle.std.specs.Ordering.{MatchOrdering, ordering_then, bool_cmp}
 use Rattle.std.specs.Cmp.{ranks, int_ranks}
@@ -11,7 +11,7 @@ use Rattle.weld_data.specs.declared.value.Val.TheVariants as val
 use Rattle.weld_data.specs.Operation.{truth}
 use Rattle.weld_data.specs.Value.{Value, number, list, struct, dict, Values, no_values, and_value, values}
 use Rattle.weld_data.specs.View.{view_val}
-use Rattle.weld_data.specs.Order.{KeyLess, LexLess, KeyStands, ListStands, AreNumbers, SameKeyType, SameFieldTypes}
+use Rattle.weld_data.specs.Order.{KeyLess, LexLess, KeyStands, ListStands, AreNumbers, IsNumber, IsKeyField, AreKeyFields, IsKey, SameFieldType, SameFieldTypes, SameKeyType, FieldType, number_of, list_of, KeyType, one_field, fields, HasFieldType, HaveFieldTypes, HasKeyType}
 
 -- ---- a strict order
 
@@ -97,23 +97,41 @@ under_struct Less xs ys h = h
 under_struct Equal xs ys h = ap struct h
 under_struct Greater xs ys h = h
 
-mutual
-  pub keys_compare : (x y : Value) → SameKeyType x y → Compares x y
-  keys_compare (number k x) (number m y) s = numbers_compare k m x y s
-  keys_compare (number k x) _ s = absurd s
-  keys_compare (list xs) (list ys) s =
-      let c = lists_compare s.0 xs ys s.1 s.2 in (c.0, under_list c.0 xs ys c.1)
-  keys_compare (list xs) _ s = absurd s
-  keys_compare (struct xs) (struct ys) s = let c = fields_compare xs ys s in (c.0, under_struct c.0 xs ys c.1)
-  keys_compare (struct xs) _ s = absurd s
-  keys_compare (dict es) _ s = absurd s
+field_compares : (x y : Value) → SameFieldType x y → Compares x y
+field_compares (number k x) (number m y) s = numbers_compare k m x y s
+field_compares (number k x) _ s = absurd s
+field_compares (list xs) (list ys) s =
+    let c = lists_compare s.0 xs ys s.1 s.2 in (c.0, under_list c.0 xs ys c.1)
+field_compares (list xs) _ s = absurd s
+field_compares (struct xs) _ s = absurd s
+field_compares (dict es) _ s = absurd s
 
-  fields_compare : (xs ys : Values) → SameFieldTypes xs ys → LexCompares xs ys
-  fields_compare no_values no_values s = (Equal, refl)
-  fields_compare no_values (and_value y ys) s = absurd s
-  fields_compare (and_value x xs) no_values s = absurd s
-  fields_compare (and_value x xs) (and_value y ys) s =
-      step x y xs ys (keys_compare x y s.0) (fields_compare xs ys s.1)
+fields_compare : (xs ys : Values) → SameFieldTypes xs ys → LexCompares xs ys
+fields_compare no_values no_values s = (Equal, refl)
+fields_compare no_values (and_value y ys) s = absurd s
+fields_compare (and_value x xs) no_values s = absurd s
+fields_compare (and_value x xs) (and_value y ys) s =
+    step x y xs ys (field_compares x y s.0) (fields_compare xs ys s.1)
+
+-- keys of one type are structs whose fields are so, or else key fields of one type
+pub by_key_type : {P : Type 0} (x y : Value) → SameKeyType x y → (SameFieldType x y → P) → ((xs ys : Values) → x ≡ struct xs → y ≡ struct ys → SameFieldTypes xs ys → P) → P
+by_key_type (number k x) (number m y) s f g = f s
+by_key_type (number k x) _ s f g = absurd s
+by_key_type (list xs) (list ys) s f g = f s
+by_key_type (list xs) _ s f g = absurd s
+by_key_type (struct no_values) _ s f g = absurd s
+by_key_type (struct (and_value x xs)) (struct (and_value y ys)) s f g = g (and_value x xs) (and_value y ys) refl refl s
+by_key_type (struct (and_value x xs)) _ s f g = absurd s
+by_key_type (dict es) _ s f g = absurd s
+
+-- those that aren't structs both
+pub key_fields : (x y : Value) → SameKeyType x y → ((xs ys : Values) → x ≡ struct xs → y ≡ struct ys → ⊥) → SameFieldType x y
+key_fields x y s n = by_key_type x y s (λ h. h) (λ xs ys p q t. absurd (n xs ys p q))
+
+keys_compare : (x y : Value) → SameKeyType x y → Compares x y
+keys_compare x y s =
+    by_key_type x y s (field_compares x y)
+    (λ xs ys p q t. let c = fields_compare xs ys t in (c.0, subst₂ (KeyStands c.0) (sym p) (sym q) (under_struct c.0 xs ys c.1)))
 
 pub KeyLess_total : (x y : Value) → SameKeyType x y → KeyLess x y ⊎ ((x ≡ y) ⊎ KeyLess y x)
 KeyLess_total x y s = let c = keys_compare x y s in by c.0 c.1
@@ -123,21 +141,112 @@ KeyLess_total x y s = let c = keys_compare x y s in by c.0 c.1
     by Equal h = inr (inl h)
     by Greater h = inr (inr h)
 
-mutual
-  pub SameKeyType_sym : (x y : Value) → SameKeyType x y → SameKeyType y x
-  SameKeyType_sym (number k x) (number m y) s = sym s
-  SameKeyType_sym (number k x) _ s = absurd s
-  SameKeyType_sym (list xs) (list ys) s = (s.0, s.2, s.1)
-  SameKeyType_sym (list xs) _ s = absurd s
-  SameKeyType_sym (struct xs) (struct ys) s = SameFieldTypes_sym xs ys s
-  SameKeyType_sym (struct xs) _ s = absurd s
-  SameKeyType_sym (dict es) _ s = absurd s
+SameFieldType_sym : (x y : Value) → SameFieldType x y → SameFieldType y x
+SameFieldType_sym (number k x) (number m y) s = sym s
+SameFieldType_sym (number k x) _ s = absurd s
+SameFieldType_sym (list xs) (list ys) s = (s.0, s.2, s.1)
+SameFieldType_sym (list xs) _ s = absurd s
+SameFieldType_sym (struct xs) _ s = absurd s
+SameFieldType_sym (dict es) _ s = absurd s
 
-  SameFieldTypes_sym : (xs ys : Values) → SameFieldTypes xs ys → SameFieldTypes ys xs
-  SameFieldTypes_sym no_values no_values s = tt
-  SameFieldTypes_sym no_values (and_value y ys) s = absurd s
-  SameFieldTypes_sym (and_value x xs) no_values s = absurd s
-  SameFieldTypes_sym (and_value x xs) (and_value y ys) s = (SameKeyType_sym x y s.0, SameFieldTypes_sym xs ys s.1)
+SameFieldTypes_sym : (xs ys : Values) → SameFieldTypes xs ys → SameFieldTypes ys xs
+SameFieldTypes_sym no_values no_values s = tt
+SameFieldTypes_sym no_values (and_value y ys) s = absurd s
+SameFieldTypes_sym (and_value x xs) no_values s = absurd s
+SameFieldTypes_sym (and_value x xs) (and_value y ys) s = (SameFieldType_sym x y s.0, SameFieldTypes_sym xs ys s.1)
+
+pub SameKeyType_sym : (x y : Value) → SameKeyType x y → SameKeyType y x
+SameKeyType_sym (number k x) (number m y) s = sym s
+SameKeyType_sym (number k x) _ s = absurd s
+SameKeyType_sym (list xs) (list ys) s = (s.0, s.2, s.1)
+SameKeyType_sym (list xs) _ s = absurd s
+SameKeyType_sym (struct no_values) _ s = absurd s
+SameKeyType_sym (struct (and_value x xs)) (struct (and_value y ys)) s = (SameFieldType_sym x y s.0, SameFieldTypes_sym xs ys s.1)
+SameKeyType_sym (struct (and_value x xs)) _ s = absurd s
+SameKeyType_sym (dict es) _ s = absurd s
+
+-- ---- keys of one key type
+
+field_types_agree : (t : FieldType) (x y : Value) → HasFieldType t x → HasFieldType t y → SameFieldType x y
+field_types_agree (number_of kind) (number k x) (number m y) p q = p ∙ sym q
+field_types_agree (number_of kind) (number k x) _ p q = absurd q
+field_types_agree (number_of kind) _ _ p q = absurd p
+field_types_agree (list_of kind) (list xs) (list ys) p q = (kind, p, q)
+field_types_agree (list_of kind) (list xs) _ p q = absurd q
+field_types_agree (list_of kind) _ _ p q = absurd p
+
+all_field_types_agree : (ts : List FieldType) (xs ys : Values) → HaveFieldTypes ts xs → HaveFieldTypes ts ys → SameFieldTypes xs ys
+all_field_types_agree [] no_values no_values p q = tt
+all_field_types_agree [] no_values (and_value y ys) p q = absurd q
+all_field_types_agree [] (and_value x xs) _ p q = absurd p
+all_field_types_agree (t ∷ ts) no_values _ p q = absurd p
+all_field_types_agree (t ∷ ts) (and_value x xs) no_values p q = absurd q
+all_field_types_agree (t ∷ ts) (and_value x xs) (and_value y ys) p q =
+    (field_types_agree t x y p.0 q.0, all_field_types_agree ts xs ys p.1 q.1)
+
+from_fields : (x y : Value) → SameFieldType x y → SameKeyType x y
+from_fields (number k x) (number m y) s = s
+from_fields (number k x) _ s = absurd s
+from_fields (list xs) (list ys) s = s
+from_fields (list xs) _ s = absurd s
+from_fields (struct xs) _ s = absurd s
+from_fields (dict es) _ s = absurd s
+
+pub key_types_agree : (t : KeyType) (x y : Value) → HasKeyType t x → HasKeyType t y → SameKeyType x y
+key_types_agree (one_field t) x y p q = from_fields x y (field_types_agree t x y p q)
+key_types_agree (fields t ts) (struct no_values) _ p q = absurd p
+key_types_agree (fields t ts) (struct (and_value x xs)) (struct no_values) p q = absurd q
+key_types_agree (fields t ts) (struct (and_value x xs)) (struct (and_value y ys)) p q =
+    all_field_types_agree (t ∷ ts) (and_value x xs) (and_value y ys) p q
+key_types_agree (fields t ts) (struct (and_value x xs)) _ p q = absurd q
+key_types_agree (fields t ts) _ _ p q = absurd p
+
+field_of_type : (t : FieldType) (x : Value) → HasFieldType t x → IsKeyField x
+field_of_type (number_of kind) (number k x) p = tt
+field_of_type (number_of kind) _ p = absurd p
+field_of_type (list_of kind) (list xs) p = (kind, p)
+field_of_type (list_of kind) _ p = absurd p
+
+fields_of_types : (ts : List FieldType) (xs : Values) → HaveFieldTypes ts xs → AreKeyFields xs
+fields_of_types [] no_values p = tt
+fields_of_types [] (and_value x xs) p = absurd p
+fields_of_types (t ∷ ts) no_values p = absurd p
+fields_of_types (t ∷ ts) (and_value x xs) p = (field_of_type t x p.0, fields_of_types ts xs p.1)
+
+key_of_field : (x : Value) → IsKeyField x → IsKey x
+key_of_field (number k x) p = tt
+key_of_field (list xs) p = p
+key_of_field (struct xs) p = absurd p
+key_of_field (dict es) p = absurd p
+
+pub key_of_type : (t : KeyType) (x : Value) → HasKeyType t x → IsKey x
+key_of_type (one_field t) x p = key_of_field x (field_of_type t x p)
+key_of_type (fields t ts) (struct no_values) p = absurd p
+key_of_type (fields t ts) (struct (and_value x xs)) p = fields_of_types (t ∷ ts) (and_value x xs) p
+key_of_type (fields t ts) _ p = absurd p
+
+-- a key has a key type
+abbrev FieldTyped : Value → Type 0
+FieldTyped x = (t : FieldType) × HasFieldType t x
+
+field_typed : (x : Value) → IsKeyField x → FieldTyped x
+field_typed (number k x) p = (number_of k, refl)
+field_typed (list xs) p = (list_of p.0, p.1)
+field_typed (struct xs) p = absurd p
+field_typed (dict es) p = absurd p
+
+fields_typed : (xs : Values) → AreKeyFields xs → (ts : List FieldType) × HaveFieldTypes ts xs
+fields_typed no_values p = ([], tt)
+fields_typed (and_value x xs) p =
+    let a = field_typed x p.0 in let b = fields_typed xs p.1 in (a.0 ∷ b.0, (a.1, b.1))
+
+pub key_typed : (x : Value) → IsKey x → (t : KeyType) × HasKeyType t x
+key_typed (number k x) p = (one_field (number_of k), refl)
+key_typed (list xs) p = (one_field (list_of p.0), p.1)
+key_typed (struct no_values) p = absurd p
+key_typed (struct (and_value x xs)) p =
+    let a = field_typed x p.0 in let b = fields_typed xs p.1 in (fields a.0 b.0, (a.1, b.1))
+key_typed (dict es) p = absurd p
 
 -- ---- lists of the code
 
@@ -227,11 +336,11 @@ take-agree (a ∷ xs) (b ∷ ys) zero x y p q s e = let ab : a ≡ b = cc in ap 
 take-agree (a ∷ xs) (b ∷ ys) (suc i) x y p q s e =
     let ab : a ≡ b = cc in let rest : take i xs ≡ take i ys = cc in ap₂ ◌∷◌ ab (take-agree xs ys i x y p q s rest)
 
-pub fields_at : (xs ys : List Value) (i : ℕ) (x y : Value) → SameFieldTypes (values xs) (values ys) → slice_get xs i ≡ Some x → slice_get ys i ≡ Some y → SameKeyType x y
+pub fields_at : (xs ys : List Value) (i : ℕ) (x y : Value) → SameFieldTypes (values xs) (values ys) → slice_get xs i ≡ Some x → slice_get ys i ≡ Some y → SameFieldType x y
 fields_at [] ys i x y s p q = cc
 fields_at (a ∷ xs) [] i x y s p q = cc
 fields_at (a ∷ xs) (b ∷ ys) zero x y s p q =
-    let ax : a ≡ x = cc in let by : b ≡ y = cc in subst (λ w. SameKeyType w y) ax (subst (SameKeyType a) by s.0)
+    let ax : a ≡ x = cc in let by : b ≡ y = cc in subst (λ w. SameFieldType w y) ax (subst (SameFieldType a) by s.0)
 fields_at (a ∷ xs) (b ∷ ys) (suc i) x y s p q = fields_at xs ys i x y s.1 p q
 
 pub length-fields : (xs ys : List Value) → SameFieldTypes (values xs) (values ys) → length xs ≡ length ys
@@ -249,16 +358,20 @@ kind_at kind (struct ys ∷ xs) i k x a p = absurd a
 kind_at kind (dict es ∷ xs) i k x a p = absurd a
 
 -- what stands in a list of numbers is a number
-pub number_there : (kind : Kind) (xs : List Value) (i : ℕ) (v : Val) → AreNumbers kind (values xs) → slice_get xs i ≡ Some (view_val v) → ((n : Num) → v ≡ val.Num n → ⊥) → ⊥
-number_there kind [] i v a p h = cc
-number_there kind (number k x ∷ xs) zero (val.Num n) a p h = h n refl
-number_there kind (number k x ∷ xs) zero (val.List c) a p h = cc
-number_there kind (number k x ∷ xs) zero (val.Struct c) a p h = cc
-number_there kind (number k x ∷ xs) zero (val.Dict c) a p h = cc
-number_there kind (number k x ∷ xs) (suc i) v a p h = number_there kind xs i v a.1 p h
-number_there kind (list ys ∷ xs) i v a p h = absurd a
-number_there kind (struct ys ∷ xs) i v a p h = absurd a
-number_there kind (dict es ∷ xs) i v a p h = absurd a
+pub number_there : (kind : Kind) (xs : List Value) (i : ℕ) → AreNumbers kind (values xs) → IfSome (slice_get xs i) IsNumber
+number_there kind [] i a = tt
+number_there kind (number k x ∷ xs) zero a = tt
+number_there kind (number k x ∷ xs) (suc i) a = number_there kind xs i a.1
+number_there kind (list ys ∷ xs) i a = absurd a
+number_there kind (struct ys ∷ xs) i a = absurd a
+number_there kind (dict es ∷ xs) i a = absurd a
+
+-- and is kept as one
+pub number_is_num : (v : Val) → IsNumber (view_val v) → ((n : Num) → v ≡ val.Num n → ⊥) → ⊥
+number_is_num (val.Num n) h f = f n refl
+number_is_num (val.List c) h f = h
+number_is_num (val.Struct c) h f = h
+number_is_num (val.Dict c) h f = h
 
 -- a list of numbers of one kind, as a typed column has it
 pub AreNumbers-map : {T : Type 0} (kind : Kind) (f : T → ℤ) (xs : List T) → AreNumbers kind (values (map (λ (x : T). number kind (f x)) xs))

@@ -4,6 +4,6 @@ pub mod Keys
 pub mod Lookups
 pub mod Operations
 pub mod Ranges
-pub mod Sums
+pub mod Rising
 pub mod Views
 pub mod Wrapping

@@ -86,10 +86,13 @@ value_of_key-none (e ∷ es) key h =
 
 -- each key is less than each later one
 pub KeyLess-rises : (es : List (Value × Value)) (i j : ℕ) (d e : Value × Value) → Rises es → i < j → slice_get es i ≡ Some d → slice_get es j ≡ Some e → KeyPrecedes d.0 e.0
-KeyLess-rises es i j d e r h p q = subst₂ (λ (a b : Value × Value). KeyPrecedes a.0 b.0) (slice_index_or-get es i d d p) (slice_index_or-get es j e d q) (r i j d h (slice_get_within es j e q))
+KeyLess-rises es i j d e r h p q = subst₂ (λ (a b : Value × Value). KeyPrecedes a.0 b.0) (slice_index_or-get es i d d p) (slice_index_or-get es j e d q) (r.rise i j d h (slice_get_within es j e q))
 
 Rises-tail : (e : Value × Value) (es : List (Value × Value)) → Rises (e ∷ es) → Rises es
-Rises-tail e es r i j d h l = r (suc i) (suc j) d (omega arith) (omega arith)
+Rises-tail e es r = record {
+  keys = λ i d h. r.keys (suc i) d (omega arith);
+  rise = λ i j d h l. r.rise (suc i) (suc j) d (omega arith) (omega arith);
+}
 
 -- the keys rise, so no earlier entry has the key
 pub value_of_key-at : (es : List (Value × Value)) (key : Value) (i : ℕ) (e : Value × Value) → Rises es → slice_get es i ≡ Some e → e.0 ≡ key → value_of_key es key ≡ Some e.1

@@ -1,4 +1,3 @@
-pub mod Callers
 pub mod Deeper
 pub mod Depth
 pub mod Kind

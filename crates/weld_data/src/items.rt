@@ -112,6 +112,3 @@ impl<T: Copy> Items<T> {
         self.items.extend_from_slice(items)
     }
 }
-
-#[cfg(test)]
-mod tests;

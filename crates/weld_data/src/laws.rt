@@ -8,7 +8,7 @@ ghost use Rattle.weld_data.specs.Kind.{InRange};
 ghost use Rattle.weld_data.specs.Wrapped.{wrapped, IsWrapped};
 ghost use Rattle.weld_data.specs.Operation.{operation, combination, start_of, Divides};
 ghost use Rattle.weld_data.specs.Value.{Value};
-ghost use Rattle.weld_data.specs.Order.{KeyLess, SameKeyType};
+ghost use Rattle.weld_data.specs.Order.{KeyLess, IsKey, SameKeyType, KeyType, HasKeyType};
 ghost use Rattle.weld_data.specs.Lookup.{same_value};
 
 use crate::kind::Kind;
@@ -60,9 +60,12 @@ pub fn key_order()
     ensures total { (x y : Value) → SameKeyType x y → KeyLess x y ⊎ ((x ≡ y) ⊎ KeyLess y x) }
 {}
 
-/// To be keys of one type is symmetric.
+/// To be keys of one type is symmetric. Keys that have one key type are of one type, and whatever has a key type is a key.
 pub fn one_key_type()
-    ensures { (x y : Value) → SameKeyType x y → SameKeyType y x }
+    ensures symmetric { (x y : Value) → SameKeyType x y → SameKeyType y x }
+    ensures shared { (t : KeyType) (x y : Value) → HasKeyType t x → HasKeyType t y → SameKeyType x y }
+    ensures is_key { (t : KeyType) (x : Value) → HasKeyType t x → IsKey x }
+    ensures has_type { (x : Value) → IsKey x → (t : KeyType) × HasKeyType t x }
 {}
 
 /// The test of equality of two values.

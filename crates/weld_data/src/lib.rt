@@ -6,8 +6,6 @@
 //! lists themselves, and `Pairs` keeps that its keys rise.
 #![tactic(auto)]
 
-#[cfg(test)]
-mod callers;
 pub mod items;
 pub mod kind;
 pub mod laws;

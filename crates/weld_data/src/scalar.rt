@@ -170,6 +170,3 @@ fn remainder(kind: Kind, x: i128, y: i128) -> i128
 {
     x % y
 }
-
-#[cfg(test)]
-mod tests;

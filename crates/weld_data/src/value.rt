@@ -70,7 +70,7 @@ impl Model for Vals {
     ghost size_decreases = { λ a h. Prim.omega (arith, most_le-depth_vals a.items.items) };
 }
 
-/// The entries of a dictionary, their keys strictly rising and of one key type.
+/// The entries of a dictionary: each key is one, and they strictly rise and are of one key type.
 #[cycle(value)]
 #[derive(Debug, Drop)]
 pub struct Pairs {
@@ -244,9 +244,9 @@ impl Pairs {
 }
 
 impl Column {
-    ghost use Rattle.std.specs.Prelude.{◌≡◌, ◌==◌, ◌<◌, length, slice_get, Some, IfOk};
-    ghost use Rattle.weld_data.specs.Value.{number, values};
-    ghost use Rattle.weld_data.specs.Order.{HaveOneKind};
+    ghost use Rattle.std.specs.Prelude.{◌≡◌, ◌==◌, ◌<◌, length, slice_get, Some, IfOk, IfSome};
+    ghost use Rattle.weld_data.specs.Value.{number};
+    ghost use Rattle.weld_data.specs.Order.{IsNumber};
     ghost use Rattle.weld_data.specs.View.{view_val, view_column};
 
     /// How many elements there are.
@@ -270,10 +270,10 @@ impl Column {
         self.len() == 0
     }
 
-    /// The number at an index, from 0, of a column of numbers of one kind. It takes no memory.
+    /// The number at an index, from 0, where a number stands. It takes no memory.
     pub fn number_at(&self, index: usize) -> Num
         requires within { index < length (view_column self.now) }
-        requires numbers { HaveOneKind (values (view_column self.now)) }
+        requires number { IfSome (slice_get (view_column self.now) index) IsNumber }
         ensures { slice_get (view_column self.now) index ≡ Some (number result.kind result.value) }
     {
         match self {
@@ -304,6 +304,3 @@ impl Column {
         }
     }
 }
-
-#[cfg(test)]
-mod tests;

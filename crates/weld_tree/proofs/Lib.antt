@@ -1,4 +1,3 @@
 pub mod Fields
 pub mod Parts
-pub mod Zeroed
 pub mod SameLaws

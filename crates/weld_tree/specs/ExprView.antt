@@ -1,42 +1,68 @@
 -- The program's expressions seen as plain data.
-use Rattle.std.specs.Prelude.{Some, None}
 use Rattle.weld_tree.specs.TypeView.{view_build}
-use Rattle.weld_tree.specs.ExprTree.{ExprTree, At, leaf, one, two, three, many, let_in, loop, iterate, LegTree, whole, strided, pack_exprs, pack_legs, int, truth, chars, name, fresh, neg, not, cast, len, field, finish, started, binary, and, or, look_up, key_exists, merge, if_else, select, slice, make_vec, make_struct}
+use Rattle.weld_tree.specs.ExprTree.{ExprTree, At, leaf, one, two, three, many, let_in, loop, iterate, LegTree, whole, strided, pack_exprs, pack_legs, Leaf, int, truth, chars, name, fresh, One, neg, not, cast, len, field, finish, started, Two, binary, and, or, look_up, key_exists, merge, Three, if_else, select, slice, Many, make_vec, make_struct}
 use Rattle.weld_tree.specs.declared.expr.Form.{Form}
-use Rattle.weld_tree.specs.declared.expr.Form.TheVariants.{Int, Truth, Chars, Name, Let, Neg, Not, Binary, And, Or, Cast, If, Select, LookUp, KeyExists, Len, Slice, Field, MakeVec, MakeStruct, Builder, Merge, Finish, For, Iterate}
+use Rattle.weld_tree.specs.declared.expr.Form.TheVariants as form
+use Rattle.weld_tree.specs.declared.expr.LeafForm.{LeafForm}
+use Rattle.weld_tree.specs.declared.expr.LeafForm.TheVariants as leaf_form
+use Rattle.weld_tree.specs.declared.expr.OneForm.{OneForm}
+use Rattle.weld_tree.specs.declared.expr.OneForm.TheVariants as one_form
+use Rattle.weld_tree.specs.declared.expr.TwoForm.{TwoForm}
+use Rattle.weld_tree.specs.declared.expr.TwoForm.TheVariants as two_form
+use Rattle.weld_tree.specs.declared.expr.ThreeForm.{ThreeForm}
+use Rattle.weld_tree.specs.declared.expr.ThreeForm.TheVariants as three_form
+use Rattle.weld_tree.specs.declared.expr.ManyForm.{ManyForm}
+use Rattle.weld_tree.specs.declared.expr.ManyForm.TheVariants as many_form
 use Rattle.weld_tree.specs.declared.expr.Leg.{Leg}
 use Rattle.weld_tree.specs.declared.expr.Leg.TheVariants.{Whole, Strided}
 
 -- a leg as plain data
 abbrev pub view_leg : Leg → LegTree
-view_leg (Whole e) = whole e
-view_leg (Strided e f g h) = strided e f g h
+view_leg (Whole e) = whole e.value
+view_leg (Strided e f g h) = strided e.value f.value g.value h.value
+
+-- the forms as plain data, by their number of parts
+
+abbrev pub view_leaf : LeafForm → Leaf
+view_leaf (leaf_form.Int k x) = int k x
+view_leaf (leaf_form.Truth b) = truth b
+view_leaf (leaf_form.Chars bs) = chars bs
+view_leaf (leaf_form.Name s) = name s.0
+view_leaf (leaf_form.Builder b) = fresh (view_build b)
+
+abbrev pub view_one : OneForm → One
+view_one one_form.Neg = neg
+view_one one_form.Not = not
+view_one (one_form.Cast k) = cast k
+view_one one_form.Len = len
+view_one (one_form.Field n) = field n
+view_one one_form.Finish = finish
+view_one (one_form.Builder b) = started (view_build b)
+
+abbrev pub view_two : TwoForm → Two
+view_two (two_form.Binary op) = binary op
+view_two two_form.And = and
+view_two two_form.Or = or
+view_two two_form.LookUp = look_up
+view_two two_form.KeyExists = key_exists
+view_two two_form.Merge = merge
+
+abbrev pub view_three : ThreeForm → Three
+view_three three_form.If = if_else
+view_three three_form.Select = select
+view_three three_form.Slice = slice
+
+abbrev pub view_many : ManyForm → Many
+view_many many_form.Vec = make_vec
+view_many many_form.Struct = make_struct
 
 -- an expression as plain data, by its form and by what stands at its node
 abbrev pub view_form : Form → At → ExprTree
-view_form (Int k x) at = leaf at (int k x)
-view_form (Truth b) at = leaf at (truth b)
-view_form (Chars bs) at = leaf at (chars bs)
-view_form (Name s) at = leaf at (name s.0)
-view_form (Let b e f) at = let_in at b e.value f.value
-view_form (Neg e) at = one at neg e.value
-view_form (Not e) at = one at not e.value
-view_form (Binary op e f) at = two at (binary op) e.value f.value
-view_form (And e f) at = two at and e.value f.value
-view_form (Or e f) at = two at or e.value f.value
-view_form (Cast k e) at = one at (cast k) e.value
-view_form (If c e f) at = three at if_else c.value e.value f.value
-view_form (Select c e f) at = three at select c.value e.value f.value
-view_form (LookUp e f) at = two at look_up e.value f.value
-view_form (KeyExists e f) at = two at key_exists e.value f.value
-view_form (Len e) at = one at len e.value
-view_form (Slice e f g) at = three at slice e.value f.value g.value
-view_form (Field e n) at = one at (field n) e.value
-view_form (MakeVec es) at = many at make_vec (pack_exprs es)
-view_form (MakeStruct es) at = many at make_struct (pack_exprs es)
-view_form (Builder b None) at = leaf at (fresh (view_build b))
-view_form (Builder b (Some e)) at = one at (started (view_build b)) e.value
-view_form (Merge e f) at = two at merge e.value f.value
-view_form (Finish e) at = one at finish e.value
-view_form (For ls e b n x f) at = loop at (pack_legs ls) e.value b n x f.value
-view_form (Iterate e b f) at = iterate at e.value b f.value
+view_form (form.Leaf l) at = leaf at (view_leaf l)
+view_form (form.One o e) at = one at (view_one o) e.value
+view_form (form.Two t e f) at = two at (view_two t) e.value f.value
+view_form (form.Three t e f g) at = three at (view_three t) e.value f.value g.value
+view_form (form.Many m es) at = many at (view_many m) (pack_exprs es)
+view_form (form.Let b e f) at = let_in at b e.value f.value
+view_form (form.For ls e b n x f) at = loop at (pack_legs ls) e.value b n x f.value
+view_form (form.Iterate e b f) at = iterate at e.value b f.value

@@ -12,5 +12,4 @@ pub mod ExprView
 pub mod LegFalls
 pub mod Program
 pub mod Blank
-pub mod Callers
 pub mod Lending

@@ -64,14 +64,11 @@ abbrev pub HasTypes : TypeTrees → Type 0
 HasTypes no_types = ⊥
 HasTypes (more_types t ts) = Unit {0}
 
--- dictionaries may have keys of the type: a scalar, a vector of scalars, or a struct of such fields
--- (this project's profile)
+-- dictionaries may have keys of the type: a key field, or a struct of such
+-- (the Weld papers; which ones, by this project's profile)
 abbrev pub IsKey : TypeTree → Type 0
-IsKey (scalar k) = Unit {0}
-IsKey (vec t) = IsScalarType t
 IsKey (struct ts) = HasTypes ts × AreKeyFields ts
-IsKey (dict k v) = ⊥
-IsKey (build b) = ⊥
+IsKey t = IsKeyField t
 
 -- the type is well formed (this project's profile)
 abbrev mutual

@@ -6,7 +6,6 @@ use crate::ty::BuildTy;
 use std::marker::Model;
 use weld_data::{BinOp, Kind, Text};
 
-mod callers;
 mod copy;
 mod list;
 mod loops;
@@ -22,47 +21,79 @@ pub struct Expr {
     pub ty: Known,
 }
 
-/// What an expression is, one level of it.
+/// What an expression is, one level of it, by how many parts it has.
 #[cycle(expr)]
 #[derive(Drop)]
 pub enum Form {
-    Int(Kind, i128),
-    Truth(bool),
-    Chars(Text),
-    Name(Sym),
+    Leaf(LeafForm),
+    One(OneForm, Box<Expr>),
+    Two(TwoForm, Box<Expr>, Box<Expr>),
+    Three(ThreeForm, Box<Expr>, Box<Expr>, Box<Expr>),
+    Many(ManyForm, Exprs),
     /// The binder, its value, the body.
     Let(Binder, Box<Expr>, Box<Expr>),
-    Neg(Box<Expr>),
-    Not(Box<Expr>),
-    Binary(BinOp, Box<Expr>, Box<Expr>),
-    And(Box<Expr>, Box<Expr>),
-    Or(Box<Expr>, Box<Expr>),
-    Cast(Kind, Box<Expr>),
-    If(Box<Expr>, Box<Expr>, Box<Expr>),
-    Select(Box<Expr>, Box<Expr>, Box<Expr>),
-    LookUp(Box<Expr>, Box<Expr>),
-    KeyExists(Box<Expr>, Box<Expr>),
-    Len(Box<Expr>),
-    Slice(Box<Expr>, Box<Expr>, Box<Expr>),
-    Field(Box<Expr>, u32),
-    MakeVec(Exprs),
-    MakeStruct(Exprs),
-    /// A builder, perhaps from a starting value.
-    Builder(BuildTy, Option<Box<Expr>>),
-    Merge(Box<Expr>, Box<Expr>),
-    Finish(Box<Expr>),
     /// The legs, the builder, the binders of the builder, the row number and the row, the body.
     For(Legs, Box<Expr>, Binder, Binder, Binder, Box<Expr>),
     /// The state, its binder, the body.
     Iterate(Box<Expr>, Binder, Box<Expr>),
 }
 
+/// The forms without parts: an integer of a kind, a truth value, the bytes of a string, a use of a
+/// name, a builder without a starting value.
+#[derive(Drop)]
+pub enum LeafForm {
+    Int(Kind, i128),
+    Truth(bool),
+    Chars(Text),
+    Name(Sym),
+    Builder(BuildTy),
+}
+
+/// The forms of one part: `-e`, `!e`, `kind(e)`, `len(e)`, `e.$n`, `result(e)`, a builder from a
+/// starting value.
+#[derive(Drop)]
+pub enum OneForm {
+    Neg,
+    Not,
+    Cast(Kind),
+    Len,
+    Field(u32),
+    Finish,
+    Builder(BuildTy),
+}
+
+/// The forms of two parts: an operator between them, `&&`, `||`, `lookup`, `keyexists`, `merge`.
+#[derive(Clone, Copy, Debug, PartialEq, Eq)]
+pub enum TwoForm {
+    Binary(BinOp),
+    And,
+    Or,
+    LookUp,
+    KeyExists,
+    Merge,
+}
+
+/// The forms of three parts: `if`, `select`, `slice`.
+#[derive(Clone, Copy, Debug, PartialEq, Eq)]
+pub enum ThreeForm {
+    If,
+    Select,
+    Slice,
+}
+
+/// The forms of any number of parts, at least one: a vector, a struct.
+#[derive(Clone, Copy, Debug, PartialEq, Eq)]
+pub enum ManyForm {
+    Vec,
+    Struct,
+}
+
 /// A leg of a loop: a whole vector, or the elements of one from a start below an end by a stride.
 #[cycle(expr)]
 #[derive(Drop)]
 pub enum Leg {
-    Whole(Expr),
-    Strided(Expr, Expr, Expr, Expr),
+    Whole(Box<Expr>),
+    Strided(Box<Expr>, Box<Expr>, Box<Expr>, Box<Expr>),
 }
 
 /// A list of expressions.

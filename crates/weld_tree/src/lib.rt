@@ -14,13 +14,12 @@ pub mod ty;
 
 pub use binder::{Binder, Binders};
 pub use code::Code;
-pub use expr::{Expr, Exprs, Form, Leg, Legs, loops_of};
+pub use expr::{
+    Expr, Exprs, Form, LeafForm, Leg, Legs, ManyForm, OneForm, ThreeForm, TwoForm, loops_of,
+};
 pub use known::Known;
 pub use place::Place;
 pub use program::Program;
 pub use refusal::Refusal;
 pub use sym::Sym;
 pub use ty::{BuildTy, Ty, TyForm, Tys};
-
-#[cfg(test)]
-mod tests;

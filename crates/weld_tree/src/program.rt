@@ -12,7 +12,7 @@ use std::marker::Model;
 #[derive(Drop)]
 pub struct Program {
     pub params: Binders,
-    pub body: Expr,
+    pub body: Box<Expr>,
 }
 
 impl Model for Program {
@@ -22,9 +22,9 @@ impl Model for Program {
 
     ghost coded = { coded_program };
 
-    ghost view = { λ p. record { params = p.params; body = p.body } };
+    ghost view = { λ p. record { params = p.params; body = p.body.value } };
 
-    ghost invariant = { λ p. IsProgram p.params p.body };
+    ghost invariant = { λ p. IsProgram p.params p.body.value };
 }
 
 impl Program {
@@ -35,7 +35,7 @@ impl Program {
         let params = self.params.copy(alloc)?;
         Ok(Program {
             params,
-            body: self.body.copy(alloc)?,
+            body: self.body.boxed_copy(alloc)?,
         })
     }
 }

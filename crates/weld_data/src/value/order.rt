@@ -2,48 +2,47 @@
 
 ghost use Rattle.weld_data.specs.Value.{values};
 ghost use Rattle.weld_data.specs.View.{view_val, view_column};
-ghost use Rattle.weld_data.specs.Order.{KeyStands, ListStands, SameKeyType, SameNumberKinds, SameFieldTypes};
+ghost use Rattle.weld_data.specs.Order.{KeyStands, ListStands, SameKeyType, SameNumberKinds, SameFieldType, SameFieldTypes};
 
 use super::{Column, Val, Vals};
 use std::cmp::Ordering;
 
 /// How two keys of one type stand to each other: numbers by size, false before true;
 /// lists and structs lexicographically, a proper prefix first. It takes no memory.
-#[cycle(compare)]
 pub fn compare_keys(a: &Val, b: &Val) -> Ordering
     requires { SameKeyType (view_val a.now) (view_val b.now) }
     ensures { KeyStands result (view_val a.now) (view_val b.now) }
 {
-    match a {
-        Val::Num(x) => match b {
-            Val::Num(y) => x.value.cmp(&y.value),
-            _ => unreachable!(),
-        },
-        Val::List(x) => match b {
-            Val::List(y) => compare_columns(x, y),
-            _ => unreachable!(),
-        },
-        Val::Struct(x) => match b {
-            Val::Struct(y) => compare_fields(x, y),
-            _ => unreachable!(),
-        },
-        Val::Dict(_) => unreachable!(),
+    match (a, b) {
+        (Val::Struct(x), Val::Struct(y)) => compare_structs(x, y),
+        _ => compare_fields(a, b),
     }
 }
 
-/// The order of two structs by their fields, which are of one key type one by one.
-#[cycle(compare)]
-fn compare_fields(a: &Vals, b: &Vals) -> Ordering
+/// The order of two structs by their fields, which are of one type one by one.
+fn compare_structs(a: &Vals, b: &Vals) -> Ordering
     requires { SameFieldTypes (values a.now) (values b.now) }
     ensures { ListStands result a.now b.now }
 {
     for i in 0..a.len() {
-        match compare_keys(a.at(i), b.at(i)) {
+        match compare_fields(a.at(i), b.at(i)) {
             Ordering::Equal => {}
             unequal => return unequal,
         }
     }
     Ordering::Equal
+}
+
+/// The order of two key fields of one type: numbers by size, lists lexicographically.
+fn compare_fields(a: &Val, b: &Val) -> Ordering
+    requires { SameFieldType (view_val a.now) (view_val b.now) }
+    ensures { KeyStands result (view_val a.now) (view_val b.now) }
+{
+    match (a, b) {
+        (Val::Num(x), Val::Num(y)) => x.value.cmp(&y.value),
+        (Val::List(x), Val::List(y)) => compare_columns(x, y),
+        _ => unreachable!(),
+    }
 }
 
 /// The order of two lists of numbers of one kind.

@@ -1,9 +1,9 @@
 ghost use Rattle.std.specs.Prelude.{◌≡◌, IfOk};
 ghost use Rattle.weld_tree.specs.ExprTree.{At};
-ghost use Rattle.weld_tree.specs.ExprView.{view_form, view_leg};
+ghost use Rattle.weld_tree.specs.ExprView.{view_form, view_leaf, view_one, view_leg};
 
 use crate::binder::Binder;
-use crate::expr::{Expr, Exprs, Form, Leg, Legs};
+use crate::expr::{Expr, Exprs, Form, LeafForm, Leg, Legs, OneForm};
 use std::alloc::{AllocError, Global};
 use weld_data::Text;
 
@@ -36,74 +36,67 @@ impl Form {
         ensures { IfOk result (λ copy. (at : At) → view_form copy at ≡ view_form self.now at) }
     {
         match self {
-            Form::Int(kind, number) => Ok(Form::Int(*kind, *number)),
-            Form::Truth(truth) => Ok(Form::Truth(*truth)),
-            Form::Chars(text) => Ok(Form::Chars(Text::copy_of(alloc, text.as_slice())?)),
-            Form::Name(sym) => Ok(Form::Name(*sym)),
-            Form::Neg(e) => Ok(Form::Neg(e.boxed_copy(alloc)?)),
-            Form::Not(e) => Ok(Form::Not(e.boxed_copy(alloc)?)),
-            Form::Cast(kind, e) => Ok(Form::Cast(*kind, e.boxed_copy(alloc)?)),
-            Form::Len(e) => Ok(Form::Len(e.boxed_copy(alloc)?)),
-            Form::Field(e, place) => Ok(Form::Field(e.boxed_copy(alloc)?, *place)),
-            Form::Finish(e) => Ok(Form::Finish(e.boxed_copy(alloc)?)),
-            Form::MakeVec(es) => Ok(Form::MakeVec(es.copy(alloc)?)),
-            Form::MakeStruct(es) => Ok(Form::MakeStruct(es.copy(alloc)?)),
-            Form::Builder(build, None) => Ok(Form::Builder(build.copy(alloc)?, None)),
-            Form::Builder(build, Some(start)) => {
-                let build = build.copy(alloc)?;
-                Ok(Form::Builder(build, Some(start.boxed_copy(alloc)?)))
+            Form::Leaf(leaf) => Ok(Form::Leaf(leaf.copy(alloc)?)),
+            Form::One(one, e) => {
+                let one = one.copy(alloc)?;
+                Ok(Form::One(one, e.boxed_copy(alloc)?))
             }
-            Form::Binary(op, e, f) => {
+            Form::Two(two, e, f) => {
                 let (e, f) = boxed_two(alloc, e, f)?;
-                Ok(Form::Binary(*op, e, f))
+                Ok(Form::Two(*two, e, f))
             }
-            Form::And(e, f) => {
-                let (e, f) = boxed_two(alloc, e, f)?;
-                Ok(Form::And(e, f))
-            }
-            Form::Or(e, f) => {
-                let (e, f) = boxed_two(alloc, e, f)?;
-                Ok(Form::Or(e, f))
-            }
-            Form::LookUp(e, f) => {
-                let (e, f) = boxed_two(alloc, e, f)?;
-                Ok(Form::LookUp(e, f))
-            }
-            Form::KeyExists(e, f) => {
-                let (e, f) = boxed_two(alloc, e, f)?;
-                Ok(Form::KeyExists(e, f))
-            }
-            Form::Merge(e, f) => {
-                let (e, f) = boxed_two(alloc, e, f)?;
-                Ok(Form::Merge(e, f))
-            }
-            Form::If(e, f, g) => {
+            Form::Three(three, e, f, g) => {
                 let (e, f, g) = boxed_three(alloc, e, f, g)?;
-                Ok(Form::If(e, f, g))
+                Ok(Form::Three(*three, e, f, g))
             }
-            Form::Select(e, f, g) => {
-                let (e, f, g) = boxed_three(alloc, e, f, g)?;
-                Ok(Form::Select(e, f, g))
-            }
-            Form::Slice(e, f, g) => {
-                let (e, f, g) = boxed_three(alloc, e, f, g)?;
-                Ok(Form::Slice(e, f, g))
-            }
+            Form::Many(many, es) => Ok(Form::Many(*many, es.copy(alloc)?)),
             Form::Let(binder, e, f) => {
                 let binder = binder.copy(alloc)?;
                 let (e, f) = boxed_two(alloc, e, f)?;
                 Ok(Form::Let(binder, e, f))
-            }
-            Form::Iterate(e, binder, f) => {
-                let binder = binder.copy(alloc)?;
-                let (e, f) = boxed_two(alloc, e, f)?;
-                Ok(Form::Iterate(e, binder, f))
             }
             Form::For(legs, e, b, n, x, f) => {
                 let (b, n, x) = copy_binders(alloc, b, n, x)?;
                 let (legs, e, f) = copy_loop(alloc, legs, e, f)?;
                 Ok(Form::For(legs, e, b, n, x, f))
             }
+            Form::Iterate(e, binder, f) => {
+                let binder = binder.copy(alloc)?;
+                let (e, f) = boxed_two(alloc, e, f)?;
+                Ok(Form::Iterate(e, binder, f))
+            }
+        }
+    }
+}
+
+impl LeafForm {
+    /// A copy of the form.
+    pub fn copy(&self, alloc: Global) -> Result<LeafForm, AllocError>
+        ensures { IfOk result (λ copy. view_leaf copy ≡ view_leaf self.now) }
+    {
+        match self {
+            LeafForm::Int(kind, number) => Ok(LeafForm::Int(*kind, *number)),
+            LeafForm::Truth(truth) => Ok(LeafForm::Truth(*truth)),
+            LeafForm::Chars(text) => Ok(LeafForm::Chars(Text::copy_of(alloc, text.as_slice())?)),
+            LeafForm::Name(sym) => Ok(LeafForm::Name(*sym)),
+            LeafForm::Builder(build) => Ok(LeafForm::Builder(build.copy(alloc)?)),
+        }
+    }
+}
+
+impl OneForm {
+    /// A copy of the form.
+    pub fn copy(&self, alloc: Global) -> Result<OneForm, AllocError>
+        ensures { IfOk result (λ copy. view_one copy ≡ view_one self.now) }
+    {
+        match self {
+            OneForm::Neg => Ok(OneForm::Neg),
+            OneForm::Not => Ok(OneForm::Not),
+            OneForm::Cast(kind) => Ok(OneForm::Cast(*kind)),
+            OneForm::Len => Ok(OneForm::Len),
+            OneForm::Field(place) => Ok(OneForm::Field(*place)),
+            OneForm::Finish => Ok(OneForm::Finish),
+            OneForm::Builder(build) => Ok(OneForm::Builder(build.copy(alloc)?)),
         }
     }
 }
@@ -184,12 +177,10 @@ impl Leg {
         ensures { IfOk result (λ copy. view_leg copy ≡ view_leg self.now) }
     {
         match self {
-            Leg::Whole(e) => Ok(Leg::Whole(e.copy(alloc)?)),
+            Leg::Whole(e) => Ok(Leg::Whole(e.boxed_copy(alloc)?)),
             Leg::Strided(e, f, g, h) => {
-                let e = e.copy(alloc)?;
-                let f = f.copy(alloc)?;
-                let g = g.copy(alloc)?;
-                Ok(Leg::Strided(e, f, g, h.copy(alloc)?))
+                let (e, f, g) = boxed_three(alloc, e, f, g)?;
+                Ok(Leg::Strided(e, f, g, h.boxed_copy(alloc)?))
             }
         }
     }

@@ -21,29 +21,16 @@ impl Expr {
         ensures { result ≡ min (loops self.now) u64.MAX }
     {
         match &self.form {
-            Form::Int(_, _) | Form::Truth(_) | Form::Chars(_) | Form::Name(_) => 0,
-            Form::Builder(_, None) => 0,
-            Form::Builder(_, Some(e))
-            | Form::Neg(e)
-            | Form::Not(e)
-            | Form::Cast(_, e)
-            | Form::Len(e)
-            | Form::Field(e, _)
-            | Form::Finish(e) => e.loops(),
-            Form::Let(_, e, f)
-            | Form::Binary(_, e, f)
-            | Form::And(e, f)
-            | Form::Or(e, f)
-            | Form::LookUp(e, f)
-            | Form::KeyExists(e, f)
-            | Form::Merge(e, f)
-            | Form::Iterate(e, _, f) => e.loops().saturating_add(f.loops()),
-            Form::If(e, f, g) | Form::Select(e, f, g) | Form::Slice(e, f, g) => {
-                e.loops()
-                    .saturating_add(f.loops())
-                    .saturating_add(g.loops())
+            Form::Leaf(_) => 0,
+            Form::One(_, e) => e.loops(),
+            Form::Two(_, e, f) | Form::Let(_, e, f) | Form::Iterate(e, _, f) => {
+                e.loops().saturating_add(f.loops())
             }
-            Form::MakeVec(es) | Form::MakeStruct(es) => es.loops(),
+            Form::Three(_, e, f, g) => e
+                .loops()
+                .saturating_add(f.loops())
+                .saturating_add(g.loops()),
+            Form::Many(_, es) => es.loops(),
             Form::For(legs, builder, _, _, _, body) => {
                 let inside = builder.loops().saturating_add(body.loops());
                 legs.loops().saturating_add(inside).saturating_add(1)

@@ -28,13 +28,13 @@ abbrev pub decreases-copy::boxed_three : goal.decreases-copy::boxed_three
 decreases-copy::boxed_three l = 8 * (expr_nodes l.e.now + expr_nodes l.f.now + expr_nodes l.g.now) + 3
 
 abbrev pub decreases-copy::copy_loop : goal.decreases-copy::copy_loop
-decreases-copy::copy_loop l = 8 * (legs_nodes (pack_legs l.legs.now) + expr_nodes l.e.now + expr_nodes l.f.now) + 4
+decreases-copy::copy_loop l = 8 * (legs_nodes (pack_legs l.legs.now) + expr_nodes l.e.now + expr_nodes l.f.now) + 6
 
 abbrev pub decreases-Exprs::copy : goal.decreases-Exprs::copy
 decreases-Exprs::copy l = 8 * exprs_nodes (pack_exprs l.self.now) + 3
 
 abbrev pub decreases-Leg::copy : goal.decreases-Leg::copy
-decreases-Leg::copy l = 8 * leg_nodes (view_leg l.self.now) + 2
+decreases-Leg::copy l = 8 * leg_nodes (view_leg l.self.now) + 4
 
 abbrev pub decreases-Legs::copy : goal.decreases-Legs::copy
-decreases-Legs::copy l = 8 * legs_nodes (pack_legs l.self.now) + 3
+decreases-Legs::copy l = 8 * legs_nodes (pack_legs l.self.now) + 5

@@ -1,7 +1,10 @@
-use Rattle.weld_data.proofs.Keys.{number_there}
+use Rattle.std.proofs.Common.{IfSome, subst}
+use Rattle.weld_data.specs.Value.{Value}
+use Rattle.weld_data.specs.Order.{IsNumber}
+use Rattle.weld_data.proofs.Keys.{number_is_num}
 use Rattle.weld_data.proofs.value.Column.number_at.Goals as goal
 
 pub unreachable-requires : goal.unreachable-requires
 unreachable-requires c =
-    let numbers = rw c.in-Nest.is at c.requires.numbers in
-    number_there numbers.0 c.in-Nest.items c.args.index c.at.result.now numbers.1 c.at.ensures c.in_default.not-Num
+    let numbers = rw c.in-Nest.is at c.requires.number in
+    number_is_num c.at.result.now (rw c.at.ensures at numbers) c.in_default.not-Num

@@ -2,8 +2,14 @@ use Rattle.std.proofs.Common.{subst, sym, ap₂, ◌∙◌, add-one, min, length
 use Rattle.weld_data.specs.Value.{number}
 use Rattle.weld_data.specs.View.{view_column}
 use Rattle.weld_data.specs.Order.{KeyStands, ListStands}
-use Rattle.weld_data.proofs.Keys.{ListStands-at, ListStands-end, ints_stand, kind_at, take-agree}
+use Rattle.weld_data.proofs.Keys.{ListStands-at, ListStands-end, ints_stand, kind_at, number_there, take-agree}
 use Rattle.weld_data.proofs.value.order.compare_numbers.Goals as goal
+
+pub number_at-requires-clause-number : goal.number_at-requires-clause-number
+number_at-requires-clause-number c = number_there c.requires.0 (view_column c.args.a.now) c.loop-i.i c.requires.1
+
+pub number_at-requires-in-loop-i-clause-number : goal.number_at-requires-in-loop-i-clause-number
+number_at-requires-in-loop-i-clause-number c = number_there c.requires.0 (view_column c.args.b.now) c.loop-i.i c.requires.2
 
 pub returns-in_default : goal.returns-in_default
 returns-in_default c =
