@@ -25,6 +25,21 @@ impl<R: Read> StdinSource<R> {
     {
         StdinSource { reader, faults: 0 }
     }
+
+    /// How often a call of the reader failed, an interruption included.
+    pub fn faults(&self) -> u64
+        ensures { result ≡ ⟦<StdinSource<R> as Source>⟧.faults self.now }
+    {
+        self.faults
+    }
+
+    /// The reader, given up.
+    pub fn into_reader(self) -> R
+        ensures { R.remaining result ≡ ⟦<StdinSource<R> as Source>⟧.left self }
+    {
+        let StdinSource { reader, .. } = self;
+        reader
+    }
 }
 
 impl<R: Read> Source for StdinSource<R> {
@@ -51,7 +66,8 @@ impl<R: Read> Source for StdinSource<R> {
 
 /// A sink over a writer, as that of standard output. It tells the bytes that the writer tells, and
 /// standard output tells none. Each error of the writer, and a write that takes nothing, raises its count;
-/// a write that a signal interrupted is tried again, up to a hundred times.
+/// a write or a flush that a signal interrupted is tried again, up to a hundred times. Nothing is told of
+/// what a flush settles.
 #[derive(Drop)]
 pub struct StdoutSink<W> {
     writer: W,
@@ -65,6 +81,21 @@ impl<W: Write> StdoutSink<W> {
         ensures faults { ⟦<StdoutSink<W> as Sink>⟧.faults result ≡ 0 }
     {
         StdoutSink { writer, faults: 0 }
+    }
+
+    /// How often a call of the writer failed, an interruption and a write that took nothing included.
+    pub fn faults(&self) -> u64
+        ensures { result ≡ ⟦<StdoutSink<W> as Sink>⟧.faults self.now }
+    {
+        self.faults
+    }
+
+    /// The writer, given up.
+    pub fn into_writer(self) -> W
+        ensures { W.contents result ≡ ⟦<StdoutSink<W> as Sink>⟧.held self }
+    {
+        let StdoutSink { writer, .. } = self;
+        writer
     }
 }
 
@@ -93,12 +124,18 @@ impl<W: Write> Sink for StdoutSink<W> {
     }
 
     fn flush(&mut self) -> Result<(), WriteFailed> {
-        match self.writer.flush() {
-            Ok(()) => Ok(()),
-            Err(_) => {
-                self.faults = count_up(self.faults);
-                Err(WriteFailed)
+        for _ in 0..TRIES {
+            match self.writer.flush() {
+                Ok(()) => return Ok(()),
+                Err(error) => {
+                    self.faults = count_up(self.faults);
+                    if error.kind() != ErrorKind::Interrupted {
+                        return Err(WriteFailed);
+                    }
+                }
             }
         }
+        self.faults = count_up(self.faults);
+        Err(WriteFailed)
     }
 }

@@ -1,4 +1,4 @@
-ghost use Rattle.std.specs.Prelude.{◌<◌, length};
+ghost use Rattle.std.specs.Prelude.{◌<◌, ◌≤◌, length, IfOk};
 
 use super::{
     Gate, MemorySink, MemorySource, NoGate, ReadFailed, Sink, Source, StdinSource, StdoutSink,
@@ -79,50 +79,137 @@ fn a_sink_over_memory_takes_bytes_while_it_has_room(rt: HostRuntime) -> Result<(
     Ok(())
 }
 
-/// A reader that a signal interrupts, then gives a byte, and then fails.
-#[derive(Drop)]
-struct Stutter {
-    reads: usize,
+/// What a scripted reader or writer does when it is no longer interrupted.
+#[derive(Clone, Copy, Debug)]
+enum Then {
+    One,
+    Nothing,
+    Broken,
 }
 
-impl Read for Stutter {
-    fn read(&mut self, into: &mut [u8]) -> io::Result<usize> {
-        self.reads = self.reads.saturating_add(1);
-        match self.reads {
-            1 => Err(io::Error::from(ErrorKind::Interrupted)),
-            2 => Ok(into.len().min(1)),
-            _ => Err(io::Error::from(ErrorKind::BrokenPipe)),
+/// A reader or writer that signals interrupt so often before it answers in one way.
+#[derive(Drop)]
+struct Scripted {
+    interruptions: u32,
+    then: Then,
+    calls: u32,
+}
+
+impl Scripted {
+    fn answer(&mut self) -> io::Result<usize>
+        ensures { IfOk result (λ count. count ≤ 1) }
+    {
+        self.calls = self.calls.saturating_add(1);
+        if self.interruptions > 0 {
+            self.interruptions -= 1;
+            return Err(io::Error::from(ErrorKind::Interrupted));
+        }
+        match self.then {
+            Then::One => Ok(1),
+            Then::Nothing => Ok(0),
+            Then::Broken => Err(io::Error::from(ErrorKind::BrokenPipe)),
         }
     }
 }
 
-#[test]
-fn an_interrupted_read_is_tried_again(rt: HostRuntime) {
-    let mut into = [0u8; 2];
-    let mut source = StdinSource::new(Stutter { reads: 0 });
-    assert_eq!(rt; read_from(&mut source, &mut into), Ok(1));
-    assert_eq!(rt; read_from(&mut source, &mut into), Err(ReadFailed));
+impl Read for Scripted {
+    fn read(&mut self, into: &mut [u8]) -> io::Result<usize> {
+        match self.answer() {
+            Ok(count) => Ok(count.min(into.len())),
+            Err(error) => Err(error),
+        }
+    }
 }
 
-/// A writer that takes nothing, and whose flush fails.
-#[derive(Drop)]
-struct Clogged;
-
-impl Write for Clogged {
-    fn write(&mut self, _from: &[u8]) -> io::Result<usize> {
-        Ok(0)
+impl Write for Scripted {
+    fn write(&mut self, from: &[u8]) -> io::Result<usize> {
+        match self.answer() {
+            Ok(count) => Ok(count.min(from.len())),
+            Err(error) => Err(error),
+        }
     }
 
     fn flush(&mut self) -> io::Result<()> {
-        Err(io::Error::from(ErrorKind::BrokenPipe))
+        match self.answer() {
+            Ok(_) => Ok(()),
+            Err(error) => Err(error),
+        }
     }
 }
 
+/// How often it is interrupted, what then; how many bytes are passed, the count of failures, the calls made.
+type Case = (u32, Then, Option<usize>, u64, u32);
+
+static READS: [Case; 6] = [
+    (0, Then::One, Some(1), 0, 1),
+    (0, Then::Nothing, Some(0), 0, 1),
+    (0, Then::Broken, None, 1, 1),
+    (1, Then::One, Some(1), 1, 2),
+    (99, Then::One, Some(1), 99, 100),
+    (100, Then::One, None, 101, 100),
+];
+
+static WRITES: [Case; 6] = [
+    (0, Then::One, Some(1), 0, 1),
+    (0, Then::Nothing, None, 1, 1),
+    (0, Then::Broken, None, 1, 1),
+    (1, Then::Nothing, None, 2, 2),
+    (99, Then::One, Some(1), 99, 100),
+    (100, Then::One, None, 101, 100),
+];
+
+static FLUSHES: [Case; 4] = [
+    (0, Then::One, Some(0), 0, 1),
+    (0, Then::Broken, None, 1, 1),
+    (99, Then::One, Some(0), 99, 100),
+    (100, Then::One, None, 101, 100),
+];
+
+fn script_of(case: &Case) -> Scripted {
+    Scripted {
+        interruptions: case.0,
+        then: case.1,
+        calls: 0,
+    }
+}
+
+/// What a read, a write or a flush passed, the count of failures, the calls made.
+type Seen = (Option<usize>, u64, u32);
+
+fn reads(case: &Case) -> Seen {
+    let mut into = [0u8; 2];
+    let mut source = StdinSource::new(script_of(case));
+    let passed = read_from(&mut source, &mut into).ok();
+    (passed, source.faults(), source.into_reader().calls)
+}
+
+fn writes(case: &Case) -> Seen {
+    let mut sink = StdoutSink::new(script_of(case));
+    let passed = write_to(&mut sink, b"abcd").ok();
+    (passed, sink.faults(), sink.into_writer().calls)
+}
+
+fn flushes(case: &Case) -> Seen {
+    let mut sink = StdoutSink::new(script_of(case));
+    let passed = match sink.flush() {
+        Ok(()) => Some(0),
+        Err(_) => None,
+    };
+    (passed, sink.faults(), sink.into_writer().calls)
+}
+
 #[test]
-fn a_writer_that_takes_nothing_fails(rt: HostRuntime) {
-    let mut sink = StdoutSink::new(Clogged);
-    assert_eq!(rt; write_to(&mut sink, b"abcd"), Err(WriteFailed));
-    assert_eq!(rt; sink.flush(), Err(WriteFailed));
+fn an_interrupted_call_alone_is_tried_again(rt: HostRuntime) -> Result<(), Fail> {
+    for case in &READS {
+        assert_eq!(rt; reads(case), (case.2, case.3, case.4), "{case:?}");
+    }
+    for case in &WRITES {
+        assert_eq!(rt; writes(case), (case.2, case.3, case.4), "{case:?}");
+    }
+    for case in &FLUSHES {
+        assert_eq!(rt; flushes(case), (case.2, case.3, case.4), "{case:?}");
+    }
+    Ok(())
 }
 
 #[test]
