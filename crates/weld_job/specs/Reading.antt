@@ -4,6 +4,10 @@ use Rattle.std.specs.Io.KnownBytes.{Consumes}
 use Rattle.weld_job.specs.declared.job.Job.{Job}
 use Rattle.weld_job.specs.Blocks.{job_of}
 
+-- the greatest number of bytes that a job may have
+abbrev pub job_limit : ℕ
+job_limit = 67108864
+
 -- some bytes were taken from the front, and are gone
 abbrev pub Takes : Option (List ℕ) → Option (List ℕ) → Type 0
 Takes old new = (taken : List ℕ) × Consumes old new taken
@@ -15,4 +19,4 @@ TakesJust count old new = (taken : List ℕ) × Consumes old new taken × (lengt
 -- a job is that of the bytes that were taken, and these are no more than a job may have
 abbrev pub IsOfTaken : Option (List ℕ) → Option (List ℕ) → Job → Type 0
 IsOfTaken old new job =
-    (taken : List ℕ) × Consumes old new taken × (length taken ≤ 67108864) × (job ≡ job_of taken)
+    (taken : List ℕ) × Consumes old new taken × (length taken ≤ job_limit) × (job ≡ job_of taken)

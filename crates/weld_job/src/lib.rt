@@ -10,7 +10,7 @@ pub mod split;
 
 pub use block::{Block, BlockForm, Blocks};
 pub use job::{Job, JobFault};
-pub use read::read_job;
+pub use read::{JOB_LIMIT, read_job};
 pub use split::split_blocks;
 
 #[cfg(test)]

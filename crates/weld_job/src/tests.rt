@@ -1,135 +1,123 @@
 ghost use Rattle.std.specs.Prelude.{None};
 
 use super::laws::parts_are_the_job;
-use super::{Block, BlockForm, Job, JobFault, read_job, split_blocks};
+use super::{Block, BlockForm, JOB_LIMIT, Job, JobFault, read_job, split_blocks};
 use std::test::Fail;
 use weld_ports::{MemorySource, ReadFailed, Source, SureSource};
 
-/// A job, and the parts that are to come of it.
-#[derive(Clone, Copy)]
-struct Row {
-    job: &'static [u8],
-    text: &'static [u8],
-    blocks: &'static [(BlockForm, &'static [u8])],
-    stray: bool,
-}
+/// A job; its text, its blocks, its stray mark.
+type Row = (
+    &'static [u8],
+    &'static [u8],
+    &'static [(BlockForm, &'static [u8])],
+    bool,
+);
 
-/// A job of a text alone.
-fn text(job: &'static [u8]) -> Row {
-    Row {
-        job,
-        text: job,
-        blocks: &[],
-        stray: false,
-    }
-}
+static ROWS: [Row; 13] = [
+    // Texts alone.
+    (b"", b"", &[], false),
+    (b"a\nb", b"a\nb", &[], false),
+    (b"%value\n1\n", b"%value\n1\n", &[], false),
+    // The separator line, its ends and what is none.
+    (b"%%x\n %%\n%%%\n", b"%%x\n %%\n%%%\n", &[], false),
+    (b"a\n%%", b"a\n", &[], false),
+    (b"%%\n%value\n1", b"", &[(BlockForm::Value, b"1")], false),
+    (
+        b"a\r\n%% \t\r\n%value\r\n1\r\n",
+        b"a\r\n",
+        &[(BlockForm::Value, b"1\r\n")],
+        false,
+    ),
+    // Headers: with blanks behind them, of another form, without content, and none inside a line.
+    (
+        b"%%\n%table \t\na\n1\n%value\n",
+        b"",
+        &[(BlockForm::Table, b"a\n1\n"), (BlockForm::Value, b"")],
+        false,
+    ),
+    (
+        b"%%\n%values\n%\n%%\n",
+        b"",
+        &[
+            (BlockForm::Other, b""),
+            (BlockForm::Other, b""),
+            (BlockForm::Other, b""),
+        ],
+        false,
+    ),
+    (
+        b"%%\n%value\n1 %table\n2",
+        b"",
+        &[(BlockForm::Value, b"1 %table\n2")],
+        false,
+    ),
+    // What stands before the first header.
+    (
+        b"%%\n \t\r\n\n%value\n1",
+        b"",
+        &[(BlockForm::Value, b"1")],
+        false,
+    ),
+    (
+        b"%%\n\nx\n%value\n1",
+        b"",
+        &[(BlockForm::Value, b"1")],
+        true,
+    ),
+    (b"%%\n1\n", b"", &[], true),
+];
 
-/// A job with data.
-fn parts(
-    job: &'static [u8],
-    text: &'static [u8],
-    blocks: &'static [(BlockForm, &'static [u8])],
-    stray: bool,
-) -> Row {
-    Row {
-        job,
-        text,
-        blocks,
-        stray,
+/// Whether blocks are of these forms, with these contents.
+fn are_blocks(blocks: &[Block], expected: &[(BlockForm, &[u8])]) -> bool {
+    if blocks.len() != expected.len() {
+        return false;
     }
+    for (block, want) in blocks.iter().zip(expected) {
+        if block.form != want.0 || block.content.as_slice() != want.1 {
+            return false;
+        }
+    }
+    true
 }
 
 #[test]
 fn jobs_are_cut_at_their_lines(rt: HostRuntime) -> Result<(), Fail> {
     let alloc = rt.alloc();
-    let rows = [
-        text(b""),
-        text(b"a\nb"),
-        text(b"%value\n1\n"),
-        // The separator line, its ends and what is none.
-        text(b"%%x\n %%\n%%%\n"),
-        parts(b"a\n%%", b"a\n", &[], false),
-        parts(b"%%\n%value\n1", b"", &[(BlockForm::Value, b"1")], false),
-        parts(
-            b"a\r\n%% \t\r\n%value\r\n1\r\n",
-            b"a\r\n",
-            &[(BlockForm::Value, b"1\r\n")],
-            false,
-        ),
-        // Headers: with blanks behind them, of another form, without content, and none inside a line.
-        parts(
-            b"%%\n%table \t\na\n1\n%value\n",
-            b"",
-            &[(BlockForm::Table, b"a\n1\n"), (BlockForm::Value, b"")],
-            false,
-        ),
-        parts(
-            b"%%\n%values\n%\n%%\n",
-            b"",
-            &[
-                (BlockForm::Other, b""),
-                (BlockForm::Other, b""),
-                (BlockForm::Other, b""),
-            ],
-            false,
-        ),
-        parts(
-            b"%%\n%value\n1 %table\n2",
-            b"",
-            &[(BlockForm::Value, b"1 %table\n2")],
-            false,
-        ),
-        // What stands before the first header.
-        parts(
-            b"%%\n \t\r\n\n%value\n1",
-            b"",
-            &[(BlockForm::Value, b"1")],
-            false,
-        ),
-        parts(
-            b"%%\n\nx\n%value\n1",
-            b"",
-            &[(BlockForm::Value, b"1")],
-            true,
-        ),
-        parts(b"%%\n1\n", b"", &[], true),
-    ];
-    for row in &rows {
-        let job = split_blocks(alloc, row.job)?;
-        assert_eq!(rt; job.text.as_slice(), row.text);
-        assert_eq!(rt; job.stray, row.stray);
-        assert_eq!(rt; job.blocks.len(), row.blocks.len());
-        for (block, want) in job.blocks.as_slice().iter().zip(row.blocks) {
-            assert_eq!(rt; block.form, want.0);
-            assert_eq!(rt; block.content.as_slice(), want.1);
-        }
-        parts_are_the_job(row.job);
+    for row in &ROWS {
+        let job = split_blocks(alloc, row.0)?;
+        assert_eq!(rt; job.text.as_slice(), row.1);
+        assert!(rt; are_blocks(job.blocks.as_slice(), row.2));
+        assert_eq!(rt; job.stray, row.3);
+        parts_are_the_job(row.0);
     }
     Ok(())
 }
 
+/// A text and five blocks, their forms and contents.
+static FIVE: &[u8] =
+    b"|v: i64| v\n%%\n%value\n[1,2,3]\n%table\na,b\n1,2\n%value\n%other\nx\n%value\n\"\x00\"";
+
+static FIVE_BLOCKS: [(BlockForm, &[u8]); 5] = [
+    (BlockForm::Value, b"[1,2,3]\n"),
+    (BlockForm::Table, b"a,b\n1,2\n"),
+    (BlockForm::Value, b""),
+    (BlockForm::Other, b"x\n"),
+    (BlockForm::Value, b"\"\x00\""),
+];
+
+static STEPS: [usize; 4] = [1, 7, 80, 1000];
+
 #[test]
 fn a_job_is_read_to_its_end(rt: HostRuntime) -> Result<(), Fail> {
     let alloc = rt.alloc();
-    let text = b"|v: vec[i64]| result(for(v, merger[i64,+], |b,i,x| merge(b, x * x)))\n";
-    let mut bytes = Vec::from_slice(alloc, text)?;
-    bytes.extend_from_slice(b"%%\n%value\n[1,2,3]\n")?;
-    assert_eq!(rt; bytes.len(), 87);
-    for step in [1, 7, 87, 1000] {
-        let mut source = SureSource::new(bytes.clone()?, step);
+    for step in &STEPS {
+        let mut source = SureSource::new(Vec::from_slice(alloc, FIVE)?, *step);
         let Ok(job) = read_job(alloc, &mut source) else {
             return Err(Fail::from("a job was refused"));
         };
-        assert_eq!(rt; job.text.as_slice(), text.as_slice());
-        assert_eq!(rt; job.blocks.is_empty(), false);
-        match job.blocks.get(0) {
-            Some(Block { form, content }) => {
-                assert_eq!(rt; *form, BlockForm::Value);
-                assert_eq!(rt; content.as_slice(), b"[1,2,3]\n".as_slice());
-            }
-            None => return Err(Fail::from("a block is missing")),
-        }
-        assert_eq!(rt; source.left().len(), 0);
+        assert_eq!(rt; job.text.as_slice(), b"|v: i64| v\n".as_slice());
+        assert!(rt; are_blocks(job.blocks.as_slice(), &FIVE_BLOCKS));
+        assert_eq!(rt; (source.left().len(), job.blocks.is_empty()), (0, false));
     }
     Ok(())
 }
@@ -159,20 +147,23 @@ fn fault_of(read: Result<Job, JobFault>) -> Option<JobFault> {
     }
 }
 
+/// Which read of a job of three reads fails, that of the end included, and how many bytes are left then.
+static FAILING: [(u64, usize); 4] = [(1, 5), (2, 3), (3, 1), (4, 0)];
+
 #[test]
 fn a_failing_read_and_a_long_job_are_refused(rt: HostRuntime) -> Result<(), Fail> {
     let alloc = rt.alloc();
-    for (failing, left) in [(1, 5), (2, 3), (3, 1), (4, 0)] {
+    for (failing, left) in &FAILING {
         let bytes = Vec::from_slice(alloc, b"a\n%%\n")?;
-        let mut source = MemorySource::new(bytes, 2, vec![in alloc; failing]?);
+        let mut source = MemorySource::new(bytes, 2, vec![in alloc; *failing]?);
         let fault = fault_of(read_job(alloc, &mut source));
         assert_eq!(rt; fault, Some(JobFault::Read));
-        assert_eq!(rt; source.left().len(), left);
+        assert_eq!(rt; source.left().len(), *left);
         assert_eq!(rt; source.faults(), 1);
     }
     let mut endless = Endless { given: 0 };
     let fault = fault_of(read_job(alloc, &mut endless));
     assert_eq!(rt; fault, Some(JobFault::TooLong));
-    assert_eq!(rt; endless.given, 67_108_865);
+    assert_eq!(rt; endless.given, (JOB_LIMIT as u64) + 1);
     Ok(())
 }
