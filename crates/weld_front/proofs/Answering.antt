@@ -1,12 +1,12 @@
 -- From the parts of a job to its bytes.
-use Rattle.std.proofs.Common.{◌≡◌, ℕ, ◌<◌, ◌≤◌, Bool, true, false, List, [], ◌∷◌, length, Option, Some, None, Result, Ok, Err, IfOk, IfSome, inr, sym, subst, refl, arith, ℤ}
+use Rattle.std.proofs.Common.{◌≡◌, ℕ, ◌+◌, ◌<◌, ◌≤◌, Bool, true, false, List, [], ◌∷◌, length, Option, Some, None, Result, Ok, Err, IfOk, IfSome, inr, sym, subst, refl, arith, ℤ}
 use Rattle.std.specs.Bool.{MatchBool}
 use Rattle.std.proofs.lemmas.Bool.{le-ltb, lt-ltb}
 use Rattle.weld_tree.specs.declared.code.Code.{Code}
 use Rattle.weld_tree.specs.declared.code.Code.TheVariants as codes_of
 use Rattle.std.specs.Io.KnownBytes.{IsAtEnd}
 use Rattle.weld_job.specs.Blocks.{job_of}
-use Rattle.weld_job.specs.Reading.{TakesJust}
+use Rattle.weld_job.specs.Reading.{job_limit, TakesJust}
 use Rattle.weld_job.specs.declared.job.Job.{Job}
 use Rattle.weld_job.specs.declared.block.Block.{Block}
 use Rattle.weld_job.specs.declared.block.BlockForm.{BlockForm}
@@ -26,10 +26,10 @@ within_by true P Q e q = absurd cc
 within_by false P Q e q = q
 
 -- a job that isn't too long has the answer of its parts
-pub parts_answer : (left : Option (List ℕ)) (job : Job) (status : Status) (text : List ℕ) → IfSome left (λ bytes. job ≡ job_of bytes) → IfSome left (λ bytes. length bytes ≤ 67108864) → AnswersParts job status text → IfSome left (λ bytes. Answers bytes status text)
+pub parts_answer : (left : Option (List ℕ)) (job : Job) (status : Status) (text : List ℕ) → IfSome left (λ bytes. job ≡ job_of bytes) → IfSome left (λ bytes. length bytes ≤ job_limit) → AnswersParts job status text → IfSome left (λ bytes. Answers bytes status text)
 parts_answer None job status text e l a = tt
 parts_answer (Some bytes) job status text e l a =
-    within_by (is_too_long bytes) _ (AnswersParts (job_of bytes) status text) (le-ltb 67108864 (length bytes) l) (subst (λ (j : Job). AnswersParts j status text) e a)
+    within_by (is_too_long bytes) _ (AnswersParts (job_of bytes) status text) (le-ltb job_limit (length bytes) l) (subst (λ (j : Job). AnswersParts j status text) e a)
 
 -- a second block behind one that fits
 pub extra_unfit : (form : BlockForm) (content : List ℕ) (more : List Block) (numbers : List ℤ) → form ≡ forms.Value → ReadsAs content numbers → 0 < length more → IsUnfitBlock form content more 2 codes_of.Extra
@@ -78,10 +78,10 @@ over_by : (b : Bool) (P Q : Type 0) → b ≡ true → P → MatchBool b P Q
 over_by true P Q e p = p
 over_by false P Q e p = absurd cc
 
-pub within_extent : (old new : Option (List ℕ)) → IfSome old (λ bytes. length bytes ≤ 67108864) → IsAtEnd new → Extent old new
+pub within_extent : (old new : Option (List ℕ)) → IfSome old (λ bytes. length bytes ≤ job_limit) → IsAtEnd new → Extent old new
 within_extent None new l e = tt
-within_extent (Some bytes) new l e = within_by (is_too_long bytes) (TakesJust 67108865 (Some bytes) new) (IsAtEnd new) (le-ltb 67108864 (length bytes) l) e
+within_extent (Some bytes) new l e = within_by (is_too_long bytes) (TakesJust (job_limit + 1) (Some bytes) new) (IsAtEnd new) (le-ltb job_limit (length bytes) l) e
 
-pub over_extent : (old new : Option (List ℕ)) → IfSome old (λ bytes. 67108864 < length bytes) → TakesJust 67108865 old new → Extent old new
+pub over_extent : (old new : Option (List ℕ)) → IfSome old (λ bytes. job_limit < length bytes) → TakesJust (job_limit + 1) old new → Extent old new
 over_extent None new l e = tt
-over_extent (Some bytes) new l e = over_by (is_too_long bytes) (TakesJust 67108865 (Some bytes) new) (IsAtEnd new) (lt-ltb 67108864 (length bytes) l) e
+over_extent (Some bytes) new l e = over_by (is_too_long bytes) (TakesJust (job_limit + 1) (Some bytes) new) (IsAtEnd new) (lt-ltb job_limit (length bytes) l) e

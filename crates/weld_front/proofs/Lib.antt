@@ -1,6 +1,7 @@
 pub mod Reading
 pub mod Patterns
 pub mod Numerals
+pub mod EachAnswer
 pub mod FormLemmas
 pub mod NumberLemmas
 pub mod Sums

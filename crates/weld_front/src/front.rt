@@ -47,6 +47,7 @@ pub fn weld_main<S: Source, K: Sink, G: Gate>(
     ensures silent { IsSilent result → (K.held output.new ≡ K.held output.old) × (K.settled output.new ≡ K.settled output.old) × (K.faults output.new ≡ K.faults output.old) }
 
     // What a call leaves.
+    ensures unsettled { result ≡ Status.Write → K.settled output.new ≡ K.settled output.old }
     ensures settled { IsWritten result → IsSettled (K.held output.new) (K.settled output.new) }
     ensures extent { IsRun (map string_bytes words.now) → IsFound result → Extent (S.left input.old) (S.left input.new) }
     ensures taken { Takes (S.left input.old) (S.left input.new) }
@@ -68,6 +69,7 @@ fn conclude<K: Sink>(output: &mut K, status: Status, text: &[u8]) -> Status
     ensures status { (result ≡ status) ⊎ (result ≡ Status.Write) }
     ensures written { (result ≡ Status.Write → ⊥) → Appends (K.held output.old) (K.held output.new) text.now × IsSettled (K.held output.new) (K.settled output.new) }
     ensures write { status ≢ Status.Write → result ≡ Status.Write → Rises (K.faults output.old) (K.faults output.new) × AppendsFront (K.held output.old) (K.held output.new) text.now }
+    ensures unsettled { status ≢ Status.Write → result ≡ Status.Write → K.settled output.new ≡ K.settled output.old }
     ensures never_falls { K.faults output.old ≤ K.faults output.new }
 {
     match deliver(output, text) {

@@ -14,6 +14,12 @@ pub fn one_answer()
     ensures { (job : List ℕ) (s t : Status) (x y : List ℕ) → Answers job s x → Answers job t y → (s ≡ t) × (x ≡ y) }
 {}
 
+/// Each list of bytes has an answer, so that no job is left out of the rules.
+#[tactic(auto, using(crate::proofs::EachAnswer::answers_some))]
+pub fn each_job_has_an_answer()
+    ensures { (job : List ℕ) → (status : Status) × (text : List ℕ) × Answers job status text }
+{}
+
 /// Where every row has a value, the program's value is the wrapped sum of whole numbers.
 pub fn sum_of_whole_numbers()
     ensures { (body : Body) (elements values : List ℤ) → row_values body 0 elements ≡ map Some values

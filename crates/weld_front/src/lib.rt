@@ -3,7 +3,7 @@
 
 mod answer;
 mod deliver;
-mod first_form;
+pub mod first_form;
 mod front;
 pub mod laws;
 mod numbers;
@@ -14,8 +14,3 @@ mod words;
 
 pub use front::weld_main;
 pub use status::Status;
-
-#[cfg(test)]
-mod plain;
-#[cfg(test)]
-mod tests;

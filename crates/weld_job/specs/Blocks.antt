@@ -19,7 +19,7 @@ abbrev pub lines : List ℕ → List (List ℕ)
 lines [] = []
 lines (b ∷ bs) = if b == 10 then (b ∷ []) ∷ lines bs else onto_first b (lines bs)
 
--- a line is a word, and then spaces, tabs and CR up to its end
+-- a line is a word, and then blanks up to its end, the LF that ends it among them
 abbrev pub reads_as : List ℕ → List ℕ → Bool
 reads_as word line = starts_with nat_eq line word && list_all is_space (drop (length word) line)
 
