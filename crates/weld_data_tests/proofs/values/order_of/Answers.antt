@@ -1,6 +1,6 @@
 use Rattle.weld_data.specs.declared.kind.Kind.TheVariants as kinds
 use Rattle.weld_data.proofs.Keys.{AreNumbers-map}
-use Rattle.weld_base_tests.proofs.values.order_of.Goals as goal
+use Rattle.weld_data_tests.proofs.values.order_of.Goals as goal
 
 pub compare_keys-requires : goal.compare_keys-requires
 compare_keys-requires c =

@@ -5,7 +5,7 @@ ghost use Rattle.weld_data.specs.declared.kind.Kind.TheVariants as kinds;
 ghost use Rattle.weld_data.specs.Value.{number};
 ghost use Rattle.weld_data.specs.Order.{IsKeyFor};
 ghost use Rattle.weld_data.specs.Lookup.{value_of_key};
-ghost use Rattle.weld_base_tests.specs.Dictionaries.{small_numbers};
+ghost use Rattle.weld_data_tests.specs.Dictionaries.{small_numbers};
 
 use std::alloc::{AllocError, Global};
 use weld_data::{Num, Pair, Pairs, Val};

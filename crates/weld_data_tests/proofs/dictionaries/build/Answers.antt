@@ -4,8 +4,8 @@ use Rattle.std.proofs.lemmas.List.FromFn.{get_or-map-range_with_len, length-map-
 use Rattle.weld_data.specs.declared.kind.Kind.TheVariants as kinds
 use Rattle.weld_data.specs.Value.{Value, number}
 use Rattle.weld_data.specs.Order.{KeyPrecedes, CanFollow, SameKeyType, IsKeyFor}
-use Rattle.weld_base_tests.specs.Dictionaries.{small_numbers}
-use Rattle.weld_base_tests.proofs.dictionaries.build.Goals as goal
+use Rattle.weld_data_tests.specs.Dictionaries.{small_numbers}
+use Rattle.weld_data_tests.proofs.dictionaries.build.Goals as goal
 
 abbrev entry : ℕ → Value × Value
 entry k = (number kinds.U8 (pos k), number kinds.U8 (pos k))
