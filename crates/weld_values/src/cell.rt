@@ -1,0 +1,245 @@
+//! Scalars, each read straight into the array of its kind.
+
+ghost use Rattle.std.specs.Prelude.{◌≡◌, ℤ, List, ℕ, pos, Option, Some, None, IfSome, IfNone, IfOk, OnOk, ◌<◌, ◌++◌, length, map};
+ghost use Rattle.weld_data.specs.Value.{Value, number};
+ghost use Rattle.weld_data.specs.Operation.{truth};
+ghost use Rattle.weld_data.specs.declared.kind.Kind.TheVariants as kinds;
+ghost use Rattle.weld_values.specs.Grammar.{scalar_at, truth_at, Found};
+ghost use Rattle.weld_values.specs.Showing.{shown_scalar};
+ghost use Rattle.weld_values.specs.Judging.{IsClamped, Judged, IsRead, IsReadInto};
+
+use crate::flaw::Flaw;
+use crate::tokens::{after_blanks, integer, truth};
+use itoa::Buffer;
+use std::alloc::AllocError;
+use weld_data::{Items, Text};
+
+/// A scalar of one kind, as an array of that kind keeps it.
+pub(crate) trait Cell: Copy + Drop {
+    ghost value: { Self → Value };
+
+    ghost at: { List ℕ → Option (Value × List ℕ) };
+
+    /// The scalar at the front of the text, and what follows it.
+    fn read(text: &[u8]) -> Option<(Self, Flaw, &[u8])>
+        ensures found { IfSome result (λ found. IsRead (Found at) text.now found.1 (value found.0) found.2.now) }
+        ensures none { IfNone result (at text.now ≡ None) }
+        ensures less { IfSome result (λ found. length found.2.now < length text.now) };
+
+    /// Appends the scalar at the front of the text, and answers what follows it.
+    fn read_into<'a>(
+        items: &mut Items<Self>,
+        text: &'a [u8],
+    ) -> Result<Option<(Flaw, &'a [u8])>, AllocError>
+        ensures found { IfOk result (λ o. IfSome o (λ found. IsReadInto (Found at) text.now found.0 (map value items.old) (map value items.new) found.1.now)) }
+        ensures none { IfOk result (λ o. IfNone o (at text.now ≡ None)) }
+        ensures less { IfOk result (λ o. IfSome o (λ found. length found.1.now < length text.now)) };
+
+    /// Appends the scalar's text.
+    fn write(self, out: &mut Text) -> Result<(), AllocError>
+        ensures { OnOk result (out.new ≡ out.old ++ shown_scalar (value self)) };
+}
+
+impl Cell for bool {
+    ghost use Rattle.std.specs.Prelude.{Bool};
+
+    ghost value = { λ (b : Bool). number kinds.Bool (truth b) };
+
+    ghost at = { scalar_at kinds.Bool };
+
+    fn read(text: &[u8]) -> Option<(bool, Flaw, &[u8])> {
+        match truth(after_blanks(text)) {
+            Some((value, rest)) => Some((value, Flaw::Fine, rest)),
+            None => None,
+        }
+    }
+
+    fn read_into<'a>(
+        items: &mut Items<bool>,
+        text: &'a [u8],
+    ) -> Result<Option<(Flaw, &'a [u8])>, AllocError> {
+        match bool::read(text) {
+            Some((value, flaw, rest)) => {
+                items.push(value)?;
+                Ok(Some((flaw, rest)))
+            }
+            None => Ok(None),
+        }
+    }
+
+    fn write(self, out: &mut Text) -> Result<(), AllocError> {
+        if self {
+            out.push_all(b"true")
+        } else {
+            out.push_all(b"false")
+        }
+    }
+}
+
+impl Cell for i8 {
+    ghost value = { number kinds.I8 };
+
+    ghost at = { scalar_at kinds.I8 };
+
+    fn read(text: &[u8]) -> Option<(i8, Flaw, &[u8])> {
+        match integer(after_blanks(text)) {
+            Some((x, rest)) => Some(narrowed_i8(x, rest)),
+            None => None,
+        }
+    }
+
+    fn read_into<'a>(
+        items: &mut Items<i8>,
+        text: &'a [u8],
+    ) -> Result<Option<(Flaw, &'a [u8])>, AllocError> {
+        match i8::read(text) {
+            Some((value, flaw, rest)) => {
+                items.push(value)?;
+                Ok(Some((flaw, rest)))
+            }
+            None => Ok(None),
+        }
+    }
+
+    fn write(self, out: &mut Text) -> Result<(), AllocError> {
+        out.push_all(Buffer::new().format(i64::from(self)).as_bytes())
+    }
+}
+
+impl Cell for u8 {
+    ghost value = { λ (n : ℕ). number kinds.U8 (pos n) };
+
+    ghost at = { scalar_at kinds.U8 };
+
+    fn read(text: &[u8]) -> Option<(u8, Flaw, &[u8])> {
+        match integer(after_blanks(text)) {
+            Some((x, rest)) => Some(narrowed_u8(x, rest)),
+            None => None,
+        }
+    }
+
+    fn read_into<'a>(
+        items: &mut Items<u8>,
+        text: &'a [u8],
+    ) -> Result<Option<(Flaw, &'a [u8])>, AllocError> {
+        match u8::read(text) {
+            Some((value, flaw, rest)) => {
+                items.push(value)?;
+                Ok(Some((flaw, rest)))
+            }
+            None => Ok(None),
+        }
+    }
+
+    fn write(self, out: &mut Text) -> Result<(), AllocError> {
+        out.push_all(Buffer::new().format(u64::from(self)).as_bytes())
+    }
+}
+
+impl Cell for i32 {
+    ghost value = { number kinds.I32 };
+
+    ghost at = { scalar_at kinds.I32 };
+
+    fn read(text: &[u8]) -> Option<(i32, Flaw, &[u8])> {
+        match integer(after_blanks(text)) {
+            Some((x, rest)) => Some(narrowed_i32(x, rest)),
+            None => None,
+        }
+    }
+
+    fn read_into<'a>(
+        items: &mut Items<i32>,
+        text: &'a [u8],
+    ) -> Result<Option<(Flaw, &'a [u8])>, AllocError> {
+        match i32::read(text) {
+            Some((value, flaw, rest)) => {
+                items.push(value)?;
+                Ok(Some((flaw, rest)))
+            }
+            None => Ok(None),
+        }
+    }
+
+    fn write(self, out: &mut Text) -> Result<(), AllocError> {
+        out.push_all(Buffer::new().format(i64::from(self)).as_bytes())
+    }
+}
+
+impl Cell for i64 {
+    ghost value = { number kinds.I64 };
+
+    ghost at = { scalar_at kinds.I64 };
+
+    fn read(text: &[u8]) -> Option<(i64, Flaw, &[u8])> {
+        match integer(after_blanks(text)) {
+            Some((x, rest)) => Some(narrowed_i64(x, rest)),
+            None => None,
+        }
+    }
+
+    fn read_into<'a>(
+        items: &mut Items<i64>,
+        text: &'a [u8],
+    ) -> Result<Option<(Flaw, &'a [u8])>, AllocError> {
+        match i64::read(text) {
+            Some((value, flaw, rest)) => {
+                items.push(value)?;
+                Ok(Some((flaw, rest)))
+            }
+            None => Ok(None),
+        }
+    }
+
+    fn write(self, out: &mut Text) -> Result<(), AllocError> {
+        out.push_all(Buffer::new().format(i64::from(self)).as_bytes())
+    }
+}
+
+/// The number as one of kind i8, if it is in range; and what follows it.
+fn narrowed_i8(x: i128, rest: &[u8]) -> (i8, Flaw, &[u8])
+    ensures judged { (z : ℤ) → IsClamped x z → Judged result.1 (number kinds.I8 z) (number kinds.I8 result.0) }
+    ensures rest { result.2.now ≡ rest.now }
+{
+    if x < i128::from(i8::MIN) || i128::from(i8::MAX) < x {
+        (0, Flaw::Range, rest)
+    } else {
+        (x as i8, Flaw::Fine, rest)
+    }
+}
+
+/// The number as one of kind u8, if it is in range; and what follows it.
+fn narrowed_u8(x: i128, rest: &[u8]) -> (u8, Flaw, &[u8])
+    ensures judged { (z : ℤ) → IsClamped x z → Judged result.1 (number kinds.U8 z) (number kinds.U8 (pos result.0)) }
+    ensures rest { result.2.now ≡ rest.now }
+{
+    if x < i128::from(u8::MIN) || i128::from(u8::MAX) < x {
+        (0, Flaw::Range, rest)
+    } else {
+        (x as u8, Flaw::Fine, rest)
+    }
+}
+
+/// The number as one of kind i32, if it is in range; and what follows it.
+fn narrowed_i32(x: i128, rest: &[u8]) -> (i32, Flaw, &[u8])
+    ensures judged { (z : ℤ) → IsClamped x z → Judged result.1 (number kinds.I32 z) (number kinds.I32 result.0) }
+    ensures rest { result.2.now ≡ rest.now }
+{
+    if x < i128::from(i32::MIN) || i128::from(i32::MAX) < x {
+        (0, Flaw::Range, rest)
+    } else {
+        (x as i32, Flaw::Fine, rest)
+    }
+}
+
+/// The number as one of kind i64, if it is in range; and what follows it.
+fn narrowed_i64(x: i128, rest: &[u8]) -> (i64, Flaw, &[u8])
+    ensures judged { (z : ℤ) → IsClamped x z → Judged result.1 (number kinds.I64 z) (number kinds.I64 result.0) }
+    ensures rest { result.2.now ≡ rest.now }
+{
+    if x < i128::from(i64::MIN) || i128::from(i64::MAX) < x {
+        (0, Flaw::Range, rest)
+    } else {
+        (x as i64, Flaw::Fine, rest)
+    }
+}

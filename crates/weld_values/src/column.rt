@@ -1,0 +1,51 @@
+//! Lists of scalars, read straight into the array of their kind.
+
+ghost use Rattle.std.specs.Prelude.{◌≡◌, map, IfOk, IfSome, IfNone};
+ghost use Rattle.weld_values.specs.Grammar.{Found};
+ghost use Rattle.weld_values.specs.Judging.{AreListed, AreUnlisted, AreRead, AreUnread};
+
+use crate::cell::Cell;
+use crate::flaw::Flaw;
+use crate::tokens::byte_at;
+use std::alloc::{AllocError, Global};
+use weld_data::Items;
+
+/// One scalar or more with commas between them, the closing bracket, and what follows it.
+fn read_some<T: Cell>(
+    alloc: Global,
+    text: &[u8],
+) -> Result<Option<(Items<T>, Flaw, &[u8])>, AllocError>
+    ensures found { IfOk result (λ found. IfSome found (λ f. AreListed (Found T.at) text.now f.1 (map T.value f.0) f.2.now)) }
+    ensures none { IfOk result (λ found. IfNone found (AreUnlisted (Found T.at) text.now)) }
+{
+    let mut items = Items::new(alloc);
+    let mut flaw = Flaw::Fine;
+    let mut rest = text;
+    loop {
+        let Some((here, after)) = T::read_into(&mut items, rest)? else {
+            return Ok(None);
+        };
+        flaw = flaw.and(here);
+        let Some(more) = byte_at(after, b',') else {
+            let Some(end) = byte_at(after, b']') else {
+                return Ok(None);
+            };
+            return Ok(Some((items, flaw, end)));
+        };
+        rest = more;
+    }
+}
+
+/// What stands after an opening bracket: scalars with commas between them or none, the closing bracket, and what follows it.
+pub(crate) fn read_cells<T: Cell>(
+    alloc: Global,
+    text: &[u8],
+) -> Result<Option<(Items<T>, Flaw, &[u8])>, AllocError>
+    ensures found { IfOk result (λ found. IfSome found (λ f. AreRead (Found T.at) text.now f.1 (map T.value f.0) f.2.now)) }
+    ensures none { IfOk result (λ found. IfNone found (AreUnread (Found T.at) text.now)) }
+{
+    if let Some(rest) = byte_at(text, b']') {
+        return Ok(Some((Items::new(alloc), Flaw::Fine, rest)));
+    }
+    read_some(alloc, text)
+}

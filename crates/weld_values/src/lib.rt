@@ -1,0 +1,16 @@
+//! Values as text: read by the data grammar, and written.
+#![tactic(auto)]
+
+mod cell;
+mod column;
+mod fault;
+mod flaw;
+pub mod laws;
+mod read;
+mod string;
+mod tokens;
+mod write;
+
+pub use fault::DataFault;
+pub use read::read_value;
+pub use write::write_value;

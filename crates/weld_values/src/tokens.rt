@@ -1,0 +1,185 @@
+//! The parts of a value's text that are no values themselves.
+
+ghost use Rattle.std.specs.Prelude.{◌≡◌, ◌^◌, ◌≤◌, ◌+◌, ◌<◌, length, ◌*◌, pos, neg_ℤ, ℤ, List, ℕ, Some, None, IfSome, IfNone};
+ghost use Rattle.std.specs.Option.{option_copied, option_map};
+ghost use Rattle.weld_values.specs.Tokens as tokens;
+ghost use Rattle.weld_values.specs.Tokens.{is_blank, is_digit, value_after, digit_run, after_digits, numeral_at, integer_at};
+ghost use Rattle.weld_data.specs.Value.{number};
+ghost use Rattle.weld_data.specs.Operation.{truth};
+ghost use Rattle.weld_data.specs.declared.kind.Kind.TheVariants as kinds;
+ghost use Rattle.weld_values.specs.Grammar.{truth_at};
+ghost use Rattle.weld_values.specs.Judging.{IsCapped, IsClamped};
+
+/// Whether the byte is a space, a tab, a carriage return or a line feed.
+fn is_blank(byte: u8) -> bool
+    ensures { result ≡ is_blank byte }
+{
+    byte == b' ' || byte == b'\t' || byte == b'\r' || byte == b'\n'
+}
+
+/// The text without the blanks at its front.
+pub(crate) fn after_blanks(text: &[u8]) -> &[u8]
+    ensures value { result.now ≡ tokens.after_blanks text.now }
+    ensures no_longer { length result.now ≤ length text.now }
+{
+    let mut rest = text;
+    while let [first, more @ ..] = rest {
+        if !is_blank(*first) {
+            break;
+        }
+        rest = more;
+    }
+    rest
+}
+
+/// What follows this byte at the front of the text.
+pub(crate) fn after_byte(text: &[u8], byte: u8) -> Option<&[u8]>
+    ensures value { option_copied result ≡ tokens.after_byte byte text.now }
+    ensures less { IfSome result (λ rest. length rest.now < length text.now) }
+{
+    match text {
+        [first, rest @ ..] if *first == byte => Some(rest),
+        _ => None,
+    }
+}
+
+/// What follows this byte, before which blanks may stand.
+#[tactic(auto, unfolding(crate::specs::Tokens::byte_at))]
+pub(crate) fn byte_at(text: &[u8], byte: u8) -> Option<&[u8]>
+    ensures value { option_copied result ≡ tokens.byte_at byte text.now }
+    ensures less { IfSome result (λ rest. length rest.now < length text.now) }
+{
+    after_byte(after_blanks(text), byte)
+}
+
+/// Whether the byte is a decimal digit.
+fn is_digit(byte: u8) -> bool
+    ensures { result ≡ is_digit byte }
+{
+    b'0' <= byte && byte <= b'9'
+}
+
+/// The number that a digit more writes. In place of a number greater than 2 to the 63 it may be another such one.
+fn appended(value: u64, digit: u8) -> u64
+    requires { digit ≤ 9 }
+    ensures small { value ≤ 922337203685477580 → result ≡ value * 10 + digit }
+    ensures great { 922337203685477580 < value → 2 ^ 63 < result }
+{
+    if value > (1 << 63) / 10 {
+        u64::MAX
+    } else {
+        value * 10 + u64::from(digit)
+    }
+}
+
+/// The number that the digits at the front of the text write, 0 where there are none, and what follows them.
+/// In place of a number greater than 2 to the 63 it may be another such one.
+fn leading_digits(text: &[u8]) -> (u64, &[u8])
+    ensures value { IsCapped result.0 (value_after 0 (digit_run text.now)) }
+    ensures rest { result.1.now ≡ after_digits text.now }
+    ensures count { length result.1.now + length (digit_run text.now) ≡ length text.now }
+{
+    let mut value = 0u64;
+    let mut rest = text;
+    while let Some((first, more)) = rest.split_first() {
+        if !is_digit(*first) {
+            return (value, rest);
+        }
+        value = appended(value, *first - b'0');
+        rest = more;
+    }
+    (value, rest)
+}
+
+/// The number that the digits at the front of the text write, and what follows them; none where no digit stands there.
+fn numeral(text: &[u8]) -> Option<(u64, &[u8])>
+    ensures found { IfSome result (λ found. (n : ℕ) × (numeral_at text.now ≡ Some (n, found.1.now)) × IsCapped found.0 n) }
+    ensures none { IfNone result (numeral_at text.now ≡ None) }
+    ensures less { IfSome result (λ found. length found.1.now < length text.now) }
+{
+    let (value, rest) = leading_digits(text);
+    if rest.len() == text.len() {
+        return None;
+    }
+    Some((value, rest))
+}
+
+/// The same with a minus before the digits.
+#[tactic(auto, using(crate::proofs::Integers::clamped_negative))]
+fn negative(digits: &[u8]) -> Option<(i128, &[u8])>
+    ensures found { IfSome result (λ found. (n : ℕ) × (numeral_at digits.now ≡ Some (n, found.1.now)) × IsClamped found.0 (neg_ℤ (pos n))) }
+    ensures none { IfNone result (numeral_at digits.now ≡ None) }
+    ensures less { IfSome result (λ found. length found.1.now < length digits.now) }
+{
+    match numeral(digits) {
+        Some((value, rest)) => Some((negated(value), rest)),
+        None => None,
+    }
+}
+
+/// The same without a minus.
+#[tactic(auto, using(crate::proofs::Integers::clamped_positive))]
+fn positive(digits: &[u8]) -> Option<(i128, &[u8])>
+    ensures found { IfSome result (λ found. (n : ℕ) × (numeral_at digits.now ≡ Some (n, found.1.now)) × IsClamped found.0 (pos n)) }
+    ensures none { IfNone result (numeral_at digits.now ≡ None) }
+    ensures less { IfSome result (λ found. length found.1.now < length digits.now) }
+{
+    match numeral(digits) {
+        Some((value, rest)) => Some((widened(value), rest)),
+        None => None,
+    }
+}
+
+/// The number with a minus before it.
+fn negated(value: u64) -> i128
+    ensures { result ≡ neg_ℤ (pos value) }
+{
+    -i128::from(value)
+}
+
+/// The number.
+fn widened(value: u64) -> i128
+    ensures { result ≡ pos value }
+{
+    i128::from(value)
+}
+
+/// The integer at the front of the text, and what follows it. In place of one that no kind has it may be another such one.
+pub(crate) fn integer(text: &[u8]) -> Option<(i128, &[u8])>
+    ensures found { IfSome result (λ found. (z : ℤ) × (integer_at text.now ≡ Some (z, found.1.now)) × IsClamped found.0 z) }
+    ensures none { IfNone result (integer_at text.now ≡ None) }
+    ensures less { IfSome result (λ found. length found.1.now < length text.now) }
+{
+    match after_byte(text, b'-') {
+        Some(digits) => negative(digits),
+        None => positive(text),
+    }
+}
+
+/// What follows this word at the front of the text.
+#[tactic(auto, using(crate::proofs::Words::word_step, crate::proofs::Words::word_end))]
+pub(crate) fn after_word<'a>(text: &'a [u8], word: &[u8]) -> Option<&'a [u8]>
+    ensures value { option_copied result ≡ tokens.after_word word.now text.now }
+    ensures no_longer { IfSome result (λ rest. length rest.now + length word.now ≤ length text.now) }
+{
+    let mut rest = text;
+    for byte in word {
+        rest = after_byte(rest, *byte)?;
+    }
+    Some(rest)
+}
+
+/// `true` or `false` at the front of the text, and what follows it.
+#[tactic(auto, unfolding(crate::specs::Grammar::truth_at))]
+pub(crate) fn truth(text: &[u8]) -> Option<(bool, &[u8])>
+    ensures value { option_map (λ found. (number kinds.Bool (truth found.0), found.1.now)) result ≡ truth_at text.now }
+    ensures less { IfSome result (λ found. length found.1.now < length text.now) }
+{
+    if let Some(rest) = after_word(text, b"true") {
+        return Some((true, rest));
+    }
+    match after_word(text, b"false") {
+        Some(rest) => Some((false, rest)),
+        None => None,
+    }
+}
