@@ -1,9 +1,9 @@
 pub mod Reading
 pub mod Patterns
+pub mod NumberData
 pub mod Numerals
 pub mod EachAnswer
 pub mod FormLemmas
-pub mod NumberLemmas
 pub mod Sums
 pub mod Sinks
 pub mod Answering

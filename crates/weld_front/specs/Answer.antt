@@ -1,9 +1,10 @@
 -- What `weld run` answers to a job: a status and a text. From the Weld papers' meaning; the texts and the order of refusals by this project's profile.
 use Rattle.std.specs.Prelude.{◌≡◌, ℕ, ◌+◌, ◌⊎◌, Bool, true, false, nat_lt, List, [], ◌∷◌, ◌++◌, Option, Some, None, ℤ, length, take, codes, IfSome}
 use Rattle.std.specs.Bool.{MatchBool}
-use Rattle.std.specs.Fmt.{decimal, signed_decimal}
+use Rattle.std.specs.Fmt.{decimal}
 use Rattle.std.specs.Io.KnownBytes.{Appends, IsAtEnd}
 use Rattle.weld_tree.specs.Code.{code_text}
+use Rattle.weld_values.specs.Showing.{show}
 use Rattle.weld_tree.specs.declared.code.Code.{Code}
 use Rattle.weld_tree.specs.declared.code.Code.TheVariants as codes_of
 use Rattle.weld_job.specs.Blocks.{job_of}
@@ -13,7 +14,7 @@ use Rattle.weld_job.specs.declared.block.Block.{Block}
 use Rattle.weld_job.specs.declared.block.BlockForm.{BlockForm}
 use Rattle.weld_job.specs.declared.block.BlockForm.TheVariants as forms
 use Rattle.weld_front.specs.FirstForm.{IsFirstForm}
-use Rattle.weld_front.specs.Numbers.{ReadsAs}
+use Rattle.weld_front.specs.Numbers.{ReadsAsNumbers, IsWrong, number_type, number_value}
 use Rattle.weld_front.specs.Total.{total}
 use Rattle.weld_front.specs.declared.status.Status.{Status}
 use Rattle.weld_front.specs.declared.status.Status.TheVariants.{Done, Fault, Refused, Unfit, Read, Write, Memory}
@@ -23,7 +24,7 @@ use Rattle.weld_front.specs.declared.first_form.Body.{Body}
 
 -- the data are one value block, which reads as these numbers
 abbrev pub FitsBlocks : Bool → List Block → List ℤ → Type 0
-FitsBlocks false (block ∷ []) numbers = (block.form ≡ forms.Value) × ReadsAs block.content numbers
+FitsBlocks false (block ∷ []) numbers = (block.form ≡ forms.Value) × ReadsAsNumbers block.content numbers
 FitsBlocks stray blocks numbers = ⊥
 
 abbrev pub Fits : Job → List ℤ → Type 0
@@ -32,10 +33,10 @@ Fits job numbers = FitsBlocks job.stray job.blocks numbers
 -- the first block doesn't fit, or it fits and another one follows
 abbrev pub IsUnfitBlock : BlockForm → List ℕ → List Block → ℕ → Code → Type 0
 IsUnfitBlock forms.Value content more number code =
-    (((numbers : List ℤ) → ReadsAs content numbers → ⊥) × (number ≡ 1) × (code ≡ codes_of.Data))
+    (IsWrong content code × (number ≡ 1))
     ⊎ (
     (numbers : List ℤ) × (block : Block) × (rest : List Block)
-    × ReadsAs content numbers × (more ≡ block ∷ rest) × (number ≡ 2) × (code ≡ codes_of.Extra)
+    × ReadsAsNumbers content numbers × (more ≡ block ∷ rest) × (number ≡ 2) × (code ≡ codes_of.Extra)
     )
 IsUnfitBlock form content more number code = (number ≡ 1) × (code ≡ codes_of.Form)
 
@@ -53,8 +54,9 @@ IsUnfit job number code = IsUnfitBlocks job.stray job.blocks number code
 abbrev pub line : List ℕ → List ℕ
 line text = text ++ 10 ∷ []
 
+-- the value text of a number of 64 bits
 abbrev pub value_text : ℤ → List ℕ
-value_text value = line (signed_decimal value)
+value_text value = line (show number_type (number_value value))
 
 abbrev pub fault_text : List ℕ
 fault_text = line (codes "fault")

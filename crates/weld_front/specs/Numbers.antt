@@ -1,25 +1,40 @@
--- What a data block of type vec[i64] reads as, by this project's profile of Weld.
-use Rattle.std.specs.Prelude.{◌≡◌, ℕ, ◌⊎◌, List, [], ◌∷◌, ◌++◌, ℤ, pos, neg_ℤ, codes}
-use Rattle.std.specs.List.{AllByRecursion}
-use Rattle.weld_data.specs.Kind.{InRange}
+-- The data of a program with one parameter of type vec[i64], by this project's profile of Weld.
+use Rattle.std.specs.Prelude.{◌≡◌, ℕ, ℤ, List, map}
 use Rattle.weld_data.specs.declared.kind.Kind.TheVariants.{I64}
-use Rattle.weld_front.specs.Spelling.{Matches, IsNumeral}
+use Rattle.weld_data.specs.Value.{Value, number, list, values}
+use Rattle.weld_tree.specs.TypeTree.{TypeTree, scalar, vec}
+use Rattle.weld_tree.specs.declared.code.Code.{Code}
+use Rattle.weld_tree.specs.declared.code.Code.TheVariants as codes_of
+use Rattle.weld_values.specs.Reading.{ReadsAs, WhyNot}
+use Rattle.weld_values.specs.declared.fault.DataFault.{DataFault}
+use Rattle.weld_values.specs.declared.fault.DataFault.TheVariants.{Syntax, Range, Repeat, Memory}
 
--- how a number is written: digits, perhaps after a minus
-abbrev pub SpellsInteger : ℤ → List ℕ → Type 0
-SpellsInteger z text = (digits : List ℕ) × (value : ℕ) × IsNumeral digits value × (((z ≡ pos value) × (text ≡ digits)) ⊎ ((z ≡ neg_ℤ (pos value)) × (text ≡ codes "-" ++ digits)))
+-- the parameter's type
+abbrev pub numbers_type : TypeTree
+numbers_type = vec (scalar I64)
 
--- numbers with a comma between each two of them, and blanks around the commas
-abbrev pub SpellsItems : List ℤ → List ℕ → Type 0
-SpellsItems [] text = text ≡ []
-SpellsItems (z ∷ []) text = SpellsInteger z text
-SpellsItems (z ∷ y ∷ zs) text = (first : List ℕ) × (comma : List ℕ) × (rest : List ℕ) × SpellsInteger z first × Matches (codes " , ") comma × SpellsItems (y ∷ zs) rest × (text ≡ first ++ comma ++ rest)
+-- the numbers as a value of it
+abbrev pub vector : List ℤ → Value
+vector numbers = list (values (map (number I64) numbers))
 
--- the text reads as these numbers, whatever their range
-abbrev pub SpellsVector : List ℤ → List ℕ → Type 0
-SpellsVector zs text = (front : List ℕ) × (middle : List ℕ) × (back : List ℕ) × Matches (codes " [ ") front × SpellsItems zs middle × Matches (codes " ] ") back × (text ≡ front ++ middle ++ back)
+-- the type of the program's value, and a number as a value of it
+abbrev pub number_type : TypeTree
+number_type = scalar I64
 
--- the text reads as these numbers, which are all of the kind i64
-pub record ReadsAs (text : List ℕ) (zs : List ℤ) : Type 0 where
-  pub spelled : SpellsVector zs text
-  pub in_range : AllByRecursion (InRange I64) zs
+abbrev pub number_value : ℤ → Value
+number_value value = number I64 value
+
+-- the content reads as these numbers
+abbrev pub ReadsAsNumbers : List ℕ → List ℤ → Type 0
+ReadsAsNumbers content numbers = ReadsAs content numbers_type (vector numbers)
+
+-- the code of what is wrong with a content; want of memory has none
+abbrev pub IsCode : DataFault → Code → Type 0
+IsCode Syntax code = code ≡ codes_of.Syntax
+IsCode Range code = code ≡ codes_of.Range
+IsCode Repeat code = code ≡ codes_of.Repeat
+IsCode Memory code = ⊥
+
+-- the content doesn't read, for the reason of this code
+abbrev pub IsWrong : List ℕ → Code → Type 0
+IsWrong content code = (fault : DataFault) × WhyNot content numbers_type fault × IsCode fault code

@@ -1,13 +1,10 @@
 -- What the readers of this crate answer, one after another from the front of a text. The public rules are in the files beside this one.
-use Rattle.std.specs.Prelude.{◌≡◌, ◌≢◌, ℕ, ◌+◌, Bool, true, false, ◌==◌, nat_le, if◌then◌else◌, List, [], ◌∷◌, ◌++◌, codes, Option, Some, None, option_and_then, ℤ, pos, neg_ℤ, ◌+ℤ◌}
+use Rattle.std.specs.Prelude.{ℕ, ◌+◌, ◌==◌, nat_le, if◌then◌else◌, List, [], ◌∷◌, Option, Some, None, option_and_then, ℤ, pos, ◌+ℤ◌}
 use Rattle.std.specs.Option.{option_map}
-use Rattle.std.specs.List.{AllByRecursion}
-use Rattle.weld_data.specs.Kind.{InRange}
 use Rattle.weld_data.specs.declared.kind.Kind.TheVariants.{I64}
 use Rattle.weld_data.specs.Wrapped.{wrapped}
 use Rattle.weld_front.specs.Total.{atom_value}
-use Rattle.weld_front.specs.Numbers.{SpellsItems}
-use Rattle.weld_front.specs.Spelling.{is_blank, is_digit, value_after, Matches}
+use Rattle.weld_front.specs.Spelling.{is_blank, is_digit, value_after}
 use Rattle.weld_front.specs.FirstForm.{opening, closing}
 use Rattle.weld_front.specs.declared.first_form.Atom.{Atom}
 use Rattle.weld_front.specs.declared.first_form.Atom.TheVariants.{Element, Row, Literal}
@@ -115,30 +112,6 @@ first_form_of text = do
   body ← body_at start
   rest ← after_pattern closing body.1
   if_empty body.0 rest
-
--- the number of kind i64 at the front, and what follows it
-abbrev pub signed_at : Option (List ℕ) → List ℕ → Option (ℤ × List ℕ)
-signed_at (Some digits) text = option_map (λ found. (neg_ℤ (pos found.0), found.1)) (magnitude_at 9223372036854775808 digits)
-signed_at None text = option_map (λ found. (pos found.0, found.1)) (magnitude_at 9223372036854775807 text)
-
-unfoldable pub integer_at : List ℕ → Option (ℤ × List ℕ)
-integer_at text = signed_at (after_byte 45 text) text
-
--- some numbers of kind i64 with commas between them, and the closing bracket
-pub record IsTail (zs : List ℤ) (text : List ℕ) : Type 0 where
-  pub some : zs ≢ []
-  pub in_range : AllByRecursion (InRange I64) zs
-  pub items : List ℕ
-  pub back : List ℕ
-  pub spelled : SpellsItems zs items
-  pub closed : Matches (codes " ] ") back
-  pub parts : text ≡ items ++ back
-
--- the text is over after the closing bracket
-abbrev pub ends : Option (List ℕ) → Bool
-ends None = false
-ends (Some []) = true
-ends (Some (byte ∷ bytes)) = false
 
 -- the sum after the rows from this number on, where no row can fault
 abbrev pub total_by : (ℤ → ℤ → ℤ) → Atom → Atom → ℕ → ℤ → List ℤ → ℤ

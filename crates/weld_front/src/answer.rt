@@ -11,10 +11,11 @@ use crate::numbers::read_numbers;
 use crate::status::Status;
 use crate::sum::sum_rows;
 use std::alloc::{AllocError, Global};
-use weld_data::{I64s, Text};
+use weld_data::{I64s, Kind, Num, Text, Val};
 use weld_job::{Block, BlockForm, Job, JobFault, read_job};
 use weld_ports::Source;
-use weld_tree::Code;
+use weld_tree::{Code, Ty};
+use weld_values::{DataFault, write_value};
 
 /// What is written, and the status that the program ends with.
 #[derive(Debug, Drop)]
@@ -75,7 +76,13 @@ fn done(alloc: Global, value: i64) -> Result<Answer, AllocError>
     ensures status { IfOk result (λ answer. answer.status ≡ Status.Done) }
     ensures text { IfOk result (λ answer. answer.text ≡ value_text value) }
 {
-    Ok(answer_of(Status::Done, format!(in alloc; "{value}\n")?))
+    let ty = Ty::scalar(Kind::I64);
+    let mut text = write_value(alloc, &Val::Num(Num::of_i64(value)), &ty)?;
+    text.push(b'\n')?;
+    Ok(Answer {
+        status: Status::Done,
+        text,
+    })
 }
 
 /// The fault of a program.
@@ -94,8 +101,12 @@ fn read_value_block(alloc: Global, block: &Block, more: &[Block]) -> Result<Data
     requires { block.now.form ≡ BlockForm.Value }
     ensures { IfOk result (λ found. BlocksSay (block.now ∷ more.now) found) }
 {
-    let Some(numbers) = read_numbers(alloc, block.content.as_slice())? else {
-        return Ok(Data::Unfit(1, Code::Data));
+    let numbers = match read_numbers(alloc, block.content.as_slice()) {
+        Ok(numbers) => numbers,
+        Err(DataFault::Syntax) => return Ok(Data::Unfit(1, Code::Syntax)),
+        Err(DataFault::Range) => return Ok(Data::Unfit(1, Code::Range)),
+        Err(DataFault::Repeat) => return Ok(Data::Unfit(1, Code::Repeat)),
+        Err(DataFault::Memory) => return Err(AllocError),
     };
     if more.is_empty() {
         return Ok(Data::Numbers(numbers));

@@ -1,102 +1,54 @@
-ghost use Rattle.std.specs.Prelude.{◌≡◌, ◌<◌, ◌≤◌, ℤ, pos, neg_ℤ, List, length, codes, IfOk, IfSome, IfNone};
-ghost use Rattle.std.specs.Option.{option_copied, option_map};
-ghost use Rattle.weld_data.specs.Kind.{InRange};
+ghost use Rattle.std.specs.Prelude.{◌≡◌, map, IfOk, IfErr};
 ghost use Rattle.weld_data.specs.declared.kind.Kind.TheVariants as kinds;
-ghost use Rattle.weld_front.specs.Numbers.{ReadsAs};
-ghost use Rattle.weld_front.specs.Reading.{after_pattern, integer_at, ends, IsTail};
+ghost use Rattle.weld_data.specs.Value.{number, values};
+ghost use Rattle.weld_data.specs.View.{view_val, view_column};
+ghost use Rattle.weld_fits.specs.HasValue.{HasValue, AllAre, IsNumber};
+ghost use Rattle.weld_values.specs.Reading.{WhyNot};
+ghost use Rattle.weld_front.specs.Numbers.{numbers_type, vector, ReadsAsNumbers};
 
-use crate::spelling::{after_blanks, after_byte, after_pattern, magnitude};
 use std::alloc::{AllocError, Global};
-use weld_data::I64s;
+use weld_data::{Column, I64s, Kind, Val};
+use weld_tree::Ty;
+use weld_values::{DataFault, read_value};
 
-/// A number of at most 2 to the 63 with a minus before it.
-fn negated(value: u64) -> i64
-    requires { value ≤ 9223372036854775808 }
-    ensures { result ≡ neg_ℤ (pos value) }
+/// The numbers of a column of kind i64, copied one by one.
+fn copy_numbers(alloc: Global, column: &Column) -> Result<I64s, AllocError>
+    requires { AllAre (IsNumber kinds.I64) (values (view_column column.now)) }
+    ensures { IfOk result (λ numbers. map (number kinds.I64) numbers ≡ view_column column.now) }
 {
-    if value > i64::MAX as u64 {
-        i64::MIN
-    } else {
-        -(value as i64)
+    let mut numbers = I64s::new(alloc);
+    for i in 0..column.len() {
+        numbers.push(column.number_at(i).value as i64)?;
+    }
+    Ok(numbers)
+}
+
+/// The numbers of a value of type vec[i64]. A column of their kind is kept as it is.
+fn numbers_of(alloc: Global, value: Val) -> Result<I64s, AllocError>
+    requires { HasValue numbers_type (view_val value) }
+    ensures { IfOk result (λ numbers. vector numbers ≡ view_val value) }
+{
+    match value {
+        Val::List(Column::I64(numbers)) => Ok(numbers),
+        Val::List(column) => copy_numbers(alloc, &column),
+        _ => unreachable!(),
     }
 }
 
-/// The number of kind i64 at the front of the text, and what follows it.
-#[tactic(auto, unfolding(crate::specs::Reading::integer_at))]
-fn leading_integer(text: &[u8]) -> Option<(i64, &[u8])>
-    ensures value { option_map (λ found. (found.0, found.1.now)) result ≡ integer_at text.now }
+/// Reads the content of a data block as a vector of numbers of kind i64. It answers them exactly where the
+/// content reads so, and else why it doesn't; `Memory` says that memory was wanting, and nothing of the content.
+pub fn read_numbers(alloc: Global, content: &[u8]) -> Result<I64s, DataFault>
+    ensures numbers { IfOk result (λ numbers. ReadsAsNumbers content.now numbers) }
+    ensures fault { IfErr result (WhyNot content.now numbers_type) }
 {
-    match after_byte(text, b'-') {
-        Some(digits) => {
-            let (value, rest) = magnitude(digits, 1 << 63)?;
-            Some((negated(value), rest))
-        }
-        None => {
-            let (value, rest) = magnitude(text, i64::MAX as u64)?;
-            Some((value as i64, rest))
-        }
-    }
-}
-
-/// What follows a comma at the front of the text, and the blanks around it.
-#[tactic(auto, unfolding(crate::specs::Reading::after_pattern))]
-fn after_comma(text: &[u8]) -> Option<&[u8]>
-    ensures { option_copied result ≡ after_pattern (codes " , ") text.now }
-{
-    let rest = after_byte(after_blanks(text), b',')?;
-    Some(after_blanks(rest))
-}
-
-/// Whether the text is a closing bracket with blanks around it.
-fn is_closing(text: &[u8]) -> bool
-    ensures { result ≡ ends (after_pattern (codes " ] ") text.now) }
-{
-    match after_pattern(text, b" ] ") {
-        Some(rest) => rest.is_empty(),
-        None => false,
-    }
-}
-
-/// How many commas the text has.
-fn count_commas(text: &[u8]) -> usize
-    ensures { result ≤ length text.now }
-{
-    text.iter().filter(|byte| **byte == b',').count()
-}
-
-/// Reads one or more numbers with commas between them, and the closing bracket.
-fn read_items(alloc: Global, text: &[u8]) -> Result<Option<I64s>, AllocError>
-    ensures found { IfOk result (λ found. IfSome found (λ items. IsTail items text.now)) }
-    ensures none { IfOk result (λ found. IfNone found ((zs : List ℤ) → IsTail zs text.now → ⊥)) }
-{
-    let mut items = Vec::with_capacity(alloc, count_commas(text) + 1)?;
-    let mut rest = text;
-    loop {
-        let Some((item, after)) = leading_integer(rest) else {
-            return Ok(None);
-        };
-        items.push(item)?;
-        let Some(more) = after_comma(after) else {
-            if is_closing(after) {
-                return Ok(Some(I64s::from_vec(items)));
-            }
-            return Ok(None);
-        };
-        rest = more;
-    }
-}
-
-/// Reads the content of a data block as a vector of numbers of kind i64. It answers them exactly where
-/// the content reads so; it fails for want of memory alone.
-pub fn read_numbers(alloc: Global, content: &[u8]) -> Result<Option<I64s>, AllocError>
-    ensures found { IfOk result (λ found. IfSome found (ReadsAs content.now)) }
-    ensures none { IfOk result (λ found. IfNone found ((zs : List ℤ) → ReadsAs content.now zs → ⊥)) }
-{
-    let Some(rest) = after_pattern(content, b" [ ") else {
-        return Ok(None);
+    let Ok(ty) = Ty::vec_of(alloc, Ty::scalar(Kind::I64)) else {
+        return Err(DataFault::Memory);
     };
-    if is_closing(rest) {
-        return Ok(Some(I64s::new(alloc)));
+    match read_value(alloc, content, &ty) {
+        Ok(value) => match numbers_of(alloc, value) {
+            Ok(numbers) => Ok(numbers),
+            Err(_) => Err(DataFault::Memory),
+        },
+        Err(fault) => Err(fault),
     }
-    read_items(alloc, rest)
 }

@@ -65,7 +65,8 @@ static CASES: [Case; 4] = [
 /// With a step of 1 call number n writes byte n, and the last call is the flush: where one of them fails, the
 /// sink holds what came before.
 fn ends_at(alloc: Global, case: &Case, number: usize) -> Result<bool, AllocError> {
-    let outcome = call(alloc, case.0, case.1, (1000, 1), (0, number as u64 + 1))?;
+    let failing = (number as u64).saturating_add(1);
+    let outcome = call(alloc, case.0, case.1, (1000, 1), (0, failing))?;
     Ok(
         outcome.status == Status::Write
             && Some(outcome.held.as_slice()) == case.2.as_bytes().get(..number)
