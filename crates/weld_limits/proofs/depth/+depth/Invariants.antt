@@ -1,0 +1,12 @@
+use Rattle.std.proofs.Common.{◌≡◌, drop, map}
+use Rattle.weld_tree.specs.ExprTree.{pack_exprs, pack_legs}
+use Rattle.weld_tree.specs.ExprView.{view_leg}
+use Rattle.weld_limits.specs.Depth.{first_deep_in, first_deep_in_legs}
+use Rattle.weld_limits.proofs.depth.+depth.Given as goal
+
+-- what was found so far and what is left make the whole
+abbrev pub invariant-first_deep_in-loop-e : goal.invariant-first_deep_in-loop-e
+invariant-first_deep_in-loop-e l = first_deep_in l.levels l.fn.found (pack_exprs l.e-items) ≡ first_deep_in l.levels l.first (pack_exprs (drop l.e-index l.e-items))
+
+abbrev pub invariant-first_deep_in_legs-loop-leg : goal.invariant-first_deep_in_legs-loop-leg
+invariant-first_deep_in_legs-loop-leg l = first_deep_in_legs l.levels l.fn.found (pack_legs (map view_leg l.leg-items)) ≡ first_deep_in_legs l.levels l.first (pack_legs (map view_leg (drop l.leg-index l.leg-items)))

@@ -1,0 +1,3 @@
+pub mod Lets
+pub mod Depth
+pub mod Lists

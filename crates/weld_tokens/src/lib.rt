@@ -1,0 +1,18 @@
+//! Tokens of program texts: how a text is read as tokens, and what can be said of a text by its tokens alone.
+#![tactic(auto)]
+
+mod bytes;
+pub mod laws;
+pub mod limits;
+pub mod literals;
+pub mod order;
+mod place;
+pub mod read;
+mod reserved;
+pub mod scan;
+mod token_at;
+
+pub use limits::{first_long_name, has_too_many_bytes, has_too_many_tokens};
+pub use literals::{chars_of, field_of, literal_of};
+pub use order::{Findings, first_number_out_of_range, first_out_of_range, first_refusal};
+pub use read::{Tokens, class_of, read_tokens};
