@@ -1,0 +1,8 @@
+-- What the grammar sees of tokens.
+use Rattle.std.specs.Prelude.{List, map}
+use Rattle.weld_terminals.specs.declared.class.Class.{Class}
+use Rattle.weld_terminals.specs.declared.token.Token.{Token}
+
+-- the classes of tokens
+abbrev pub classes : List Token → List Class
+classes ts = map (λ t. t.class) ts

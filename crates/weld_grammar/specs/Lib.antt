@@ -1,0 +1,6 @@
+pub mod Grammar
+pub mod Begins
+pub mod Pending
+pub mod Derivation
+pub mod Breaks
+pub mod Apart

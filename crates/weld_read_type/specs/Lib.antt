@@ -1,0 +1,2 @@
+pub mod TypeOf
+pub mod Fronts

@@ -1,0 +1,3 @@
+pub mod ProgramOf
+pub mod Spells
+pub mod Numbers

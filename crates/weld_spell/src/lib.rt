@@ -1,0 +1,4 @@
+//! Which program the tokens of a text spell, and that they spell one at most.
+#![tactic(auto)]
+
+pub mod laws;
