@@ -1,0 +1,5 @@
+pub mod Any
+pub mod AnyLaws
+pub mod Fields
+pub mod One
+pub mod OneLaws

@@ -1,0 +1,9 @@
+//! A part of any of the five builders, chosen when the program runs.
+#![tactic(auto)]
+
+pub mod any;
+mod fields;
+pub mod one;
+
+pub use any::{AnyItem, AnyPart, AnyShape, FieldShapes, Fields};
+pub use one::{OnePart, OneShape};

@@ -1,0 +1,3 @@
+pub mod ListLemmas
+pub mod PairLemmas
+pub mod GroupsLemmas

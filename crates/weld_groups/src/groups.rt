@@ -1,0 +1,297 @@
+ghost use Rattle.std.specs.Prelude.{◌≡◌, ◌∷◌, [], Some, None, OnOk, OnErr};
+ghost use Rattle.weld_data.specs.Kind.{InRange};
+ghost use Rattle.weld_data.specs.Order.{IsKey};
+ghost use Rattle.weld_data.specs.Value.{number};
+ghost use Rattle.weld_data.specs.View.{view_val};
+ghost use Rattle.weld_builders.specs.Part.{appended, merge_key, join_maps};
+ghost use Rattle.weld_pieces.specs.Kept.{IsKeptAs};
+ghost use Rattle.weld_groups.specs.GroupsView.{kind_of_keys, groups_in, AreGroupsOf};
+
+use crate::lists::{append_all, push_at};
+use crate::pairs::{kept_pairs, plain_pairs};
+use std::alloc::{AllocError, Global};
+use std::collections::BTreeMap;
+use std::marker::Model;
+use weld_data::{Kind, Pairs, Stop, Val};
+use weld_pieces::key::Key;
+use weld_pieces::{ListPart, Part};
+
+/// Lists of items by keys, the items of a key in the order of their merges. Keys that are one number
+/// are kept as numbers, and the items of each list as numbers of one kind or as values.
+#[derive(Drop)]
+pub struct GroupsPart {
+    alloc: Global,
+    items: Option<Kind>,
+    map: GroupsMap,
+}
+
+#[derive(Drop)]
+enum GroupsMap {
+    Numbers(Kind, BTreeMap<i64, ListPart>),
+    Values(BTreeMap<Key, ListPart>),
+}
+
+impl Model for GroupsPart {
+    ghost use Rattle.weld_groups.specs.Groups.{Groups, coded_groups};
+
+    ghost Value = { Groups };
+
+    ghost coded = { coded_groups };
+
+    ghost use Rattle.weld_groups.specs.GroupsView.{kind_of_keys, groups_in, AreGroupsOf};
+
+    ghost view = { λ g. record { key = kind_of_keys g.map; items = g.items; groups = groups_in g.map } };
+
+    ghost invariant = { λ g. AreGroupsOf g.items g.map };
+}
+
+impl GroupsPart {
+    ghost use Rattle.std.specs.Prelude.{◌≡◌, ◌∷◌, [], Some, None, IfOk, OnOk, OnErr};
+    ghost use Rattle.std.specs.FinMap as finite;
+    ghost use Rattle.weld_data.specs.Kind.{InRange};
+    ghost use Rattle.weld_data.specs.Order.{IsKey};
+    ghost use Rattle.weld_data.specs.Value.{number};
+    ghost use Rattle.weld_data.specs.View.{view_val};
+    ghost use Rattle.weld_builders.specs.Part.{appended, merge_key, join_maps};
+    ghost use Rattle.weld_pieces.specs.Kept.{IsKeptAs, IsKeptKey};
+    ghost use Rattle.weld_pieces.specs.Keyed.{KeysAreKept, HasOneKeyType, itself, shown};
+    ghost use Rattle.weld_groups.specs.Groups.{list_value};
+
+    /// The map without keys, which are to be numbers of a kind, or other values; the items of the
+    /// lists are to be kept so. It takes no memory.
+    pub fn empty(alloc: Global, key: Option<Kind>, items: Option<Kind>) -> GroupsPart
+        ensures key { result.key ≡ key }
+        ensures items { result.items ≡ items }
+        ensures groups { result.groups ≡ finite.empty }
+    {
+        let map = match key {
+            Some(key) => GroupsMap::Numbers(key, BTreeMap::new(alloc)),
+            None => GroupsMap::Values(BTreeMap::new(alloc)),
+        };
+        GroupsPart { alloc, items, map }
+    }
+
+    /// How the keys are kept: as numbers of a kind, or as values. It takes no memory.
+    pub fn key(&self) -> Option<Kind>
+        ensures { result ≡ self.now.key }
+    {
+        match &self.map {
+            GroupsMap::Numbers(kind, _) => Some(*kind),
+            GroupsMap::Values(_) => None,
+        }
+    }
+
+    /// Appends an item to the list of a key that is a number. Where memory is wanting, the part stays
+    /// as it was.
+    pub fn push_at_number(&mut self, key_kind: Kind, key: i64, item: Val) -> Result<(), AllocError>
+        requires kept { self.old.key ≡ Some key_kind }
+        requires key { InRange key_kind key }
+        requires item { IsKeptAs self.old.items (view_val item) }
+        ensures ok { OnOk result (self.new.groups ≡ merge_key appended self.old.groups (number key_kind key) (view_val item ∷ [])) }
+        ensures err { OnErr result (self.new.groups ≡ self.old.groups) }
+        ensures key { self.new.key ≡ self.old.key }
+        ensures items { self.new.items ≡ self.old.items }
+    {
+        number_in(&mut self.map, self.alloc, self.items, key_kind, key, item)
+    }
+
+    /// Appends an item to the list of a key, however the keys are kept. Where memory is wanting, the
+    /// part stays as it was.
+    pub fn push_at_value(&mut self, key: Val, item: Val) -> Result<(), AllocError>
+        requires key { IsKeptKey self.old.key (view_val key) }
+        requires item { IsKeptAs self.old.items (view_val item) }
+        ensures ok { OnOk result (self.new.groups ≡ merge_key appended self.old.groups (view_val key) (view_val item ∷ [])) }
+        ensures err { OnErr result (self.new.groups ≡ self.old.groups) }
+        ensures key { self.new.key ≡ self.old.key }
+        ensures items { self.new.items ≡ self.old.items }
+    {
+        match self.key() {
+            Some(kind) => match key {
+                Val::Num(n) => self.push_at_number(kind, n.value as i64, item),
+                _ => unreachable!(),
+            },
+            None => value_in(&mut self.map, self.alloc, self.items, key, item),
+        }
+    }
+
+    /// Appends the lists of a later part that is kept alike at their keys. After want of memory it has
+    /// appended some of them.
+    pub fn append(&mut self, later: GroupsPart) -> Result<(), AllocError>
+        requires key { self.old.key ≡ later.key }
+        requires items { self.old.items ≡ later.items }
+        ensures ok { OnOk result (self.new.groups ≡ join_maps appended self.old.groups later.groups) }
+        ensures key { self.new.key ≡ self.old.key }
+        ensures items { self.new.items ≡ self.old.items }
+    {
+        let GroupsPart {
+            alloc: _,
+            items: _,
+            map: more,
+        } = later;
+        all_in(&mut self.map, self.items, more)
+    }
+
+    /// The dictionary of the keys and lists, which keep their memory. The keys are of one type, and
+    /// those that are numbers lie in the range of their kind.
+    pub fn into_pairs(self, alloc: Global) -> Result<Pairs, AllocError>
+        requires kept { KeysAreKept self.key self.groups }
+        requires one_type { HasOneKeyType self.groups }
+        ensures { IfOk result (λ pairs. pairs ≡ shown itself list_value (finite.entries self.groups)) }
+    {
+        let GroupsPart {
+            alloc: _,
+            items: _,
+            map,
+        } = self;
+        match map {
+            GroupsMap::Numbers(key_kind, lists) => kept_pairs(alloc, key_kind, lists),
+            GroupsMap::Values(lists) => plain_pairs(alloc, lists),
+        }
+    }
+}
+
+/// Appends an item at a key that is a number.
+fn number_in(
+    map: &mut GroupsMap,
+    alloc: Global,
+    items: Option<Kind>,
+    key_kind: Kind,
+    key: i64,
+    item: Val,
+) -> Result<(), AllocError>
+    requires kept { kind_of_keys map.old ≡ Some key_kind }
+    requires lists { AreGroupsOf items map.old }
+    requires item { IsKeptAs items (view_val item) }
+    ensures ok { OnOk result (groups_in map.new ≡ merge_key appended (groups_in map.old) (number key_kind key) (view_val item ∷ [])) }
+    ensures err { OnErr result (groups_in map.new ≡ groups_in map.old) }
+    ensures lists { AreGroupsOf items map.new }
+    ensures kept { kind_of_keys map.new ≡ kind_of_keys map.old }
+{
+    match map {
+        GroupsMap::Numbers(_, lists) => match push_at(alloc, lists, items, key, item) {
+            Ok(()) => return Ok(()),
+            Err(e) => return Err(e),
+        },
+        GroupsMap::Values(_) => unreachable!(),
+    }
+}
+
+/// Appends an item at a key that is kept as a value.
+fn value_in(
+    map: &mut GroupsMap,
+    alloc: Global,
+    items: Option<Kind>,
+    key: Val,
+    item: Val,
+) -> Result<(), AllocError>
+    requires kept { kind_of_keys map.old ≡ None }
+    requires lists { AreGroupsOf items map.old }
+    requires key { IsKey (view_val key) }
+    requires item { IsKeptAs items (view_val item) }
+    ensures ok { OnOk result (groups_in map.new ≡ merge_key appended (groups_in map.old) (view_val key) (view_val item ∷ [])) }
+    ensures err { OnErr result (groups_in map.new ≡ groups_in map.old) }
+    ensures lists { AreGroupsOf items map.new }
+    ensures kept { kind_of_keys map.new ≡ kind_of_keys map.old }
+{
+    match map {
+        GroupsMap::Numbers(_, _) => unreachable!(),
+        GroupsMap::Values(lists) => match push_at(alloc, lists, items, Key::new(key), item) {
+            Ok(()) => return Ok(()),
+            Err(e) => return Err(e),
+        },
+    }
+}
+
+/// Appends the lists of a later map at their keys.
+fn all_in(map: &mut GroupsMap, items: Option<Kind>, later: GroupsMap) -> Result<(), AllocError>
+    requires kept { kind_of_keys map.old ≡ kind_of_keys later }
+    requires lists { AreGroupsOf items map.old }
+    requires later { AreGroupsOf items later }
+    ensures ok { OnOk result (groups_in map.new ≡ join_maps appended (groups_in map.old) (groups_in later)) }
+    ensures lists { AreGroupsOf items map.new }
+    ensures kept { kind_of_keys map.new ≡ kind_of_keys map.old }
+{
+    match (map, later) {
+        (GroupsMap::Numbers(_, lists), GroupsMap::Numbers(_, more)) => match append_all(
+            lists, items, more,
+        ) {
+            Ok(()) => return Ok(()),
+            Err(e) => return Err(e),
+        },
+        (GroupsMap::Values(lists), GroupsMap::Values(more)) => match append_all(
+            lists, items, more,
+        ) {
+            Ok(()) => return Ok(()),
+            Err(e) => return Err(e),
+        },
+        _ => unreachable!(),
+    }
+}
+
+/// How groups are kept: their keys, and the items of their lists.
+#[derive(Clone, Copy, Debug, PartialEq, Eq)]
+pub struct GroupsShape {
+    pub key: Option<Kind>,
+    pub items: Option<Kind>,
+}
+
+/// An item for the list of a key.
+#[derive(Debug, Drop)]
+pub struct GroupsItem {
+    pub key: Val,
+    pub value: Val,
+}
+
+impl Part for GroupsPart {
+    ghost use Rattle.std.specs.Prelude.{refl};
+    ghost use Rattle.weld_data.specs.Value.{struct, and_value, no_values};
+    ghost use Rattle.weld_data.specs.View.{view_val};
+    ghost use Rattle.weld_builders.specs.Builder.{one_part, item};
+    ghost use Rattle.weld_groups.specs.Groups.{part_of_groups};
+    ghost use Rattle.weld_pieces.specs.Keyed.{KeysAreKept, HasOneKeyType};
+    ghost use Rattle.weld_pieces.specs.Kept.{kept_groups};
+
+    type Shape = GroupsShape;
+
+    type Item = GroupsItem;
+
+    type Out = Val;
+
+    ghost builder = { λ g. one_part (part_of_groups g) };
+
+    ghost kept = { λ g. kept_groups g.key g.items };
+
+    ghost kept_from = { λ s. kept_groups s.key s.items };
+
+    ghost is_shape = { λ _. Unit {0} };
+
+    ghost as_item = { λ i. item (struct (and_value (view_val i.key) (and_value (view_val i.value) no_values))) };
+
+    ghost out = { view_val };
+
+    ghost spare = { λ _. 0 };
+
+    ghost finishes = { λ g. KeysAreKept g.key g.groups × HasOneKeyType g.groups };
+
+    fn start(alloc: Global, shape: &GroupsShape) -> Result<GroupsPart, AllocError> {
+        Ok(GroupsPart::empty(alloc, shape.key, shape.items))
+    }
+
+    fn merge(&mut self, item: GroupsItem) -> Result<(), Stop> {
+        let GroupsItem { key, value } = item;
+        match self.push_at_value(key, value) {
+            Ok(()) => Ok(()),
+            Err(_) => Err(Stop::Memory),
+        }
+    }
+
+    fn join(&mut self, later: GroupsPart) -> Result<(), AllocError> {
+        self.append(later)
+    }
+
+    fn finish(self, alloc: Global) -> Result<Val, AllocError> {
+        Ok(Val::Dict(self.into_pairs(alloc)?))
+    }
+
+    ghost bare_is = { λ g. refl };
+}

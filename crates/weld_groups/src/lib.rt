@@ -1,0 +1,8 @@
+//! The part of groups: lists of items by keys, and how the parts of one builder join again.
+#![tactic(auto)]
+
+pub mod groups;
+mod lists;
+mod pairs;
+
+pub use groups::GroupsPart;

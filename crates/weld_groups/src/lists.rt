@@ -1,0 +1,82 @@
+//! Lists by keys in std's ordered map.
+
+ghost use Rattle.std.specs.Prelude.{◌≡◌, ◌∷◌, [], OnOk, OnErr};
+ghost use Rattle.std.specs.Map.{values_of};
+ghost use Rattle.std.specs.BTreeMap.{IsOrdered};
+ghost use Rattle.weld_data.specs.View.{view_val};
+ghost use Rattle.weld_builders.specs.Part.{appended};
+ghost use Rattle.weld_pieces.specs.Items.{items_of_list, kind_of_items};
+ghost use Rattle.weld_pieces.specs.Kept.{IsKeptAs};
+ghost use Rattle.weld_pieces.specs.Keyed.{entry_with, entries_with};
+ghost use Rattle.weld_groups.specs.Groups.{lists_in, AreListsOf};
+
+use std::alloc::{AllocError, Global};
+use std::collections::BTreeMap;
+use weld_data::{Kind, Val};
+use weld_pieces::ListPart;
+
+/// Appends an item to the list at a key. Where memory is wanting, the map stays as it was.
+pub(crate) fn push_at<K: Ord + Drop>(
+    alloc: Global,
+    map: &mut BTreeMap<K, ListPart>,
+    kind: Option<Kind>,
+    key: K,
+    item: Val,
+) -> Result<(), AllocError>
+    requires lists { AreListsOf kind (values_of map.old.entries) }
+    requires item { IsKeptAs kind (view_val item) }
+    ensures ok { OnOk result (lists_in map.new.entries ≡ entry_with K.cmp appended (lists_in map.old.entries) key (view_val item ∷ [])) }
+    ensures err { OnErr result (lists_in map.new.entries ≡ lists_in map.old.entries) }
+    ensures lists { AreListsOf kind (values_of map.new.entries) }
+{
+    match map.get_mut(&key) {
+        Some(list) => list.push(item),
+        None => {
+            let mut list = ListPart::empty(alloc, kind);
+            list.push(item)?;
+            map.insert(key, list)?;
+            Ok(())
+        }
+    }
+}
+
+/// Appends the items of a later list to the list at a key. Where memory is wanting, the map stays as
+/// it was.
+pub(crate) fn append_at<K: Ord + Drop>(
+    map: &mut BTreeMap<K, ListPart>,
+    kind: Option<Kind>,
+    key: K,
+    later: ListPart,
+) -> Result<(), AllocError>
+    requires lists { AreListsOf kind (values_of map.old.entries) }
+    requires later { kind_of_items later ≡ kind }
+    ensures ok { OnOk result (lists_in map.new.entries ≡ entry_with K.cmp appended (lists_in map.old.entries) key (items_of_list later)) }
+    ensures err { OnErr result (lists_in map.new.entries ≡ lists_in map.old.entries) }
+    ensures lists { AreListsOf kind (values_of map.new.entries) }
+{
+    match map.get_mut(&key) {
+        Some(list) => list.append(later),
+        None => {
+            map.insert(key, later)?;
+            Ok(())
+        }
+    }
+}
+
+/// Appends the lists of a later map at their keys.
+pub(crate) fn append_all<K: Ord + Drop>(
+    map: &mut BTreeMap<K, ListPart>,
+    kind: Option<Kind>,
+    later: BTreeMap<K, ListPart>,
+) -> Result<(), AllocError>
+    requires lists { AreListsOf kind (values_of map.old.entries) }
+    requires later { AreListsOf kind (values_of later.entries) }
+    ensures ok { OnOk result (lists_in map.new.entries ≡ entries_with K.cmp appended (lists_in map.old.entries) (lists_in later.entries)) }
+    ensures lists { AreListsOf kind (values_of map.new.entries) }
+    ensures keys { IsOrdered K.cmp later }
+{
+    for (key, list) in later {
+        append_at(map, kind, key, list)?;
+    }
+    Ok(())
+}

@@ -1,0 +1,86 @@
+//! Lists by keys as a dictionary.
+
+ghost use Rattle.std.specs.Prelude.{◌≡◌, Some, None, IfOk};
+ghost use Rattle.std.specs.FinMap as finite;
+ghost use Rattle.std.specs.Map.{keys_of};
+ghost use Rattle.weld_data.specs.Value.{number};
+ghost use Rattle.weld_data.specs.Kind.{InRange};
+ghost use Rattle.weld_data.specs.View.{view_val};
+ghost use Rattle.weld_builders.specs.Range.{AllInRange};
+ghost use Rattle.weld_pieces.specs.Keyed.{map_of, itself, KeysAreKept, HasOneKeyType, shown};
+ghost use Rattle.weld_groups.specs.Groups.{lists_in, list_value};
+
+use std::alloc::{AllocError, Global};
+use std::collections::BTreeMap;
+use weld_data::{Kind, Num, Pair, Pairs, Val};
+use weld_pieces::ListPart;
+use weld_pieces::key::Key;
+
+/// The dictionary of lists at keys that are numbers.
+fn number_pairs(
+    alloc: Global,
+    key_kind: Kind,
+    map: BTreeMap<i64, ListPart>,
+) -> Result<Pairs, AllocError>
+    requires { AllInRange key_kind (keys_of map.entries) }
+    ensures { IfOk result (λ pairs. pairs ≡ shown (number key_kind) list_value (lists_in map.entries)) }
+{
+    let mut items = Vec::with_capacity(alloc, map.len())?;
+    for (key, list) in map {
+        items.push(Pair {
+            key: number_of(key_kind, key),
+            value: Val::List(list.into_column()),
+        })?;
+    }
+    Ok(Pairs::from_vec(items))
+}
+
+/// The dictionary of lists at keys that are kept as values.
+fn value_pairs(alloc: Global, map: BTreeMap<Key, ListPart>) -> Result<Pairs, AllocError>
+    requires kept { KeysAreKept None (map_of itself (lists_in map.entries)) }
+    requires one_type { HasOneKeyType (map_of itself (lists_in map.entries)) }
+    ensures { IfOk result (λ pairs. pairs ≡ shown itself list_value (lists_in map.entries)) }
+{
+    let mut items = Vec::with_capacity(alloc, map.len())?;
+    for (key, list) in map {
+        items.push(Pair {
+            key: key.into_value(),
+            value: Val::List(list.into_column()),
+        })?;
+    }
+    Ok(Pairs::from_vec(items))
+}
+
+/// The same of keys that are kept as numbers, as the map of them shows.
+pub(crate) fn kept_pairs(
+    alloc: Global,
+    key_kind: Kind,
+    map: BTreeMap<i64, ListPart>,
+) -> Result<Pairs, AllocError>
+    requires { KeysAreKept (Some key_kind) (map_of (number key_kind) (lists_in map.entries)) }
+    ensures { IfOk result (λ pairs. pairs ≡ shown itself list_value (finite.entries (map_of (number key_kind) (lists_in map.entries)))) }
+{
+    let _count = map.len();
+    number_pairs(alloc, key_kind, map)
+}
+
+/// The same of keys that are kept as values, as the map of them shows.
+pub(crate) fn plain_pairs(alloc: Global, map: BTreeMap<Key, ListPart>) -> Result<Pairs, AllocError>
+    requires kept { KeysAreKept None (map_of itself (lists_in map.entries)) }
+    requires one_type { HasOneKeyType (map_of itself (lists_in map.entries)) }
+    ensures { IfOk result (λ pairs. pairs ≡ shown itself list_value (finite.entries (map_of itself (lists_in map.entries)))) }
+{
+    let _count = map.len();
+    value_pairs(alloc, map)
+}
+
+/// A number of a kind as a value.
+fn number_of(kind: Kind, x: i64) -> Val
+    requires { InRange kind x }
+    ensures { view_val result ≡ number kind x }
+{
+    Val::Num(Num {
+        kind,
+        value: i128::from(x),
+    })
+}

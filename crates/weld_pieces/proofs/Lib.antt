@@ -1,0 +1,6 @@
+pub mod CellLemmas
+pub mod Comparing
+pub mod MapLemmas
+pub mod KeyedLemmas
+pub mod PairLemmas
+pub mod KeptKeys

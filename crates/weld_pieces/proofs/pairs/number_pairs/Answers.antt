@@ -1,0 +1,14 @@
+use Rattle.std.proofs.Common.{◌≡◌, [], ◌++◌, map, sym, subst}
+use Rattle.weld_data.specs.Value.{number}
+use Rattle.weld_data.specs.View.{view_pair}
+use Rattle.weld_data.specs.Order.{Rises}
+use Rattle.weld_pieces.specs.Keyed.{shown}
+use Rattle.weld_pieces.proofs.PairLemmas.{numbers_rise, all_pushed}
+use Rattle.weld_pieces.proofs.pairs.number_pairs.Goals as goal
+
+pub from_vec-requires : goal.from_vec-requires
+from_vec-requires c =
+    let none : c.loop-key.key-iterator ≡ [] = c.in-None.ensures.steps.0 in
+    let whole = subst (λ r. map view_pair c.loop-key.items.items ++ shown (number c.args.key_kind) (number c.args.kind) r ≡ shown (number c.args.key_kind) (number c.args.kind) c.args.map.entries) none c.loop-key.invariant.2 in
+    subst Rises (sym (all_pushed (number c.args.key_kind) (number c.args.kind) c.loop-key.items.items c.args.map.entries whole))
+    (numbers_rise c.args.key_kind c.args.kind c.args.map.entries c.len.ensures.ordered)

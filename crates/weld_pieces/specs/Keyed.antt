@@ -1,0 +1,70 @@
+-- Numbers by keys in the code.
+use Rattle.std.specs.Prelude.{ℤ, Option, List, [], ◌∷◌, map, AllPairs, refl}
+use Rattle.std.specs.declared.cmp.Ordering.{Ordering}
+use Rattle.std.specs.BTreeMap.{insert_entry, is_at}
+use Rattle.std.specs.Map.{lookup, keys_of}
+use Rattle.std.specs.List.{AllByRecursion}
+use Rattle.weld_pieces.specs.Kept.{IsKeptKey}
+use Rattle.std.specs.Coded.{Coded, code_by, coded×, coded_option, coded_ℤ}
+use Rattle.std.specs.FinMap as finite
+use Rattle.weld_data.specs.declared.kind.Kind.{Kind}
+use Rattle.weld_data.specs.contracts.kind.Kind as kind_type
+use Rattle.weld_data.specs.declared.op.MergeOp.{MergeOp}
+use Rattle.weld_data.specs.contracts.op.MergeOp as op_type
+use Rattle.weld_data.specs.Value.{Value}
+use Rattle.weld_data.specs.ValueCode.{coded_value}
+use Rattle.weld_data.specs.Order.{SameKeyType}
+use Rattle.weld_builders.specs.ValueOrder.{ValueMap}
+use Rattle.weld_builders.specs.Part.{Part, keyed_part}
+
+-- how its keys are kept, its operator and kind, and the numbers
+pub record Keyed : Type 0 where
+  pub key : Option Kind
+  pub op : MergeOp
+  pub kind : Kind
+  pub numbers : ValueMap ℤ
+
+abbrev pub part_of_keyed : Keyed → Part
+part_of_keyed k = keyed_part k.op k.kind k.numbers
+
+abbrev pub coded_kind : Coded Kind
+coded_kind = (kind_type.the_row).coded
+
+abbrev pub coded_op : Coded MergeOp
+coded_op = (op_type.the_row).coded
+
+abbrev pub coded_keyed : Coded Keyed
+coded_keyed =
+    code_by (Option Kind × (MergeOp × (Kind × ValueMap ℤ))) (coded× (coded_option coded_kind) (coded× coded_op (coded× coded_kind (finite.code coded_value coded_ℤ))))
+    (λ k. (k.key, (k.op, (k.kind, k.numbers)))) (λ p. record { key = p.0; op = p.1.0; kind = p.1.1.0; numbers = p.1.1.1 }) (λ _. refl)
+
+-- the keys are of one type
+abbrev pub HasOneKeyType : {X : Type 0} → ValueMap X → Type 0
+HasOneKeyType m = AllPairs (λ (a b : Value × _). SameKeyType a.0 b.0) (finite.entries m)
+
+-- ---- entries in the order of their keys
+
+-- what may be there at the key, and the new, put together
+abbrev pub entry_with : {K X : Type 0} → (K → K → Ordering) → (Option X → X → X) → List (K × X) → K → X → List (K × X)
+entry_with cmp f es k x = insert_entry cmp es k (f (lookup (is_at (cmp k)) es) x)
+
+-- so for one entry after another
+abbrev pub entries_with : {K X : Type 0} → (K → K → Ordering) → (Option X → X → X) → List (K × X) → List (K × X) → List (K × X)
+entries_with cmp f es [] = es
+entries_with cmp f es (d ∷ ds) = entries_with cmp f (entry_with cmp f es d.0 d.1) ds
+
+-- entries as a map from values
+abbrev pub map_of : {K X : Type 0} → (K → Value) → List (K × X) → ValueMap X
+map_of key es = finite.from_entries (map (λ (e : _ × _). (key e.0, e.1)) es)
+
+-- a key that is a value shows as it is
+abbrev pub itself : Value → Value
+itself v = v
+
+-- each key is one that a part takes whose keys are kept so
+abbrev pub KeysAreKept : {X : Type 0} → Option Kind → ValueMap X → Type 0
+KeysAreKept key m = AllByRecursion (IsKeptKey key) (keys_of (finite.entries m))
+
+-- entries as those of a dictionary
+abbrev pub shown : {K X : Type 0} → (K → Value) → (X → Value) → List (K × X) → List (Value × Value)
+shown key value es = map (λ (e : _ × _). (key e.0, value e.1)) es

@@ -1,0 +1,7 @@
+pub mod Answer
+pub mod Items
+pub mod Kept
+pub mod KeyLaws
+pub mod Keyed
+pub mod KeyedView
+pub mod Total

@@ -1,0 +1,227 @@
+ghost use Rattle.std.specs.Prelude.{◌≡◌, ◌<◌, pos, length, map, IfOk, MatchOption};
+ghost use Rattle.weld_data.specs.Value.{number};
+ghost use Rattle.weld_pieces.specs.Items.{items_of_list};
+ghost use Rattle.weld_pieces.specs.Answer.{IsOutside};
+ghost use Rattle.weld_data.specs.Kind.{IsInteger, InRange};
+ghost use Rattle.weld_builders.specs.Part.{join_cells};
+ghost use Rattle.weld_builders.specs.Range.{AllInRange};
+
+use crate::list::ListPart;
+use crate::number::{combine_kept, narrow, neutral_kept};
+use crate::part::Part;
+use std::alloc::{AllocError, Global};
+use std::marker::Model;
+use weld_data::{Column, Items, Kind, MergeOp, Num, Stop, Val};
+
+/// The operator, the integer kind and the number of cells.
+#[derive(Clone, Copy, Debug, PartialEq, Eq)]
+pub struct CellsShape {
+    pub op: MergeOp,
+    pub kind: Kind,
+    pub count: usize,
+}
+
+/// A number for the cell at an index, from 0.
+#[derive(Clone, Copy, Debug, PartialEq, Eq)]
+pub struct CellItem {
+    pub index: i64,
+    pub number: Num,
+}
+
+/// Numbers of an integer kind by places, combined by an operator.
+#[derive(Debug, Drop)]
+pub struct CellsPart {
+    op: MergeOp,
+    kind: Kind,
+    cells: Vec<i64>,
+}
+
+impl Model for CellsPart {
+    ghost use Rattle.weld_pieces.specs.Total.{Cells, AreCells};
+
+    ghost Value = { Cells };
+
+    ghost view = { λ c. record { op = c.op; kind = c.kind; cells = c.cells.items } };
+
+    ghost invariant = { λ c. AreCells c.kind c.cells.items };
+}
+
+impl CellsPart {
+    ghost use Rattle.std.specs.Prelude.{◌≡◌, IfOk, map, length};
+    ghost use Rattle.weld_data.specs.Value.{number};
+    ghost use Rattle.weld_data.specs.View.{view_column};
+    ghost use Rattle.weld_data.specs.Kind.{IsInteger, InRange};
+    ghost use Rattle.weld_data.specs.Operation.{combination, start_of};
+    ghost use Rattle.weld_builders.specs.Part.{merge_cell, join_cells, repeated};
+    ghost use Rattle.weld_builders.specs.Range.{AllInRange};
+    ghost use Rattle.weld_pieces.specs.Total.{Cells};
+    ghost use Rattle.weld_pieces.specs.Answer.{CellAnswer};
+
+    /// So many cells with the neutral number of the operator.
+    #[tactic(auto, using(crate::proofs::CellLemmas::replicate_is, crate::proofs::CellLemmas::all_in_range_replicate))]
+    pub fn neutral(
+        alloc: Global,
+        op: MergeOp,
+        kind: Kind,
+        count: usize,
+    ) -> Result<CellsPart, AllocError>
+        requires { IsInteger kind }
+        ensures op { IfOk result (λ c. c.op ≡ op) }
+        ensures kind { IfOk result (λ c. c.kind ≡ kind) }
+        ensures cells { IfOk result (λ c. c.cells ≡ repeated (start_of op kind) count) }
+        ensures count { IfOk result (λ c. length c.cells ≡ count) }
+    {
+        let start = neutral_kept(op, kind);
+        let cells = Vec::from_elem(alloc, start, count)?;
+        Ok(CellsPart { op, kind, cells })
+    }
+
+    /// The cells that start with numbers of an integer kind, which they keep. It takes no memory.
+    pub fn from_numbers(op: MergeOp, kind: Kind, cells: Vec<i64>) -> CellsPart
+        requires integer { IsInteger kind }
+        requires in_range { AllInRange kind cells.items }
+        ensures op { result.op ≡ op }
+        ensures kind { result.kind ≡ kind }
+        ensures cells { result.cells ≡ cells.items }
+    {
+        CellsPart { op, kind, cells }
+    }
+
+    /// Merges a number of the cells' kind into the cell at an index, from 0. It faults exactly where
+    /// the index is outside, and takes no memory.
+    #[inline(always)]
+    pub fn merge_number(&mut self, index: i64, x: i64) -> Result<(), Stop>
+        requires { InRange self.old.kind x }
+        ensures op { self.new.op ≡ self.old.op }
+        ensures kind { self.new.kind ≡ self.old.kind }
+        ensures cells { CellAnswer result (merge_cell self.old.op self.old.kind self.old.cells index x) self.old.cells self.new.cells }
+    {
+        match place_of(index, self.cells.len()) {
+            None => Err(Stop::Fault),
+            Some(place) => {
+                let old = self.cells[place];
+                self.cells[place] = combine_kept(self.op, self.kind, old, x);
+                Ok(())
+            }
+        }
+    }
+
+    /// Appends what later cells, as many and of the same operator and kind, have merged. It takes no memory.
+    pub fn append(&mut self, later: &CellsPart)
+        requires kind { self.old.kind ≡ later.now.kind }
+        requires count { length self.old.cells ≡ length later.now.cells }
+        ensures op { self.new.op ≡ self.old.op }
+        ensures kind { self.new.kind ≡ self.old.kind }
+        ensures cells { self.new.cells ≡ join_cells self.old.op self.old.kind self.old.cells later.now.cells }
+        ensures count { length self.new.cells ≡ length self.old.cells }
+    {
+        add_cells(self.op, self.kind, &mut self.cells, &later.cells);
+    }
+
+    /// The cells as a column of their kind. At 64 bits it keeps their memory.
+    pub fn into_column(self, alloc: Global) -> Result<Column, AllocError>
+        ensures { IfOk result (λ c. view_column c ≡ map (number self.kind) self.cells) }
+    {
+        let CellsPart { op: _, kind, cells } = self;
+        if kind == Kind::I64 {
+            return Ok(Column::I64(Items::from_vec(cells)));
+        }
+        Ok(list_of(alloc, kind, &cells)?.into_column())
+    }
+
+    /// How many cells there are. It takes no memory.
+    pub fn count(&self) -> usize
+        ensures { result ≡ length self.now.cells }
+    {
+        self.cells.len()
+    }
+}
+
+/// Numbers of a kind as a list.
+fn list_of(alloc: Global, kind: Kind, numbers: &[i64]) -> Result<ListPart, AllocError>
+    requires { AllInRange kind numbers.now }
+    ensures { IfOk result (λ list. items_of_list list ≡ map (number kind) numbers.now) }
+{
+    let mut list = ListPart::empty(alloc, Some(kind));
+    for x in numbers {
+        list.push_number(kind, *x)?;
+    }
+    Ok(list)
+}
+
+/// The place that an index names among so many cells.
+#[inline(always)]
+fn place_of(index: i64, count: usize) -> Option<usize>
+    ensures { MatchOption result (IsOutside index count) (λ place. (index ≡ pos place) × (place < count)) }
+{
+    if index < 0 || index as u64 >= count as u64 {
+        return None;
+    }
+    Some(index as usize)
+}
+
+/// Combines cells with later ones, place by place.
+fn add_cells(op: MergeOp, kind: Kind, cells: &mut [i64], later: &[i64])
+    requires integer { IsInteger kind }
+    requires cells { AllInRange kind cells.old }
+    requires later { AllInRange kind later.now }
+    requires count { length cells.old ≡ length later.now }
+    ensures cells { cells.new ≡ join_cells op kind cells.old later.now }
+    ensures in_range { AllInRange kind cells.new }
+{
+    for i in 0..cells.len() {
+        cells[i] = combine_kept(op, kind, cells[i], later[i]);
+    }
+}
+
+impl Part for CellsPart {
+    ghost use Rattle.std.specs.Prelude.{refl, length};
+    ghost use Rattle.weld_data.specs.Kind.{IsInteger};
+    ghost use Rattle.weld_data.specs.Value.{number, struct, and_value, no_values};
+    ghost use Rattle.weld_data.specs.View.{view_val};
+    ghost use Rattle.weld_data.specs.declared.kind.Kind.TheVariants as kinds;
+    ghost use Rattle.weld_builders.specs.Builder.{one_part, item};
+    ghost use Rattle.weld_pieces.specs.Total.{part_of_cells};
+    ghost use Rattle.weld_pieces.specs.Kept.{kept_cells};
+
+    type Shape = CellsShape;
+
+    type Item = CellItem;
+
+    type Out = Val;
+
+    ghost builder = { λ c. one_part (part_of_cells c) };
+
+    ghost kept = { λ c. kept_cells c.op c.kind (length c.cells) };
+
+    ghost kept_from = { λ s. kept_cells s.op s.kind s.count };
+
+    ghost is_shape = { λ s. IsInteger s.kind };
+
+    ghost as_item = { λ i. item (struct (and_value (number kinds.I64 i.index) (and_value (number i.number.kind i.number.value) no_values))) };
+
+    ghost out = { view_val };
+
+    ghost spare = { λ _. 0 };
+
+    ghost finishes = { λ _. Unit {0} };
+
+    fn start(alloc: Global, shape: &CellsShape) -> Result<CellsPart, AllocError> {
+        CellsPart::neutral(alloc, shape.op, shape.kind, shape.count)
+    }
+
+    fn merge(&mut self, item: CellItem) -> Result<(), Stop> {
+        self.merge_number(item.index, narrow(item.number.kind, item.number.value))
+    }
+
+    fn join(&mut self, later: CellsPart) -> Result<(), AllocError> {
+        self.append(&later);
+        Ok(())
+    }
+
+    fn finish(self, alloc: Global) -> Result<Val, AllocError> {
+        Ok(Val::List(self.into_column(alloc)?))
+    }
+
+    ghost bare_is = { λ c. refl };
+}

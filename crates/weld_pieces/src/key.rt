@@ -1,0 +1,111 @@
+//! Keys that are kept in order as values.
+
+use crate::compare::compare_values;
+use std::cmp::Ordering;
+use std::marker::Model;
+use weld_data::Val;
+
+/// A value that is a key.
+#[derive(Debug, Drop)]
+pub struct Key {
+    value: Val,
+}
+
+impl Model for Key {
+    ghost use Rattle.weld_data.specs.Value as plain;
+    ghost use Rattle.weld_data.specs.ValueCode.{coded_value};
+
+    ghost Value = { plain.Value };
+
+    ghost coded = { coded_value };
+
+    ghost use Rattle.weld_data.specs.View.{view_val};
+    ghost use Rattle.weld_data.specs.Order.{IsKey};
+
+    ghost view = { λ k. view_val k.value };
+
+    ghost invariant = { λ k. IsKey (view_val k.value) };
+}
+
+impl Key {
+    ghost use Rattle.std.specs.Prelude.{◌≡◌};
+    ghost use Rattle.weld_data.specs.View.{view_val};
+    ghost use Rattle.weld_builders.specs.ValueOrder.{value_cmp};
+    ghost use Rattle.weld_data.specs.Order.{IsKey};
+
+    /// The key of this value. It takes no memory.
+    pub fn new(value: Val) -> Key
+        requires { IsKey (view_val value) }
+        ensures { result ≡ view_val value }
+    {
+        Key { value }
+    }
+
+    /// The value, given up. It takes no memory.
+    pub fn into_value(self) -> Val
+        ensures value { view_val result ≡ self }
+        ensures key { IsKey self }
+    {
+        let Key { value } = self;
+        value
+    }
+
+    /// How this key stands to another.
+    fn stands(&self, other: &Key) -> Ordering
+        ensures { result ≡ value_cmp self.now other.now }
+    {
+        compare_values(&self.value, &other.value)
+    }
+}
+
+impl PartialEq for Key {
+    ghost use Rattle.std.specs.Ordering.{eq_by_cmp};
+    ghost use Rattle.weld_builders.specs.ValueOrder.{value_cmp};
+    ghost use Rattle.weld_pieces.specs.KeyLaws.{equal_laws};
+
+    ghost eq = { eq_by_cmp value_cmp };
+
+    fn eq(&self, other: &Key) -> bool {
+        self.stands(other).is_eq()
+    }
+
+    ghost laws = { equal_laws };
+}
+
+impl Eq for Key {
+    ghost use Rattle.weld_pieces.specs.KeyLaws.{equivalence};
+
+    ghost laws = { equivalence };
+}
+
+impl PartialOrd for Key {
+    ghost use Rattle.std.specs.Ordering.{as_partial_cmp};
+    ghost use Rattle.weld_builders.specs.ValueOrder.{value_cmp};
+    ghost use Rattle.weld_pieces.specs.KeyLaws.{partial_laws};
+
+    ghost partial_cmp = { as_partial_cmp value_cmp };
+
+    fn partial_cmp(&self, other: &Key) -> Option<Ordering> {
+        Some(self.stands(other))
+    }
+
+    ghost laws = { partial_laws };
+}
+
+impl Ord for Key {
+    ghost use Rattle.weld_builders.specs.ValueOrder.{value_cmp};
+    ghost use Rattle.weld_pieces.specs.KeyLaws.{total_order};
+    ghost use Rattle.std.proofs.Common.{refl};
+
+    ghost cmp = { value_cmp };
+
+    fn cmp(&self, other: &Key) -> Ordering {
+        self.stands(other)
+    }
+
+    ghost total = { total_order };
+
+    ghost matches_partial_cmp = { λ x y. refl };
+
+    ghost matches_eq = { λ x y. refl };
+}

@@ -1,0 +1,21 @@
+//! Parts of builders: what a piece of a loop has merged, and how the parts of one builder join again.
+#![tactic(auto)]
+
+pub mod cells;
+mod compare;
+mod grow;
+pub mod key;
+pub mod keyed;
+pub mod laws;
+pub mod list;
+mod number;
+mod ordered;
+mod pairs;
+pub mod part;
+pub mod total;
+
+pub use cells::{CellItem, CellsPart, CellsShape};
+pub use keyed::KeyedPart;
+pub use list::ListPart;
+pub use part::Part;
+pub use total::{TotalPart, TotalShape};

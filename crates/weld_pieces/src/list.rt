@@ -1,0 +1,198 @@
+use crate::grow::append_item;
+use crate::part::Part;
+use std::alloc::{AllocError, Global};
+use weld_data::{Column, Items, Kind, Stop, Val, Vals};
+
+/// The items of a list, numbers of one kind in an array of that kind. A caller that merges many
+/// numbers matches once and pushes onto the array itself.
+#[derive(Debug, Drop)]
+pub enum ListPart {
+    Bool(Vec<bool>),
+    I8(Vec<i8>),
+    U8(Vec<u8>),
+    I32(Vec<i32>),
+    I64(Vec<i64>),
+    Nest(Vec<Val>),
+}
+
+impl ListPart {
+    ghost use Rattle.std.specs.Prelude.{◌≡◌, ◌<◌, ◌≤◌, ◌+◌, [], Some, None, IsOk, OnOk, OnErr, ◌∷◌, ◌++◌};
+    ghost use Rattle.weld_data.specs.Value.{number};
+    ghost use Rattle.weld_data.specs.Kind.{InRange};
+    ghost use Rattle.weld_data.specs.View.{view_val, view_column};
+    ghost use Rattle.weld_pieces.specs.Items.{kind_of_items, items_of_list, spare_of_list};
+    ghost use Rattle.weld_pieces.specs.Kept.{IsKeptAs};
+
+    /// The list without items; of numbers of a kind, or of values. It takes no memory.
+    pub fn empty(alloc: Global, kind: Option<Kind>) -> ListPart
+        ensures items { items_of_list result ≡ [] }
+        ensures kind { kind_of_items result ≡ kind }
+        ensures spare { spare_of_list result ≡ 0 }
+    {
+        match kind {
+            Some(Kind::Bool) => ListPart::Bool(Vec::new(alloc)),
+            Some(Kind::I8) => ListPart::I8(Vec::new(alloc)),
+            Some(Kind::U8) => ListPart::U8(Vec::new(alloc)),
+            Some(Kind::I32) => ListPart::I32(Vec::new(alloc)),
+            Some(Kind::I64) => ListPart::I64(Vec::new(alloc)),
+            None => ListPart::Nest(Vec::new(alloc)),
+        }
+    }
+
+    /// Appends a number of the list's kind, false being 0 and true 1. With room to spare it takes no
+    /// memory, and there is room for one less afterwards. Where memory is wanting, the list stays as
+    /// it was.
+    pub fn push_number(&mut self, kind: Kind, x: i64) -> Result<(), AllocError>
+        requires kind { kind_of_items self.old ≡ Some kind }
+        requires in_range { InRange kind x }
+        ensures ok { OnOk result (items_of_list self.new ≡ items_of_list self.old ++ number kind x ∷ []) }
+        ensures err { OnErr result (items_of_list self.new ≡ items_of_list self.old) }
+        ensures kind { kind_of_items self.new ≡ kind_of_items self.old }
+        ensures room { 0 < spare_of_list self.old → IsOk result }
+        ensures lower { 0 < spare_of_list self.old → spare_of_list self.new + 1 ≡ spare_of_list self.old }
+    {
+        match self {
+            ListPart::Bool(items) => append_item(items, x == 1),
+            ListPart::I8(items) => append_item(items, x as i8),
+            ListPart::U8(items) => append_item(items, x as u8),
+            ListPart::I32(items) => append_item(items, x as i32),
+            ListPart::I64(items) => append_item(items, x),
+            ListPart::Nest(_) => unreachable!(),
+        }
+    }
+
+    /// Appends an item: a number of the list's kind, or any value where it is a list of values. Room
+    /// and want of memory are as for a number.
+    pub fn push(&mut self, item: Val) -> Result<(), AllocError>
+        requires { IsKeptAs (kind_of_items self.old) (view_val item) }
+        ensures ok { OnOk result (items_of_list self.new ≡ items_of_list self.old ++ view_val item ∷ []) }
+        ensures err { OnErr result (items_of_list self.new ≡ items_of_list self.old) }
+        ensures kind { kind_of_items self.new ≡ kind_of_items self.old }
+        ensures room { 0 < spare_of_list self.old → IsOk result }
+        ensures lower { 0 < spare_of_list self.old → spare_of_list self.new + 1 ≡ spare_of_list self.old }
+    {
+        match self {
+            ListPart::Nest(items) => append_item(items, item),
+            _ => match item {
+                Val::Num(n) => self.push_number(n.kind, n.value as i64),
+                _ => unreachable!(),
+            },
+        }
+    }
+
+    /// Appends the items of a later list of the same kind, without a copy of those that are here.
+    /// Where memory is wanting, this list stays as it was, and the later one is dropped.
+    pub fn append(&mut self, later: ListPart) -> Result<(), AllocError>
+        requires { kind_of_items self.old ≡ kind_of_items later }
+        ensures ok { OnOk result (items_of_list self.new ≡ items_of_list self.old ++ items_of_list later) }
+        ensures err { OnErr result (items_of_list self.new ≡ items_of_list self.old) }
+        ensures kind { kind_of_items self.new ≡ kind_of_items self.old }
+    {
+        match (self, later) {
+            (ListPart::Bool(items), ListPart::Bool(more)) => items.extend_from_slice(&more),
+            (ListPart::I8(items), ListPart::I8(more)) => items.extend_from_slice(&more),
+            (ListPart::U8(items), ListPart::U8(more)) => items.extend_from_slice(&more),
+            (ListPart::I32(items), ListPart::I32(more)) => items.extend_from_slice(&more),
+            (ListPart::I64(items), ListPart::I64(more)) => items.extend_from_slice(&more),
+            (ListPart::Nest(items), ListPart::Nest(mut more)) => items.append(&mut more),
+            _ => unreachable!(),
+        }
+    }
+
+    /// The items as a column, which keeps their memory. It takes none.
+    pub fn into_column(self) -> Column
+        ensures { view_column result ≡ items_of_list self }
+    {
+        match self {
+            ListPart::Bool(items) => Column::Bool(Items::from_vec(items)),
+            ListPart::I8(items) => Column::I8(Items::from_vec(items)),
+            ListPart::U8(items) => Column::U8(Items::from_vec(items)),
+            ListPart::I32(items) => Column::I32(Items::from_vec(items)),
+            ListPart::I64(items) => Column::I64(Items::from_vec(items)),
+            ListPart::Nest(items) => Column::Nest(Vals::from_vec(items)),
+        }
+    }
+
+    /// For how many more items there is room.
+    pub fn spare(&self) -> usize
+        ensures { result ≡ spare_of_list self.now }
+    {
+        match self {
+            ListPart::Bool(items) => items.capacity() - items.len(),
+            ListPart::I8(items) => items.capacity() - items.len(),
+            ListPart::U8(items) => items.capacity() - items.len(),
+            ListPart::I32(items) => items.capacity() - items.len(),
+            ListPart::I64(items) => items.capacity() - items.len(),
+            ListPart::Nest(items) => items.capacity() - items.len(),
+        }
+    }
+
+    /// Makes room for as many more items at least, and leaves those that are there.
+    pub fn reserve(&mut self, items: u64) -> Result<(), AllocError>
+        ensures content { items_of_list self.new ≡ items_of_list self.old }
+        ensures kind { kind_of_items self.new ≡ kind_of_items self.old }
+        ensures spare { OnOk result (items ≤ spare_of_list self.new) }
+    {
+        let more = items as usize;
+        match self {
+            ListPart::Bool(items) => items.reserve(more),
+            ListPart::I8(items) => items.reserve(more),
+            ListPart::U8(items) => items.reserve(more),
+            ListPart::I32(items) => items.reserve(more),
+            ListPart::I64(items) => items.reserve(more),
+            ListPart::Nest(items) => items.reserve(more),
+        }
+    }
+}
+
+impl Part for ListPart {
+    ghost use Rattle.std.specs.Prelude.{refl};
+    ghost use Rattle.weld_data.specs.View.{view_val};
+    ghost use Rattle.weld_builders.specs.Part.{list_part};
+    ghost use Rattle.weld_builders.specs.Builder.{one_part, item};
+    ghost use Rattle.weld_pieces.specs.Items.{kind_of_items, items_of_list, spare_of_list};
+    ghost use Rattle.weld_pieces.specs.Kept.{kept_list};
+
+    type Shape = Option<Kind>;
+
+    type Item = Val;
+
+    type Out = Val;
+
+    ghost builder = { λ p. one_part (list_part (items_of_list p)) };
+
+    ghost kept = { λ p. kept_list (kind_of_items p) };
+
+    ghost kept_from = { λ kind. kept_list kind };
+
+    ghost is_shape = { λ _. Unit {0} };
+
+    ghost as_item = { λ v. item (view_val v) };
+
+    ghost out = { view_val };
+
+    ghost spare = { spare_of_list };
+
+    ghost finishes = { λ p. Unit {0} };
+
+    fn start(alloc: Global, shape: &Option<Kind>) -> Result<ListPart, AllocError> {
+        Ok(ListPart::empty(alloc, *shape))
+    }
+
+    fn merge(&mut self, item: Val) -> Result<(), Stop> {
+        match self.push(item) {
+            Ok(()) => Ok(()),
+            Err(_) => Err(Stop::Memory),
+        }
+    }
+
+    fn join(&mut self, later: ListPart) -> Result<(), AllocError> {
+        self.append(later)
+    }
+
+    fn finish(self, _alloc: Global) -> Result<Val, AllocError> {
+        Ok(Val::List(self.into_column()))
+    }
+
+    ghost bare_is = { λ p. refl };
+}

@@ -1,0 +1,5 @@
+//! Tests of the parts of builders.
+#![tactic(auto)]
+
+#[cfg(test)]
+mod tests;
