@@ -1,0 +1,13 @@
+pub mod Thing
+pub mod Environment
+pub mod Evaluation
+pub mod Origin
+pub mod Linear
+pub mod Available
+pub mod Typing
+pub mod ThingType
+pub mod Accepted
+pub mod Loops
+pub mod Meaning
+pub mod Names
+pub mod LinearWalk
