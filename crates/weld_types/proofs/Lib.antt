@@ -1,0 +1,5 @@
+pub mod CodeTests
+mod Cases
+mod TestLemmas
+mod Tables
+pub mod Typing

@@ -1,0 +1,5 @@
+pub mod Tests
+pub mod Walk
+pub mod Sizes
+pub mod Says
+pub mod ScopeView
