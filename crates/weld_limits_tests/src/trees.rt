@@ -35,6 +35,7 @@ fn lets(alloc: Global, count: u32) -> Result<Box<Expr>, AllocError> {
             sym: Sym(0),
             place: Place { line: 1, column: 1 },
             note: None,
+            note_place: Place { line: 1, column: 1 },
         };
         let form = Form::Let(binder, truth(alloc, 3)?, e);
         e = Box::new(alloc, node(form, 1))?;

@@ -22,7 +22,7 @@ abbrev node : ℕ → At
 node c = record { place = place c; ty = Blank }
 
 abbrev binder : ℕ → ℕ → Binder
-binder s c = record { sym = record { 0 = s }; place = place c; note = None }
+binder s c = record { sym = record { 0 = s }; place = place c; note = None; note_place = place c }
 
 abbrev u8 : ℕ → ExprTree
 u8 n = leaf (node 0) (int U8 (pos n))

@@ -15,7 +15,7 @@ blank_at = record { place = blank_place; ty = Blank }
 
 -- a binder without its number and place
 abbrev pub blank_binder : Binder → Binder
-blank_binder b = record { sym = record { 0 = 0 }; place = blank_place; note = b.note }
+blank_binder b = record { sym = record { 0 = 0 }; place = blank_place; note = b.note; note_place = blank_place }
 
 -- a name by the number of binders in scope between it and its own; a name that none binds stays
 -- apart from those by its own number

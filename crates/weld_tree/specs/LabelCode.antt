@@ -132,13 +132,13 @@ known_at-code_known Blank = refl
 known_at-code_known (Is t) = ap Is (back-code_type t)
 
 abbrev pub code_binder : Binder → Gv
-code_binder b = gcons (gnum b.sym.0) (gcons (code_place b.place) (code_note b.note))
+code_binder b = gcons (gnum b.sym.0) (gcons (gcons (code_place b.place) (code_place b.note_place)) (code_note b.note))
 
 abbrev pub binder_at : Gv → Binder
-binder_at g = record { sym = record { 0 = num (first g) }; place = place_at (first (tail g)); note = note_at (tail (tail g)) }
+binder_at g = record { sym = record { 0 = num (first g) }; place = place_at (first (first (tail g))); note = note_at (tail (tail g)); note_place = place_at (tail (first (tail g))) }
 
 pub binder_at-code_binder : (b : Binder) → binder_at (code_binder b) ≡ b
-binder_at-code_binder b = λ i. record { sym = b.sym; place = b.place; note = note_at-code_note b.note i }
+binder_at-code_binder b = λ i. record { sym = b.sym; place = b.place; note = note_at-code_note b.note i; note_place = b.note_place }
 
 abbrev pub code_at : At → Gv
 code_at a = gcons (code_place a.place) (code_known a.ty)

@@ -6,12 +6,14 @@ use crate::ty::Ty;
 use std::alloc::{AllocError, Global};
 use std::marker::Model;
 
-/// Where a name is bound, with the type that is written beside it, if one is.
+/// Where a name is bound, with the type that is written beside it, if one is, and the place of that
+/// type's first token. Of a binder without a type `note_place` says nothing.
 #[derive(Drop)]
 pub struct Binder {
     pub sym: Sym,
     pub place: Place,
     pub note: Option<Ty>,
+    pub note_place: Place,
 }
 
 /// A list of binders.
@@ -45,6 +47,7 @@ impl Binder {
                 None => None,
                 Some(ty) => Some(ty.copy(alloc)?),
             },
+            note_place: self.note_place,
         })
     }
 }

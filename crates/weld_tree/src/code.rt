@@ -76,7 +76,6 @@ pub enum Code {
     Syntax,
     Range,
     Repeat,
-    Data,
 }
 
 impl Code {
@@ -161,7 +160,6 @@ impl Code {
             Code::Syntax => "SYNTAX",
             Code::Range => "RANGE",
             Code::Repeat => "REPEAT",
-            Code::Data => "DATA",
         }
     }
 }

@@ -24,6 +24,7 @@ fn lists_of_trees(rt: HostRuntime) -> Result<(), Fail> {
         sym: Sym(0),
         place: Place { line: 1, column: 1 },
         note: None,
+        note_place: Place { line: 1, column: 1 },
     };
     let binders = Binders::from_vec(vec![in alloc; binder]?);
     assert_eq!(rt; binders.copy(alloc)?.into_vec().len(), 1);

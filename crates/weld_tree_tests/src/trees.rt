@@ -16,6 +16,7 @@ fn binder(sym: u32) -> Binder {
         sym: Sym(sym),
         place: Place { line: 1, column: 1 },
         note: None,
+        note_place: Place { line: 1, column: 1 },
     }
 }
 
