@@ -1,19 +1,19 @@
 -- What is written of a scalar or of a string's byte reads as it.
-use Rattle.std.proofs.Common.{◌≡◌, ◌⊎◌, inl, inr, sym, ◌∙◌, ℕ, zero, suc, ◌+◌, ◌-◌, ◌*◌, ◌/◌, ◌%◌, ◌<◌, ◌≤◌, ◌^◌, Bool, true, false, ◌==◌, ◌&&◌, not, cond, nat_le, nat_lt, IsTrue, List, [], ◌∷◌, ◌++◌, length, Option, Some, None, refl, ap, subst, arith, rules, ℤ, pos, negsuc, neg_ℤ, codes, append_assoc}
-use Rattle.std.specs.Option.{option_map, option_and_then}
+use Rattle.std.proofs.Common.{◌≡◌, ◌⊎◌, inl, inr, sym, ◌∙◌, ℕ, zero, suc, ◌+◌, ◌/◌, ◌%◌, ◌<◌, ◌≤◌, ◌^◌, Bool, true, false, ◌==◌, ◌&&◌, not, cond, nat_le, nat_lt, IsTrue, List, [], ◌∷◌, ◌++◌, length, Option, Some, None, refl, ap, subst, arith, rules, ℤ, pos, negsuc, neg_ℤ, codes}
+use Rattle.std.specs.Option.{option_map}
 use Rattle.std.specs.Fmt.{decimal, signed_decimal}
 use Rattle.std.proofs.lemmas.Fmt.{digits_decimal, digits_value-decimal, decimal_nonempty}
 use Rattle.std.proofs.lemmas.Str.Parse.{IsNumeralModel, numerals_by_fold}
-use Rattle.std.proofs.lemmas.Bool.{false≢true, and_parts, eqb-true, not-true, both_ways}
+use Rattle.std.proofs.lemmas.Bool.{and_parts, eqb-true, not-true}
 use Rattle.std.proofs.lemmas.Bool.Decides.{nat_tests}
 use borrow.Author.Tests.{ltb-true, ltb-false}
 use Rattle.std.proofs.lemmas.Int.{ints}
 use Rattle.weld_data.specs.declared.kind.Kind.{Kind}
 use Rattle.weld_data.specs.declared.kind.Kind.TheVariants as kinds
-use Rattle.weld_data.specs.Kind.{InRange, IsInteger}
-use Rattle.weld_data.specs.Value.{Value, number}
-use Rattle.weld_values.specs.Tokens.{is_blank, after_blanks, after_byte, byte_at, after_word, is_digit, digit_run, after_digits, value_after, numeral_of, numeral_at, signed_at, integer_at, hex_digit, hex_byte, escape_at, item_at}
-use Rattle.weld_values.specs.Grammar.{or_else, truth_at, number_at, scalar_at}
+use Rattle.weld_data.specs.Kind.{InRange}
+use Rattle.weld_data.specs.Value.{number}
+use Rattle.weld_values.specs.Tokens.{is_blank, after_blanks, after_byte, after_word, is_digit, digit_run, after_digits, value_after, numeral_of, numeral_at, signed_at, integer_at, hex_digit, hex_byte, escape_at, item_at}
+use Rattle.weld_values.specs.Grammar.{truth_at, number_at, scalar_at}
 use Rattle.weld_values.specs.Showing.{shown_number, shown_byte, hex_of}
 
 -- nothing but digits
@@ -80,13 +80,21 @@ integer_back (negsuc n) rest r e =
     let small : suc n < 2 ^ 64 = omega (arith, ints, r.low) in
     ap (λ (o : Option (ℕ × List ℕ)). option_map (λ (f : ℕ × List ℕ). (neg_ℤ (pos f.0), f.1)) o) (decimal_back (suc n) rest small e)
 
--- a text that begins with a byte other than a blank and a closing bracket
-pub record Begins (text : List ℕ) : Type 0 where
+-- the byte closes a list or a dictionary
+abbrev pub Closes : ℕ → Type 0
+Closes close = (close ≡ 93) ⊎ (close ≡ 125)
+
+-- a text that begins with a byte other than a blank and the closing byte
+pub record Begins (close : ℕ) (text : List ℕ) : Type 0 where
   pub byte : ℕ
   pub more : List ℕ
   pub parts : text ≡ byte ∷ more
   pub bare : is_blank byte ≡ false
-  pub open_still : (byte == 93) ≡ false
+  pub open_still : (byte == close) ≡ false
+
+pub differs : (byte close : ℕ) → Closes close → (byte == 93) ≡ false → (byte == 125) ≡ false → (byte == close) ≡ false
+differs byte close (inl e) a b = subst (λ (c : ℕ). (byte == c) ≡ false) (sym e) a
+differs byte close (inr e) a b = subst (λ (c : ℕ). (byte == c) ≡ false) (sym e) b
 
 digit_bare : (byte : ℕ) → is_digit byte ≡ true → is_blank byte ≡ false
 digit_bare byte d = grind arith
@@ -94,18 +102,21 @@ digit_bare byte d = grind arith
 digit_no_bracket : (byte : ℕ) → is_digit byte ≡ true → (byte == 93) ≡ false
 digit_no_bracket byte d = grind arith
 
-digits_begin : (digits : List ℕ) → 0 < length digits → IsTrue (all_digits digits) → Begins digits
-digits_begin [] l h = absurd (omega arith)
-digits_begin (d ∷ ds) l h =
+digit_no_brace : (byte : ℕ) → is_digit byte ≡ true → (byte == 125) ≡ false
+digit_no_brace byte d = grind arith
+
+digits_begin : (close : ℕ) → Closes close → (digits : List ℕ) → 0 < length digits → IsTrue (all_digits digits) → Begins close digits
+digits_begin close c [] l h = absurd (omega arith)
+digits_begin close c (d ∷ ds) l h =
     let p = (and_parts (is_digit d) (all_digits ds) h).0 in
-    record { byte = d; more = ds; parts = refl; bare = digit_bare d p; open_still = digit_no_bracket d p }
+    record { byte = d; more = ds; parts = refl; bare = digit_bare d p; open_still = differs d close c (digit_no_bracket d p) (digit_no_brace d p) }
 
-pub integer_begins : (x : ℤ) → InRange kinds.I64 x → Begins (signed_decimal x)
-integer_begins (pos n) r = let small : n < 2 ^ 64 = omega (arith, ints, r.high) in digits_begin (decimal n) (decimal_nonempty n small) (digits_decimal own n small)
-integer_begins (negsuc n) r = record { byte = 45; more = decimal (suc n); parts = refl; bare = refl; open_still = refl }
+pub integer_begins : (close : ℕ) → Closes close → (x : ℤ) → InRange kinds.I64 x → Begins close (signed_decimal x)
+integer_begins close c (pos n) r = let small : n < 2 ^ 64 = omega (arith, ints, r.high) in digits_begin close c (decimal n) (decimal_nonempty n small) (digits_decimal own n small)
+integer_begins close c (negsuc n) r = record { byte = 45; more = decimal (suc n); parts = refl; bare = refl; open_still = differs 45 close c refl refl }
 
-pub begins_bare : (text rest : List ℕ) → Begins text → after_blanks (text ++ rest) ≡ text ++ rest
-begins_bare text rest b =
+pub begins_bare : (close : ℕ) (text rest : List ℕ) → Begins close text → after_blanks (text ++ rest) ≡ text ++ rest
+begins_bare close text rest b =
     ap (λ (t : List ℕ). after_blanks (t ++ rest)) b.parts ∙ ap (λ (c : Bool). cond c (after_blanks (b.more ++ rest)) (b.byte ∷ b.more ++ rest)) b.bare ∙ ap (λ (t : List ℕ). t ++ rest) (sym b.parts)
 
 -- a kind's numbers are numbers of kind i64
@@ -118,7 +129,7 @@ widened kinds.I64 x r = r
 
 number_back : (k : Kind) (x : ℤ) (rest : List ℕ) → InRange k x → IsTrue (ends_number rest) → number_at k (signed_decimal x ++ rest) ≡ Some (number k x, rest)
 number_back k x rest r e =
-    ap (λ (t : List ℕ). option_map (λ (f : ℤ × List ℕ). (number k f.0, f.1)) (integer_at t)) (begins_bare (signed_decimal x) rest (integer_begins x (widened k x r)))
+    ap (λ (t : List ℕ). option_map (λ (f : ℤ × List ℕ). (number k f.0, f.1)) (integer_at t)) (begins_bare 93 (signed_decimal x) rest (integer_begins 93 (inl refl) x (widened k x r)))
     ∙ ap (λ (o : Option (ℤ × List ℕ)). option_map (λ (f : ℤ × List ℕ). (number k f.0, f.1)) o) (integer_back x rest (widened k x r) e)
 
 -- a truth value is 0 or 1
@@ -141,16 +152,16 @@ scalar_back kinds.U8 x rest r e = number_back kinds.U8 x rest r e
 scalar_back kinds.I32 x rest r e = number_back kinds.I32 x rest r e
 scalar_back kinds.I64 x rest r e = number_back kinds.I64 x rest r e
 
-truth_begins : (x : ℤ) → (x ≡ pos 0) ⊎ (x ≡ pos 1) → Begins (shown_number kinds.Bool x)
-truth_begins x (inl e) = subst (λ (y : ℤ). Begins (shown_number kinds.Bool y)) (sym e) (record { byte = 102; more = codes "alse"; parts = refl; bare = refl; open_still = refl })
-truth_begins x (inr e) = subst (λ (y : ℤ). Begins (shown_number kinds.Bool y)) (sym e) (record { byte = 116; more = codes "rue"; parts = refl; bare = refl; open_still = refl })
+truth_begins : (close : ℕ) → Closes close → (x : ℤ) → (x ≡ pos 0) ⊎ (x ≡ pos 1) → Begins close (shown_number kinds.Bool x)
+truth_begins close c x (inl e) = subst (λ (y : ℤ). Begins close (shown_number kinds.Bool y)) (sym e) (record { byte = 102; more = codes "alse"; parts = refl; bare = refl; open_still = differs 102 close c refl refl })
+truth_begins close c x (inr e) = subst (λ (y : ℤ). Begins close (shown_number kinds.Bool y)) (sym e) (record { byte = 116; more = codes "rue"; parts = refl; bare = refl; open_still = differs 116 close c refl refl })
 
-pub scalar_begins : (k : Kind) (x : ℤ) → InRange k x → Begins (shown_number k x)
-scalar_begins kinds.Bool x r = truth_begins x (zero_or_one x r)
-scalar_begins kinds.I8 x r = integer_begins x (widened kinds.I8 x r)
-scalar_begins kinds.U8 x r = integer_begins x (widened kinds.U8 x r)
-scalar_begins kinds.I32 x r = integer_begins x (widened kinds.I32 x r)
-scalar_begins kinds.I64 x r = integer_begins x r
+pub scalar_begins : (close : ℕ) → Closes close → (k : Kind) (x : ℤ) → InRange k x → Begins close (shown_number k x)
+scalar_begins close c kinds.Bool x r = truth_begins close c x (zero_or_one x r)
+scalar_begins close c kinds.I8 x r = integer_begins close c x (widened kinds.I8 x r)
+scalar_begins close c kinds.U8 x r = integer_begins close c x (widened kinds.U8 x r)
+scalar_begins close c kinds.I32 x r = integer_begins close c x (widened kinds.I32 x r)
+scalar_begins close c kinds.I64 x r = integer_begins close c x r
 
 -- ---- strings
 

@@ -1,7 +1,7 @@
 -- A byte of a number of kind i8 is taken for that number again.
-use Rattle.std.proofs.Common.{◌≡◌, sym, ◌∙◌, ap, ℕ, ◌%◌, ◌<◌, ◌^◌, ℤ, pos, arith, rules, FitsSigned, mod-eq_of_lt, unsigned_abs}
-use Rattle.std.specs.Int.{w8, cast_unsigned, cast_signed, int_wrap, int_rem_euclid}
-use Rattle.std.proofs.lemmas.Int.{ints, to_z-of_z}
+use Rattle.std.proofs.Common.{◌≡◌, ◌∙◌, ap, ℕ, ◌<◌, ℤ, pos, rules, FitsSigned, mod-eq_of_lt}
+use Rattle.std.specs.Int.{w8, cast_unsigned, cast_signed, int_wrap}
+use Rattle.std.proofs.lemmas.Int.{to_z-of_z}
 use Rattle.std.proofs.Math.Facts.{Fits-of_z}
 use Rattle.weld_data.specs.declared.kind.Kind.TheVariants as kinds
 use Rattle.weld_data.specs.Kind.{InRange}
@@ -10,7 +10,7 @@ use Rattle.weld_data.specs.Value.{Value}
 use Rattle.weld_tree.specs.TypeTree.{TypeTree}
 use Rattle.weld_fits.specs.HasValue.{HasValue}
 use Rattle.weld_values.specs.Reading.{ReadsAs}
-use Rattle.weld_values.specs.Judging.{IsPlain}
+use Rattle.weld_values.specs.Judging.{IsReadable}
 use Rattle.weld_values.specs.Showing.{show}
 use Rattle.weld_values.proofs.RoundTrip.{BytesAreNumbers, written_reads_by}
 
@@ -30,5 +30,5 @@ bytes_are_numbers x r =
     let small = byte_small x f in
     (small, byte_wraps (cast_unsigned w8 x) small ∙ to_z-of_z w8 x f)
 
-pub written_reads : (t : TypeTree) (v : Value) → IsPlain t → HasValue t v → ReadsAs (show t v) t v
+pub written_reads : (t : TypeTree) (v : Value) → IsReadable t → HasValue t v → ReadsAs (show t v) t v
 written_reads = written_reads_by bytes_are_numbers

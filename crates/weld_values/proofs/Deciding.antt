@@ -1,26 +1,28 @@
--- Of a type without builders and dictionaries, each text reads as a value or has a reason not to.
-use Rattle.std.proofs.Common.{◌≡◌, ◌⊎◌, inl, inr, sym, ◌∙◌, ℕ, zero, suc, ◌<◌, List, [], ◌∷◌, length, Option, Some, None, refl, ap, subst, arith, map, pos, ℤ, ◌<ℤ◌, ◌≤ℤ◌}
+-- Each text reads as a value of a type without builders, or has a reason not to.
+use Rattle.std.proofs.Common.{◌≡◌, ◌⊎◌, inl, inr, sym, ◌∙◌, ℕ, zero, suc, ◌<◌, ◌==◌, false, List, [], ◌∷◌, length, Option, Some, None, refl, ap, subst, arith, map, pos, ℤ, ◌<ℤ◌, ◌≤ℤ◌, codes}
 use Rattle.std.proofs.lemmas.Int.{by_lt_z, ints}
 use Rattle.weld_data.specs.declared.kind.Kind.{Kind}
 use Rattle.weld_data.specs.declared.kind.Kind.TheVariants.{I8}
 use Rattle.weld_data.specs.Kind.{InRange, least, greatest}
 use Rattle.weld_data.specs.Wrapped.{wrapped}
-use Rattle.weld_data.specs.Value.{Value, Values, number, list, struct, dict, values, and_value, no_values}
+use Rattle.weld_data.specs.Value.{Value, Values, Entries, number, list, struct, dict, values, and_value, no_values, no_entries, and_entry, entries}
 use Rattle.weld_tree.specs.TypeTree.{TypeTree, TypeTrees, scalar, vec, struct as struct_of, dict as dict_of, build, no_types, more_types}
 use Rattle.weld_values.specs.declared.fault.DataFault.{DataFault}
-use Rattle.weld_values.specs.declared.fault.DataFault.TheVariants.{Syntax, Range, Memory}
-use Rattle.weld_values.specs.Tokens.{after_blanks, after_byte, byte_at, item_at}
-use Rattle.weld_values.specs.Grammar.{Part, Listed, Enclosed, Found, AtItems, AtString, AtField, AtStruct, At, Fields, IsI8, scalar_at}
-use Rattle.weld_values.specs.Reading.{Spells, ReadsAs, WhyNot, IsInRange, AreInRange, Settles, SettleAll}
-use Rattle.weld_values.specs.Judging.{IsUnread, IsPlain, ArePlain}
+use Rattle.weld_values.specs.declared.fault.DataFault.TheVariants.{Syntax, Range, Repeat, Memory}
+use Rattle.weld_values.specs.Tokens.{after_blanks, after_byte, byte_at, after_word, item_at}
+use Rattle.weld_values.specs.Grammar.{Part, Listed, Enclosed, Found, AtItems, AtString, AtEntry, AtDict, AtField, AtStruct, At, Fields, IsI8, scalar_at}
+use Rattle.weld_values.specs.Reading.{Spells, ReadsAs, WhyNot, IsInRange, AreInRange, EntriesInRange}
+use Rattle.weld_values.specs.Judging.{IsUnread, IsReadable, AreReadable}
 use Rattle.weld_values.proofs.Listings.{Sole, some_is, none_is, after_one, after_comma, after_last, more_listed, no_first}
-use Rattle.weld_values.proofs.Soles.{at_sole, fields_sole}
-use Rattle.weld_values.proofs.Shrinks.{Shrinks, at_shrinks, item_shorter}
+use Rattle.weld_values.proofs.EntryListings.{no_word, no_brace, dict_unread, no_key, no_colon, no_value}
+use Rattle.weld_values.proofs.KeyTypes.{key_readable}
+use Rattle.weld_values.proofs.Soles.{at_sole, fields_sole, entry_sole}
+use Rattle.weld_values.proofs.Shrinks.{Shrinks, at_shrinks, entry_shrinks, item_shorter}
 use Rattle.weld_values.proofs.Scalars.{byte_at_shorter}
 use Rattle.weld_values.proofs.Strings.{stuck, next_only}
 use Rattle.weld_values.proofs.Vectors.{string_unread, neither_read, list_unread}
 use Rattle.weld_values.proofs.RoundTrip.{is_i8_or_not}
-use Rattle.weld_values.proofs.Readings.{NoDict, NoDicts, plain_no_dict}
+use Rattle.weld_values.proofs.Settling.{SettlesOrRepeats, settles_or_repeats}
 
 -- such a part stands at the front of a text, or none does
 abbrev Decided : {A : Type 0} → Part A → List ℕ → Type 0
@@ -34,55 +36,55 @@ found_by : {A : Type 0} (at : List ℕ → Option (A × List ℕ)) (text : List 
 found_by at text (Some p) e = inl (p.0, p.1, e)
 found_by at text None e = inr (λ x r h. none_is (x, r) (sym e ∙ h))
 
--- ---- one element or more, and the closing bracket
+-- ---- one part or more, and the closing bracket
 
-abbrev Closed : Part Value → Part (List Value)
-Closed R vs text rest = (end : List ℕ) × Listed R vs text end × (byte_at 93 end ≡ Some rest)
+abbrev Closed : {A : Type 0} → Part A → ℕ → Part (List A)
+Closed R c xs text rest = (end : List ℕ) × Listed R xs text end × (byte_at c end ≡ Some rest)
 
-last_by : (R : Part Value) → Sole R → (text mid : List ℕ) (x : Value) → R x text mid → byte_at 44 mid ≡ None → (o : Option (List ℕ)) → byte_at 93 mid ≡ o → Decided (Closed R) text
-last_by R sole text mid x h c (Some rest) b = inl (x ∷ [], rest, (mid, (mid, h, refl), b))
-last_by R sole text mid x h c None b = inr (λ ys r k.
+last_by : {A : Type 0} (R : Part A) → Sole R → (c : ℕ) (text mid : List ℕ) (x : A) → R x text mid → byte_at 44 mid ≡ None → (o : Option (List ℕ)) → byte_at c mid ≡ o → Decided (Closed R c) text
+last_by R sole c text mid x h n (Some rest) b = inl (x ∷ [], rest, (mid, (mid, h, refl), b))
+last_by R sole c text mid x h n None b = inr (λ ys r k.
     let a = after_one R sole text mid x h ys k.0 k.1 in
-    let l = after_last R mid c a.0 k.0 a.2 in
-    none_is r (sym b ∙ ap (byte_at 93) l.1 ∙ k.2))
+    let l = after_last R mid n a.0 k.0 a.2 in
+    none_is r (sym b ∙ ap (byte_at c) l.1 ∙ k.2))
 
-more_by : (R : Part Value) → Sole R → (text mid more : List ℕ) (x : Value) → R x text mid → byte_at 44 mid ≡ Some more → Decided (Closed R) more → Decided (Closed R) text
-more_by R sole text mid more x h c (inl (xs, r, (end, l, b))) = inl (x ∷ xs, r, (end, more_listed R x text mid more h c xs end l, b))
-more_by R sole text mid more x h c (inr u) = inr (λ ys r k.
+more_by : {A : Type 0} (R : Part A) → Sole R → (c : ℕ) → (44 == c) ≡ false → (text mid more : List ℕ) (x : A) → R x text mid → byte_at 44 mid ≡ Some more → Decided (Closed R c) more → Decided (Closed R c) text
+more_by R sole c ne text mid more x h m (inl (xs, r, (end, l, b))) = inl (x ∷ xs, r, (end, more_listed R x text mid more h m xs end l, b))
+more_by R sole c ne text mid more x h m (inr u) = inr (λ ys r k.
     let a = after_one R sole text mid x h ys k.0 k.1 in
-    u a.0 r (k.0, after_comma R 93 refl mid more c a.0 k.0 r a.2 k.2, k.2))
+    u a.0 r (k.0, after_comma R c ne mid more m a.0 k.0 r a.2 k.2, k.2))
 
 -- each shorter text is decided
 abbrev Shorter : {A : Type 0} → Part A → ℕ → Type 0
 Shorter R n = (text : List ℕ) → length text < n → Decided R text
 
-closed_next : (R : Part Value) → Sole R → Shrinks R → (n : ℕ) (text mid : List ℕ) (x : Value) → length text < suc n → Shorter (Closed R) n → R x text mid → (o : Option (List ℕ)) → byte_at 44 mid ≡ o → Decided (Closed R) text
-closed_next R sole less n text mid x h again k None c = last_by R sole text mid x k c (byte_at 93 mid) refl
-closed_next R sole less n text mid x h again k (Some more) c = more_by R sole text mid more x k c (again more (omega (arith, h, less x text mid k, byte_at_shorter 44 mid more c)))
+closed_next : {A : Type 0} (R : Part A) → Sole R → Shrinks R → (c : ℕ) → (44 == c) ≡ false → (n : ℕ) (text mid : List ℕ) (x : A) → length text < suc n → Shorter (Closed R c) n → R x text mid → (o : Option (List ℕ)) → byte_at 44 mid ≡ o → Decided (Closed R c) text
+closed_next R sole less c ne n text mid x h again k None m = last_by R sole c text mid x k m (byte_at c mid) refl
+closed_next R sole less c ne n text mid x h again k (Some more) m = more_by R sole c ne text mid more x k m (again more (omega (arith, h, less x text mid k, byte_at_shorter 44 mid more m)))
 
-closed_first : (R : Part Value) → Sole R → Shrinks R → (n : ℕ) (text : List ℕ) → length text < suc n → Shorter (Closed R) n → Decided R text → Decided (Closed R) text
-closed_first R sole less n text h again (inr u) = inr (λ ys r k. no_first R text u ys k.0 k.1)
-closed_first R sole less n text h again (inl (x, mid, k)) = closed_next R sole less n text mid x h again k (byte_at 44 mid) refl
+closed_first : {A : Type 0} (R : Part A) → Sole R → Shrinks R → (c : ℕ) → (44 == c) ≡ false → (n : ℕ) (text : List ℕ) → length text < suc n → Shorter (Closed R c) n → Decided R text → Decided (Closed R c) text
+closed_first R sole less c ne n text h again (inr u) = inr (λ ys r k. no_first R text u ys k.0 k.1)
+closed_first R sole less c ne n text h again (inl (x, mid, k)) = closed_next R sole less c ne n text mid x h again k (byte_at 44 mid) refl
 
-closed_decided : (R : Part Value) → Sole R → Shrinks R → Decides R → (n : ℕ) (text : List ℕ) → length text < n → Decided (Closed R) text
-closed_decided R sole less one zero text h = absurd (omega arith)
-closed_decided R sole less one (suc n) text h = closed_first R sole less n text h (closed_decided R sole less one n) (one text)
+closed_decided : {A : Type 0} (R : Part A) → Sole R → Shrinks R → (c : ℕ) → (44 == c) ≡ false → Decides R → (n : ℕ) (text : List ℕ) → length text < n → Decided (Closed R c) text
+closed_decided R sole less c ne one zero text h = absurd (omega arith)
+closed_decided R sole less c ne one (suc n) text h = closed_first R sole less c ne n text h (closed_decided R sole less c ne one n) (one text)
 
 -- ---- what stands after an opening bracket
 
-abbrev Inside : Part Value → Part (List Value)
-Inside R vs text rest = Enclosed R 93 (byte_at 93 text) vs text rest
+abbrev Inside : {A : Type 0} → Part A → ℕ → Part (List A)
+Inside R c xs text rest = Enclosed R c (byte_at c text) xs text rest
 
-abbrev InsideBy : Part Value → Option (List ℕ) → List ℕ → Type 0
-InsideBy R o text = ((vs : List Value) × (r : List ℕ) × Enclosed R 93 o vs text r) ⊎ ((vs : List Value) (r : List ℕ) → Enclosed R 93 o vs text r → ⊥)
+abbrev InsideBy : {A : Type 0} → Part A → ℕ → Option (List ℕ) → List ℕ → Type 0
+InsideBy {A} R c o text = ((xs : List A) × (r : List ℕ) × Enclosed R c o xs text r) ⊎ ((xs : List A) (r : List ℕ) → Enclosed R c o xs text r → ⊥)
 
-inside_by : (R : Part Value) → (text : List ℕ) → Decided (Closed R) text → (o : Option (List ℕ)) → InsideBy R o text
-inside_by R text d (Some after) = inl ([], after, (refl, refl))
-inside_by R text (inl d) None = inl d
-inside_by R text (inr u) None = inr u
+inside_by : {A : Type 0} (R : Part A) (c : ℕ) (text : List ℕ) → Decided (Closed R c) text → (o : Option (List ℕ)) → InsideBy R c o text
+inside_by R c text d (Some after) = inl ([], after, (refl, refl))
+inside_by R c text (inl d) None = inl d
+inside_by R c text (inr u) None = inr u
 
-inside_decided : (R : Part Value) → Sole R → Shrinks R → Decides R → Decides (Inside R)
-inside_decided R sole less one text = inside_by R text (closed_decided R sole less one (suc (length text)) text (omega arith)) (byte_at 93 text)
+inside_decided : {A : Type 0} (R : Part A) → Sole R → Shrinks R → (c : ℕ) → (44 == c) ≡ false → Decides R → Decides (Inside R c)
+inside_decided R sole less c ne one text = inside_by R c text (closed_decided R sole less c ne one (suc (length text)) text (omega arith)) (byte_at c text)
 
 -- ---- strings
 
@@ -112,7 +114,7 @@ string_by text (Some inner) b = quoted_by text inner b (items_decided (suc (leng
 
 -- ---- vectors
 
-list_by : (t : TypeTree) (text inner : List ℕ) → byte_at 91 text ≡ Some inner → Decided (Inside (At t)) inner → Decided (At (vec t)) text
+list_by : (t : TypeTree) (text inner : List ℕ) → byte_at 91 text ≡ Some inner → Decided (Inside (At t) 93) inner → Decided (At (vec t)) text
 list_by t text inner b (inl (vs, r, k)) = inl (list (values vs), r, inl (inner, vs, b, k, refl))
 list_by t text inner b (inr u) = inr (list_unread t text inner b u)
 
@@ -125,7 +127,7 @@ no_list t text b (inl i) = string_or t text b i (string_by text (byte_at 34 text
 no_list t text b (inr n) = inr (neither_read t text b n)
 
 vec_by : (t : TypeTree) → Decides (At t) → (text : List ℕ) (o : Option (List ℕ)) → byte_at 91 text ≡ o → Decided (At (vec t)) text
-vec_by t one text (Some inner) b = list_by t text inner b (inside_decided (At t) (at_sole t) (at_shrinks t) one inner)
+vec_by t one text (Some inner) b = list_by t text inner b (inside_decided (At t) (at_sole t) (at_shrinks t) 93 refl one inner)
 vec_by t one text None b = no_list t text b (is_i8_or_not t)
 
 -- ---- structs
@@ -159,17 +161,46 @@ struct_by : (R : Part Values) → Sole R → (text : List ℕ) → Decided R tex
 struct_by R sole text (inl (vs, end, h)) = struct_end R sole text end vs h (byte_at 125 end) refl
 struct_by R sole text (inr u) = inr (λ v r k. u k.0 k.1 k.2)
 
+-- ---- dictionaries
+
+value_by : (R S : Part Value) → Sole R → (text mid start : List ℕ) (key : Value) → R key text mid → byte_at 58 mid ≡ Some start → Decided S start → Decided (AtEntry R S) text
+value_by R S sole text mid start key h b (inl (v, r, k)) = inl ((key, v), r, (mid, start, h, b, k))
+value_by R S sole text mid start key h b (inr u) = inr (no_value R S sole text mid start key h b u)
+
+colon_by : (R S : Part Value) → Sole R → Decides S → (text mid : List ℕ) (key : Value) → R key text mid → (o : Option (List ℕ)) → byte_at 58 mid ≡ o → Decided (AtEntry R S) text
+colon_by R S sole two text mid key h None b = inr (no_colon R S sole text mid key h b)
+colon_by R S sole two text mid key h (Some start) b = value_by R S sole text mid start key h b (two start)
+
+key_by : (R S : Part Value) → Sole R → Decides S → (text : List ℕ) → Decided R text → Decided (AtEntry R S) text
+key_by R S sole two text (inl (key, mid, h)) = colon_by R S sole two text mid key h (byte_at 58 mid) refl
+key_by R S sole two text (inr u) = inr (no_key R S text u)
+
+entries_by : (R S : Part Value) (text brace inner : List ℕ) → after_word (codes "dict") (after_blanks text) ≡ Some brace → byte_at 123 brace ≡ Some inner → Decided (Inside (AtEntry R S) 125) inner → Decided (AtDict R S) text
+entries_by R S text brace inner w b (inl (es, r, k)) = inl (dict (entries es), r, (brace, inner, es, w, b, k, refl))
+entries_by R S text brace inner w b (inr u) = inr (dict_unread R S text brace inner w b u)
+
+brace_by : (R S : Part Value) → Decides (Inside (AtEntry R S) 125) → (text brace : List ℕ) → after_word (codes "dict") (after_blanks text) ≡ Some brace → (o : Option (List ℕ)) → byte_at 123 brace ≡ o → Decided (AtDict R S) text
+brace_by R S inside text brace w None b = inr (no_brace R S text brace w b)
+brace_by R S inside text brace w (Some inner) b = entries_by R S text brace inner w b (inside inner)
+
+dict_by : (R S : Part Value) → Decides (Inside (AtEntry R S) 125) → (text : List ℕ) (o : Option (List ℕ)) → after_word (codes "dict") (after_blanks text) ≡ o → Decided (AtDict R S) text
+dict_by R S inside text None w = inr (no_word R S text w)
+dict_by R S inside text (Some brace) w = brace_by R S inside text brace w (byte_at 123 brace) refl
+
+entries_decided : (k v : TypeTree) → Decides (At k) → Decides (At v) → Decides (Inside (AtEntry (At k) (At v)) 125)
+entries_decided k v one two = inside_decided (AtEntry (At k) (At v)) (entry_sole (At k) (At v) (at_sole k) (at_sole v)) (entry_shrinks (At k) (At v) (at_shrinks k) (at_shrinks v)) 125 refl (λ text. key_by (At k) (At v) (at_sole k) two text (one text))
+
 -- ---- all such types
 
 mutual
-  at_decided : (t : TypeTree) → IsPlain t → Decides (At t)
+  at_decided : (t : TypeTree) → IsReadable t → Decides (At t)
   at_decided (scalar kind) p = λ text. found_by (scalar_at kind) text (scalar_at kind text) refl
   at_decided (vec t) p = λ text. vec_by t (at_decided t p) text (byte_at 91 text) refl
   at_decided (struct_of ts) p = λ text. struct_by (Fields ts 123) (fields_sole ts 123) text (fields_decided ts 123 p text)
-  at_decided (dict_of k v) p = absurd p
+  at_decided (dict_of k v) p = λ text. dict_by (At k) (At v) (entries_decided k v (at_decided k (key_readable k p.0)) (at_decided v p.1)) text (after_word (codes "dict") (after_blanks text)) refl
   at_decided (build b) p = absurd p
 
-  fields_decided : (ts : TypeTrees) (lead : ℕ) → ArePlain ts → Decides (Fields ts lead)
+  fields_decided : (ts : TypeTrees) (lead : ℕ) → AreReadable ts → Decides (Fields ts lead)
   fields_decided no_types lead p = λ text. inl (no_values, text, (refl, refl))
   fields_decided (more_types t ts) lead p = λ text. field_by lead (At t) (Fields ts 44) (at_sole t) (at_decided t p.0) (fields_decided ts 44 p.1) text (byte_at lead text) refl
 
@@ -186,41 +217,42 @@ both_or_not (inl p) (inl q) = inl (p, q)
 both_or_not (inl p) (inr n) = inr (λ h. n h.1)
 both_or_not (inr n) q = inr (λ h. n h.0)
 
-mutual
-  range_decided : (v : Value) → NoDict v → IsInRange v ⊎ (IsInRange v → ⊥)
-  range_decided (number k x) n = kind_holds k x
-  range_decided (list vs) n = ranges_decided vs n
-  range_decided (struct vs) n = ranges_decided vs n
-  range_decided (dict es) n = absurd n
-
-  ranges_decided : (vs : Values) → NoDicts vs → AreInRange vs ⊎ (AreInRange vs → ⊥)
-  ranges_decided no_values n = inl tt
-  ranges_decided (and_value v vs) n = both_or_not (range_decided v n.0) (ranges_decided vs n.1)
+three_or_not : {P Q R : Type 0} → P ⊎ (P → ⊥) → Q ⊎ (Q → ⊥) → R ⊎ (R → ⊥) → (P × Q × R) ⊎ (P × Q × R → ⊥)
+three_or_not (inl p) (inl q) (inl r) = inl (p, q, r)
+three_or_not (inl p) (inl q) (inr n) = inr (λ h. n h.2)
+three_or_not (inl p) (inr n) r = inr (λ h. n h.1)
+three_or_not (inr n) q r = inr (λ h. n h.0)
 
 mutual
-  settles_itself : (v : Value) → NoDict v → Settles v v
-  settles_itself (number k x) n = refl
-  settles_itself (list vs) n = (vs, refl, settle_themselves vs n)
-  settles_itself (struct vs) n = (vs, refl, settle_themselves vs n)
-  settles_itself (dict es) n = absurd n
+  range_decided : (v : Value) → IsInRange v ⊎ (IsInRange v → ⊥)
+  range_decided (number k x) = kind_holds k x
+  range_decided (list vs) = ranges_decided vs
+  range_decided (struct vs) = ranges_decided vs
+  range_decided (dict es) = entry_ranges_decided es
 
-  settle_themselves : (vs : Values) → NoDicts vs → SettleAll vs vs
-  settle_themselves no_values n = refl
-  settle_themselves (and_value v vs) n = (v, vs, refl, settles_itself v n.0, settle_themselves vs n.1)
+  ranges_decided : (vs : Values) → AreInRange vs ⊎ (AreInRange vs → ⊥)
+  ranges_decided no_values = inl tt
+  ranges_decided (and_value v vs) = both_or_not (range_decided v) (ranges_decided vs)
+
+  entry_ranges_decided : (es : Entries) → EntriesInRange es ⊎ (EntriesInRange es → ⊥)
+  entry_ranges_decided no_entries = inl tt
+  entry_ranges_decided (and_entry k v es) = three_or_not (range_decided k) (range_decided v) (entry_ranges_decided es)
 
 -- ---- the whole text
 
 abbrev ReadsOrNot : List ℕ → TypeTree → Type 0
 ReadsOrNot text t = ((v : Value) × ReadsAs text t v) ⊎ ((f : DataFault) × WhyNot text t f × (f ≡ Memory → ⊥))
 
-spelled_by : (text : List ℕ) (t : TypeTree) (raw : Value) → NoDict raw → Spells text t raw → IsInRange raw ⊎ (IsInRange raw → ⊥) → ReadsOrNot text t
-spelled_by text t raw n s (inl r) = inl (raw, record { raw = raw; spelled = s; in_range = r; settled = settles_itself raw n })
-spelled_by text t raw n s (inr o) = inr (Range, record { raw = raw; spelled = s; out = o }, λ e. cc)
+settled_by : (text : List ℕ) (t : TypeTree) (raw : Value) → Spells text t raw → IsInRange raw → SettlesOrRepeats raw → ReadsOrNot text t
+settled_by text t raw s r (inl (v, settles)) = inl (v, record { raw = raw; spelled = s; in_range = r; settled = settles })
+settled_by text t raw s r (inr repeats) = inr (Repeat, record { raw = raw; spelled = s; in_range = r; repeats = repeats }, λ e. cc)
 
-whole_by : (text : List ℕ) (t : TypeTree) → IsPlain t → (raw : Value) (rest : List ℕ) → At t raw text rest → (left : List ℕ) → after_blanks rest ≡ left → ReadsOrNot text t
-whole_by text t p raw rest h [] e =
-    let n = plain_no_dict t p raw text rest h in
-    spelled_by text t raw n (record { rest = rest; at = h; ends = e }) (range_decided raw n)
+spelled_by : (text : List ℕ) (t : TypeTree) → IsReadable t → (raw : Value) → Spells text t raw → IsInRange raw ⊎ (IsInRange raw → ⊥) → ReadsOrNot text t
+spelled_by text t p raw s (inl r) = settled_by text t raw s r (settles_or_repeats t p raw text s.rest s.at)
+spelled_by text t p raw s (inr o) = inr (Range, record { raw = raw; spelled = s; out = o }, λ e. cc)
+
+whole_by : (text : List ℕ) (t : TypeTree) → IsReadable t → (raw : Value) (rest : List ℕ) → At t raw text rest → (left : List ℕ) → after_blanks rest ≡ left → ReadsOrNot text t
+whole_by text t p raw rest h [] e = spelled_by text t p raw (record { rest = rest; at = h; ends = e }) (range_decided raw)
 whole_by text t p raw rest h (byte ∷ bytes) e = inr (Syntax, (λ other s. by other s), λ e. cc)
   where
     by : (other : Value) → Spells text t other → ⊥
@@ -228,9 +260,9 @@ whole_by text t p raw rest h (byte ∷ bytes) e = inr (Syntax, (λ other s. by o
         let no : byte ∷ bytes ≡ [] = sym e ∙ ap after_blanks (at_sole t raw other text rest s.rest h s.at).1 ∙ s.ends in
         absurd (cc)
 
-at_front : (text : List ℕ) (t : TypeTree) → IsPlain t → Decided (At t) text → ReadsOrNot text t
+at_front : (text : List ℕ) (t : TypeTree) → IsReadable t → Decided (At t) text → ReadsOrNot text t
 at_front text t p (inl (raw, rest, h)) = whole_by text t p raw rest h (after_blanks rest) refl
 at_front text t p (inr u) = inr (Syntax, (λ raw s. u raw s.rest s.at), λ e. cc)
 
-pub reads_or_not : (text : List ℕ) (t : TypeTree) → IsPlain t → ReadsOrNot text t
+pub reads_or_not : (text : List ℕ) (t : TypeTree) → IsReadable t → ReadsOrNot text t
 reads_or_not text t p = at_front text t p (at_decided t p text)

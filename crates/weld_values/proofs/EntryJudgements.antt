@@ -1,8 +1,8 @@
 -- What is wrong with the entries of a dictionary, one after another.
-use Rattle.std.proofs.Common.{◌≡◌, ◌⊎◌, inl, inr, sym, ◌∙◌, ℕ, zero, suc, List, [], ◌∷◌, ◌++◌, Some, None, slice_get, refl, ap, subst, All}
+use Rattle.std.proofs.Common.{◌≡◌, inl, inr, sym, ◌∙◌, ℕ, zero, suc, List, [], ◌∷◌, ◌++◌, Some, slice_get, refl, ap, subst, All}
 use Rattle.std.proofs.lemmas.List.Elements.{All-append, All-cons, All-nil}
 use Rattle.std.specs.List.Sorted.{IsPermutation}
-use Rattle.weld_data.specs.Value.{Value, dict, Entries, no_entries, and_entry, entries, list_of_entries, list_of_entries-entries}
+use Rattle.weld_data.specs.Value.{Value, dict, Entries, no_entries, and_entry, entries, list_of_entries-entries}
 use Rattle.weld_data.specs.Order.{Rises}
 use Rattle.weld_sorted.specs.Repeats.{HaveOneKey}
 use Rattle.weld_tree.specs.TypeTree.{TypeTree}

@@ -1,16 +1,15 @@
 -- What is spelled as a value of a type that keys may have is a key of one key type.
-use Rattle.std.proofs.Common.{◌≡◌, ◌⊎◌, inl, inr, sym, ◌∙◌, ℕ, ℤ, pos, codes, List, [], ◌∷◌, map, Option, Some, None, refl, ap, subst, All}
+use Rattle.std.proofs.Common.{◌≡◌, inl, inr, sym, ℕ, ℤ, pos, codes, List, [], ◌∷◌, map, Option, Some, None, refl, ap, subst, All}
 use Rattle.std.specs.Option.{option_map}
 use Rattle.weld_data.specs.declared.kind.Kind.{Kind}
 use Rattle.weld_data.specs.declared.kind.Kind.TheVariants as kinds
-use Rattle.weld_data.specs.Wrapped.{wrapped}
-use Rattle.weld_data.specs.Value.{Value, Values, number, list, struct, no_values, and_value, values}
+use Rattle.weld_data.specs.Value.{Value, Values, number, and_value, values}
 use Rattle.weld_data.specs.Order.{AreNumbers, FieldType, number_of, list_of, KeyType, one_field, fields, HasFieldType, HaveFieldTypes, HasKeyType}
 use Rattle.weld_tree.specs.TypeTree.{TypeTree, TypeTrees, scalar, vec, struct as struct_of, dict as dict_of, build, no_types, more_types}
 use Rattle.weld_tree.specs.Types.{IsKey, IsKeyField, AreKeyFields}
 use Rattle.weld_sorted.specs.Repeats.{HaveOneKeyType}
 use Rattle.weld_values.specs.Tokens.{after_blanks, after_word, byte_at, integer_at}
-use Rattle.weld_values.specs.Grammar.{At, Fields, AtString, AtList, More, Listed, Enclosed, IsI8, scalar_at, number_at, truth_at, or_else}
+use Rattle.weld_values.specs.Grammar.{At, Fields, More, Listed, Enclosed, IsI8, scalar_at, truth_at, or_else}
 use Rattle.weld_values.specs.Judging.{IsPlain, ArePlain, IsReadable, AreReadable, IsSpelled}
 use Rattle.weld_values.proofs.Listings.{some_is, none_is}
 use Rattle.weld_values.proofs.Vectors.{i8_of}

@@ -10,7 +10,6 @@ pub mod Vectors
 pub mod Wholes
 pub mod Strings
 pub mod Shrinks
-pub mod Texts
 pub mod Readings
 pub mod Backs
 pub mod RoundTrip
@@ -20,3 +19,7 @@ pub mod EntryJudgements
 pub mod EntryListings
 pub mod Typed
 pub mod Deciding
+pub mod Readable
+pub mod OneReading
+pub mod Ascending
+pub mod Settling

@@ -1,16 +1,14 @@
--- A text reads as at most one value, and either reads or has one reason not to, where no dictionary stands in the type.
-use Rattle.std.proofs.Common.{◌≡◌, ◌⊎◌, inl, inr, sym, ◌∙◌, ℕ, List, [], ◌∷◌, Option, Some, None, refl, ap, subst, map, ℤ, pos, codes}
+-- A text spells at most one value; what it spells where no dictionary stands in the type stays as it is, and is of the type.
+use Rattle.std.proofs.Common.{◌≡◌, inl, inr, sym, ◌∙◌, ℕ, List, [], ◌∷◌, Option, Some, None, refl, ap, subst, map, ℤ, pos, codes}
 use Rattle.std.specs.Option.{option_map}
 use Rattle.weld_data.specs.declared.kind.Kind.{Kind}
 use Rattle.weld_data.specs.declared.kind.Kind.TheVariants as kinds
 use Rattle.weld_data.specs.Value.{Value, Values, number, list, struct, dict, values, no_values, and_value}
 use Rattle.weld_tree.specs.TypeTree.{TypeTree, TypeTrees, scalar, vec, struct as struct_of, dict as dict_of, build, no_types, more_types}
 use Rattle.weld_fits.specs.HasValue.{HasValue, HaveValues, AllAre}
-use Rattle.weld_values.specs.declared.fault.DataFault.{DataFault}
-use Rattle.weld_values.specs.declared.fault.DataFault.TheVariants.{Syntax, Range, Repeat, Memory}
 use Rattle.weld_values.specs.Tokens.{after_blanks, byte_at, after_word, integer_at}
 use Rattle.weld_values.specs.Grammar.{Part, More, Listed, Enclosed, AtField, AtStruct, At, Fields, IsI8, or_else, truth_at, number_at, scalar_at}
-use Rattle.weld_values.specs.Reading.{Spells, ReadsAs, WhyNot, IsInRange, AreInRange, RepeatsKey, SomeRepeatsKey, Settles, SettleAll}
+use Rattle.weld_values.specs.Reading.{Spells, IsInRange, AreInRange, RepeatsKey, SomeRepeatsKey, Settles, SettleAll}
 use Rattle.weld_values.specs.Judging.{IsPlain, ArePlain}
 use Rattle.weld_values.proofs.Listings.{some_is, none_is}
 use Rattle.weld_values.proofs.Shrinks.{map_some}
@@ -43,7 +41,7 @@ truth_no_dict : (text : List ℕ) (v : Value) (r : List ℕ) → truth_at text �
 unfolding truth_at
 truth_no_dict text v r h = truth_no_dict_by (after_word (codes "true") text) (after_word (codes "false") text) v r h
 
-scalar_no_dict : (k : Kind) (text : List ℕ) (v : Value) (r : List ℕ) → scalar_at k text ≡ Some (v, r) → NoDict v
+pub scalar_no_dict : (k : Kind) (text : List ℕ) (v : Value) (r : List ℕ) → scalar_at k text ≡ Some (v, r) → NoDict v
 unfolding scalar_at
 scalar_no_dict kinds.Bool text v r h = truth_no_dict (after_blanks text) v r h
 scalar_no_dict kinds.I8 text v r h = number_no_dict kinds.I8 text v r h
@@ -66,7 +64,7 @@ enclosed_no_dict : (R : Part Value) → Free R → (c : ℕ) (o : Option (List �
 enclosed_no_dict R free c (Some after) vs text r h = subst (λ (x : List Value). NoDicts (values x)) (sym h.0) tt
 enclosed_no_dict R free c None vs text r (end, h, b) = listed_no_dict R free vs text end h
 
-bytes_no_dict : (bytes : List ℕ) → NoDicts (values (map i8_of bytes))
+pub bytes_no_dict : (bytes : List ℕ) → NoDicts (values (map i8_of bytes))
 bytes_no_dict [] = tt
 bytes_no_dict (b ∷ bytes) = (tt, bytes_no_dict bytes)
 
@@ -125,33 +123,6 @@ plain_no_repeat t p raw text r h = no_repeat raw (plain_no_dict t p raw text r h
 -- a text is at most one value when ranges and equal keys are ignored
 pub one_spelling : (text : List ℕ) (t : TypeTree) (v w : Value) → Spells text t v → Spells text t w → v ≡ w
 one_spelling text t v w s u = (at_sole t v w text s.rest u.rest s.at u.at).0
-
-raw_is : (text : List ℕ) (t : TypeTree) (v : Value) → IsPlain t → (r : ReadsAs text t v) → v ≡ r.raw
-raw_is text t v p r = settles_same r.raw (plain_no_dict t p r.raw text r.spelled.rest r.spelled.at) v r.settled
-
-pub one_reading : (text : List ℕ) (t : TypeTree) (v w : Value) → IsPlain t → ReadsAs text t v → ReadsAs text t w → v ≡ w
-one_reading text t v w p r s = raw_is text t v p r ∙ one_spelling text t r.raw s.raw r.spelled s.spelled ∙ sym (raw_is text t w p s)
-
-pub no_reason : (text : List ℕ) (t : TypeTree) (v : Value) (f : DataFault) → IsPlain t → ReadsAs text t v → WhyNot text t f → f ≡ Memory
-no_reason text t v Syntax p r n = absurd (n r.raw r.spelled)
-no_reason text t v Range p r n = absurd (n.out (subst IsInRange (one_spelling text t r.raw n.raw r.spelled n.spelled) r.in_range))
-no_reason text t v Repeat p r n = absurd (no_repeat n.raw (plain_no_dict t p n.raw text n.spelled.rest n.spelled.at) n.repeats)
-no_reason text t v Memory p r n = refl
-
-pub one_reason : (text : List ℕ) (t : TypeTree) (f g : DataFault) → IsPlain t → WhyNot text t f → WhyNot text t g → (f ≡ Memory) ⊎ ((g ≡ Memory) ⊎ (f ≡ g))
-one_reason text t Memory g p n m = inl refl
-one_reason text t Syntax Memory p n m = inr (inl refl)
-one_reason text t Syntax Syntax p n m = inr (inr refl)
-one_reason text t Syntax Range p n m = absurd (n m.raw m.spelled)
-one_reason text t Syntax Repeat p n m = absurd (n m.raw m.spelled)
-one_reason text t Range Memory p n m = inr (inl refl)
-one_reason text t Range Syntax p n m = absurd (m n.raw n.spelled)
-one_reason text t Range Range p n m = inr (inr refl)
-one_reason text t Range Repeat p n m = absurd (n.out (subst IsInRange (one_spelling text t m.raw n.raw m.spelled n.spelled) m.in_range))
-one_reason text t Repeat Memory p n m = inr (inl refl)
-one_reason text t Repeat Syntax p n m = absurd (m n.raw n.spelled)
-one_reason text t Repeat Range p n m = absurd (m.out (subst IsInRange (one_spelling text t n.raw m.raw n.spelled m.spelled) n.in_range))
-one_reason text t Repeat Repeat p n m = inr (inr refl)
 
 -- ---- what reads is of the type
 

@@ -1,15 +1,13 @@
 -- What reads as a value of a type is of it, dictionaries too.
-use Rattle.std.proofs.Common.{◌≡◌, ◌⊎◌, inl, inr, sym, ◌∙◌, ℕ, ◌<◌, List, [], ◌∷◌, Option, Some, None, length, refl, ap, subst, All, arith}
+use Rattle.std.proofs.Common.{inl, inr, sym, ℕ, List, [], ◌∷◌, Option, Some, None, subst, All, arith}
 use Rattle.std.proofs.lemmas.List.Elements.{All-cons, All-nil, All-tail}
 use Rattle.std.proofs.lemmas.List.Sorted.{All-permutation}
-use Rattle.std.specs.List.Sorted.{IsPermutation}
-use Rattle.weld_data.specs.declared.kind.Kind.TheVariants as kinds
-use Rattle.weld_data.specs.Value.{Value, Values, list, struct, dict, no_values, and_value, values, Entries, no_entries, and_entry, entries, list_of_entries, list_of_entries-entries}
+use Rattle.weld_data.specs.Value.{Value, Values, values, Entries, no_entries, and_entry, entries, list_of_entries, list_of_entries-entries}
 use Rattle.weld_data.specs.Order.{Rises}
 use Rattle.weld_tree.specs.TypeTree.{TypeTree, TypeTrees, scalar, vec, struct as struct_of, dict as dict_of, build, no_types, more_types}
 use Rattle.weld_fits.specs.HasValue.{HasValue, HaveValues, AllAre, AllEntriesAre}
 use Rattle.weld_values.specs.Tokens.{byte_at}
-use Rattle.weld_values.specs.Grammar.{Part, More, Listed, Enclosed, At, AtEntry, AtDict, AtField, AtStruct, Fields, IsI8}
+use Rattle.weld_values.specs.Grammar.{Part, More, Listed, Enclosed, At, AtEntry, AtField, AtStruct, Fields, IsI8}
 use Rattle.weld_values.specs.Reading.{IsInRange, AreInRange, EntriesInRange, Settles, SettleAll, SettleEntries, ReadsAs}
 use Rattle.weld_values.specs.Judging.{IsPlain, IsReadable, AreReadable}
 use Rattle.weld_values.proofs.Readings.{plain_gives, plain_typed}

@@ -6,6 +6,7 @@ use Rattle.weld_data.specs.declared.kind.Kind.TheVariants.{Bool, I8, U8, I32, I6
 use Rattle.weld_data.specs.Wrapped.{wrapped}
 use Rattle.weld_data.specs.Value.{Value, number, list, struct, dict, Values, no_values, and_value, values, entries}
 use Rattle.weld_tree.specs.TypeTree.{TypeTree, TypeTrees, scalar, vec, struct as struct_of, dict as dict_of, build, no_types, more_types}
+pub use Rattle.weld_write_value.specs.Showing.{IsI8}
 use Rattle.weld_values.specs.Tokens.{after_blanks, after_byte, byte_at, after_word, integer_at, item_at}
 
 -- the first of the two that is there
@@ -64,18 +65,6 @@ AtItems (byte ∷ bytes) text rest = (mid : List ℕ) × (item_at text ≡ Some 
 -- a list of numbers of kind i8 as a string, whose bytes are taken modulo 256
 abbrev pub AtString : Part Value
 AtString v text rest = (inner : List ℕ) × (bytes : List ℕ) × (byte_at 34 text ≡ Some inner) × AtItems bytes inner rest × (v ≡ list (values (map (λ (b : ℕ). number I8 (wrapped I8 (pos b))) bytes)))
-
--- the type of a string's items
-abbrev pub IsI8 : TypeTree → Type 0
-IsI8 (scalar Bool) = ⊥
-IsI8 (scalar I8) = Unit {0}
-IsI8 (scalar U8) = ⊥
-IsI8 (scalar I32) = ⊥
-IsI8 (scalar I64) = ⊥
-IsI8 (vec t) = ⊥
-IsI8 (struct_of ts) = ⊥
-IsI8 (dict_of k v) = ⊥
-IsI8 (build b) = ⊥
 
 -- a key, a colon and its value
 abbrev pub AtEntry : Part Value → Part Value → Part (Value × Value)

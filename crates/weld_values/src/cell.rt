@@ -5,14 +5,12 @@ ghost use Rattle.weld_data.specs.Value.{Value, number};
 ghost use Rattle.weld_data.specs.Operation.{truth};
 ghost use Rattle.weld_data.specs.declared.kind.Kind.TheVariants as kinds;
 ghost use Rattle.weld_values.specs.Grammar.{scalar_at, truth_at, Found};
-ghost use Rattle.weld_values.specs.Showing.{shown_scalar};
 ghost use Rattle.weld_values.specs.Judging.{IsClamped, Judged, IsRead, IsReadInto};
 
 use crate::flaw::Flaw;
 use crate::tokens::{after_blanks, integer, truth};
-use itoa::Buffer;
 use std::alloc::AllocError;
-use weld_data::{Items, Text};
+use weld_data::Items;
 
 /// A scalar of one kind, as an array of that kind keeps it.
 pub(crate) trait Cell: Copy + Drop {
@@ -25,19 +23,24 @@ pub(crate) trait Cell: Copy + Drop {
         ensures found { IfSome result (λ found. IsRead (Found at) text.now found.1 (value found.0) found.2.now) }
         ensures none { IfNone result (at text.now ≡ None) }
         ensures less { IfSome result (λ found. length found.2.now < length text.now) };
+}
 
-    /// Appends the scalar at the front of the text, and answers what follows it.
-    fn read_into<'a>(
-        items: &mut Items<Self>,
-        text: &'a [u8],
-    ) -> Result<Option<(Flaw, &'a [u8])>, AllocError>
-        ensures found { IfOk result (λ o. IfSome o (λ found. IsReadInto (Found at) text.now found.0 (map value items.old) (map value items.new) found.1.now)) }
-        ensures none { IfOk result (λ o. IfNone o (at text.now ≡ None)) }
-        ensures less { IfOk result (λ o. IfSome o (λ found. length found.1.now < length text.now)) };
-
-    /// Appends the scalar's text.
-    fn write(self, out: &mut Text) -> Result<(), AllocError>
-        ensures { OnOk result (out.new ≡ out.old ++ shown_scalar (value self)) };
+/// Appends the scalar at the front of the text, and answers what follows it.
+pub(crate) fn append_cell<'a, T: Cell>(
+    items: &mut Items<T>,
+    text: &'a [u8],
+) -> Result<Option<(Flaw, &'a [u8])>, AllocError>
+    ensures found { IfOk result (λ o. IfSome o (λ found. IsReadInto (Found T.at) text.now found.0 (map T.value items.old) (map T.value items.new) found.1.now)) }
+    ensures none { IfOk result (λ o. IfNone o (T.at text.now ≡ None)) }
+    ensures less { IfOk result (λ o. IfSome o (λ found. length found.1.now < length text.now)) }
+{
+    match T::read(text) {
+        Some((value, flaw, rest)) => {
+            items.push(value)?;
+            Ok(Some((flaw, rest)))
+        }
+        None => Ok(None),
+    }
 }
 
 impl Cell for bool {
@@ -53,27 +56,6 @@ impl Cell for bool {
             None => None,
         }
     }
-
-    fn read_into<'a>(
-        items: &mut Items<bool>,
-        text: &'a [u8],
-    ) -> Result<Option<(Flaw, &'a [u8])>, AllocError> {
-        match bool::read(text) {
-            Some((value, flaw, rest)) => {
-                items.push(value)?;
-                Ok(Some((flaw, rest)))
-            }
-            None => Ok(None),
-        }
-    }
-
-    fn write(self, out: &mut Text) -> Result<(), AllocError> {
-        if self {
-            out.push_all(b"true")
-        } else {
-            out.push_all(b"false")
-        }
-    }
 }
 
 impl Cell for i8 {
@@ -86,23 +68,6 @@ impl Cell for i8 {
             Some((x, rest)) => Some(narrowed_i8(x, rest)),
             None => None,
         }
-    }
-
-    fn read_into<'a>(
-        items: &mut Items<i8>,
-        text: &'a [u8],
-    ) -> Result<Option<(Flaw, &'a [u8])>, AllocError> {
-        match i8::read(text) {
-            Some((value, flaw, rest)) => {
-                items.push(value)?;
-                Ok(Some((flaw, rest)))
-            }
-            None => Ok(None),
-        }
-    }
-
-    fn write(self, out: &mut Text) -> Result<(), AllocError> {
-        out.push_all(Buffer::new().format(i64::from(self)).as_bytes())
     }
 }
 
@@ -117,23 +82,6 @@ impl Cell for u8 {
             None => None,
         }
     }
-
-    fn read_into<'a>(
-        items: &mut Items<u8>,
-        text: &'a [u8],
-    ) -> Result<Option<(Flaw, &'a [u8])>, AllocError> {
-        match u8::read(text) {
-            Some((value, flaw, rest)) => {
-                items.push(value)?;
-                Ok(Some((flaw, rest)))
-            }
-            None => Ok(None),
-        }
-    }
-
-    fn write(self, out: &mut Text) -> Result<(), AllocError> {
-        out.push_all(Buffer::new().format(u64::from(self)).as_bytes())
-    }
 }
 
 impl Cell for i32 {
@@ -147,23 +95,6 @@ impl Cell for i32 {
             None => None,
         }
     }
-
-    fn read_into<'a>(
-        items: &mut Items<i32>,
-        text: &'a [u8],
-    ) -> Result<Option<(Flaw, &'a [u8])>, AllocError> {
-        match i32::read(text) {
-            Some((value, flaw, rest)) => {
-                items.push(value)?;
-                Ok(Some((flaw, rest)))
-            }
-            None => Ok(None),
-        }
-    }
-
-    fn write(self, out: &mut Text) -> Result<(), AllocError> {
-        out.push_all(Buffer::new().format(i64::from(self)).as_bytes())
-    }
 }
 
 impl Cell for i64 {
@@ -176,23 +107,6 @@ impl Cell for i64 {
             Some((x, rest)) => Some(narrowed_i64(x, rest)),
             None => None,
         }
-    }
-
-    fn read_into<'a>(
-        items: &mut Items<i64>,
-        text: &'a [u8],
-    ) -> Result<Option<(Flaw, &'a [u8])>, AllocError> {
-        match i64::read(text) {
-            Some((value, flaw, rest)) => {
-                items.push(value)?;
-                Ok(Some((flaw, rest)))
-            }
-            None => Ok(None),
-        }
-    }
-
-    fn write(self, out: &mut Text) -> Result<(), AllocError> {
-        out.push_all(Buffer::new().format(i64::from(self)).as_bytes())
     }
 }
 

@@ -4,7 +4,7 @@ ghost use Rattle.std.specs.Prelude.{◌≡◌, map, IfOk, IfSome, IfNone};
 ghost use Rattle.weld_values.specs.Grammar.{Found};
 ghost use Rattle.weld_values.specs.Judging.{AreListed, AreUnlisted, AreRead, AreUnread};
 
-use crate::cell::Cell;
+use crate::cell::{Cell, append_cell};
 use crate::flaw::Flaw;
 use crate::tokens::byte_at;
 use std::alloc::{AllocError, Global};
@@ -22,7 +22,7 @@ fn read_some<T: Cell>(
     let mut flaw = Flaw::Fine;
     let mut rest = text;
     loop {
-        let Some((here, after)) = T::read_into(&mut items, rest)? else {
+        let Some((here, after)) = append_cell(&mut items, rest)? else {
             return Ok(None);
         };
         flaw = flaw.and(here);

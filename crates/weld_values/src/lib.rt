@@ -9,8 +9,7 @@ pub mod laws;
 mod read;
 mod string;
 mod tokens;
-mod write;
 
 pub use fault::DataFault;
 pub use read::read_value;
-pub use write::write_value;
+pub use weld_write_value::write_value;

@@ -1,9 +1,9 @@
 //! Values of any type, read by the data grammar.
 
-ghost use Rattle.std.specs.Prelude.{◌≡◌, ◌<◌, ◌++◌, [], ◌∷◌, List, length, Some, None, OnOk, IfOk, IfErr, IfSome, IfNone, IsTrue, ◌↔◌};
+ghost use Rattle.std.specs.Prelude.{◌≡◌, ◌<◌, ◌++◌, [], ◌∷◌, List, length, Some, None, OnOk, IfOk, IfErr, IfSome, IfNone};
 ghost use Rattle.weld_data.specs.View.{view_val, view_column};
 ghost use Rattle.weld_tree.specs.TypeTree.{TypeTree, pack, vec};
-ghost use Rattle.weld_values.specs.Grammar.{scalar_at, Found, At, AtString, AtStruct, AtDict, AtEntry, Fields, IsI8};
+ghost use Rattle.weld_values.specs.Grammar.{scalar_at, Found, At, AtString, AtStruct, AtDict, AtEntry, Fields};
 ghost use Rattle.weld_fits.specs.HasValue.{HasValue};
 ghost use Rattle.weld_values.specs.Reading.{ReadsAs, WhyNot};
 ghost use Rattle.weld_values.specs.Judging.{IsRead, IsUnread, IsReadInto, AreListed, AreUnlisted, AreRead, AreUnread, IsReadable, AreReadable, AreJudged, Judged, IsEntryRead, EntriesRead, EntriesUnread};
@@ -24,6 +24,7 @@ use weld_data::laws::one_wrapped_number;
 use weld_data::{Column, Kind, Num, Pairs, Val, Vals};
 use weld_sorted::{Entry, sort_entries};
 use weld_tree::{Ty, TyForm, Tys};
+use weld_write_value::is_i8;
 
 /// The scalar of the kind at the front of the text, and what follows it.
 fn read_scalar(text: &[u8], kind: Kind) -> Option<(Val, Flaw, &[u8])>
@@ -85,16 +86,6 @@ fn read_column<'a>(
             Some((items, flaw, rest)) => Some((Column::I64(items), flaw, rest)),
             None => None,
         }),
-    }
-}
-
-/// Whether strings spell lists of the type's values.
-pub(crate) fn is_i8(item: &Ty) -> bool
-    ensures { IsTrue result ↔ IsI8 item.now }
-{
-    match &item.form {
-        TyForm::Scalar(Kind::I8) => true,
-        _ => false,
     }
 }
 

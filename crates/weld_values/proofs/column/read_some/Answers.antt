@@ -15,7 +15,7 @@ pub loop-items-preserved : goal.loop-items-preserved
 loop-items-preserved g c =
     let R = Found g.T.Cell.at in
     let old = map g.T.Cell.value c.loop-items.items in
-    let new = map g.T.Cell.value c.read_into.new.items in
+    let new = map g.T.Cell.value c.append_cell.new.items in
     let read = some_holds (λ (f : Flaw × _). IsReadInto R c.loop-items.rest.now f.0 old new f.1.now) c.in_ok-here.field-0 (c.in-Some.here, c.in-Some.after) c.in-Some.is c.in_ok-here.ensures.found in
     subst (λ (f : Flaw). Gathered R c.args.text.now c.in-Some-byte_at.more.now f new) (sym c.and-flaw.ensures)
     (into_more R (found_sole g.T.Cell.at) c.args.text.now c.loop-items.rest.now c.in-Some.after.now c.in-Some-byte_at.more.now c.loop-items.flaw c.in-Some.here old new c.loop-items.invariant read (sym c.in-Some-byte_at.ensures.value))
@@ -24,7 +24,7 @@ pub returns-in_default-byte_at-2-clause-none : goal.returns-in_default-byte_at-2
 returns-in_default-byte_at-2-clause-none g c =
     let R = Found g.T.Cell.at in
     let old = map g.T.Cell.value c.loop-items.items in
-    let new = map g.T.Cell.value c.read_into.new.items in
+    let new = map g.T.Cell.value c.append_cell.new.items in
     let read = some_holds (λ (f : Flaw × _). IsReadInto R c.loop-items.rest.now f.0 old new f.1.now) c.in_ok-here.field-0 (c.in-Some.here, c.in-Some.after) c.in-Some.is c.in_ok-here.ensures.found in
     unclosed R (found_sole g.T.Cell.at) c.args.text.now c.loop-items.rest.now c.in-Some.after.now c.loop-items.flaw old read.read.raw c.loop-items.invariant read.read.at (sym c.in_default-byte_at.ensures.value) (sym c.in_default-byte_at-2.ensures.value)
 
@@ -32,7 +32,7 @@ pub returns-in_default-byte_at-clause-found : goal.returns-in_default-byte_at-cl
 returns-in_default-byte_at-clause-found g c =
     let R = Found g.T.Cell.at in
     let old = map g.T.Cell.value c.loop-items.items in
-    let new = map g.T.Cell.value c.read_into.new.items in
+    let new = map g.T.Cell.value c.append_cell.new.items in
     let read = some_holds (λ (f : Flaw × _). IsReadInto R c.loop-items.rest.now f.0 old new f.1.now) c.in_ok-here.field-0 (c.in-Some.here, c.in-Some.after) c.in-Some.is c.in_ok-here.ensures.found in
     subst (λ (f : Flaw). AreListed R c.args.text.now f new c.in-Some-byte_at-2.end.now) (sym c.and-flaw.ensures)
     (into_last R c.args.text.now c.loop-items.rest.now c.in-Some.after.now c.in-Some-byte_at-2.end.now c.loop-items.flaw c.in-Some.here old new c.loop-items.invariant read (sym c.in-Some-byte_at-2.ensures.value))

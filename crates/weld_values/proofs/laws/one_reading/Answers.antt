@@ -1,4 +1,4 @@
-use Rattle.weld_values.proofs.Readings.{one_reading, no_reason, one_reason}
+use Rattle.weld_values.proofs.OneReading.{one_reading, no_reason, one_reason}
 use Rattle.weld_values.proofs.laws.one_reading.Goals as goal
 
 pub returns : goal.returns

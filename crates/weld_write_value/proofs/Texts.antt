@@ -1,5 +1,5 @@
 -- The text of values, element by element and field by field.
-use Rattle.std.proofs.Common.{◌≡◌, sym, ◌∙◌, ℕ, zero, suc, ◌+◌, ◌<◌, List, [], ◌∷◌, ◌++◌, length, drop, get_or, Some, refl, ap, subst, map, arith, add-one, codes, ℤ, append_assoc, append-nil, false, ◌==◌, ◌≤◌, Result, Ok, Err, OnOk}
+use Rattle.std.proofs.Common.{◌≡◌, sym, ◌∙◌, ℕ, zero, suc, ◌+◌, ◌<◌, List, [], ◌∷◌, ◌++◌, length, drop, get_or, Some, None, refl, ap, subst, map, arith, add-one, codes, ℤ, append_assoc, append-nil, false, ◌==◌, ◌≤◌, Result, Ok, Err, OnOk}
 use Rattle.std.specs.List.{slice_get}
 use Rattle.std.proofs.Math.Seq.{drop-cons}
 use Rattle.std.proofs.lemmas.Bool.{false≢true}
@@ -12,9 +12,14 @@ use Rattle.weld_data.specs.Kind.{InRange}
 use Rattle.weld_data.specs.Order.{IsNumber}
 use Rattle.weld_tree.specs.TypeTree.{TypeTree, scalar, vec, struct as struct_of, dict as dict_of, build, pack}
 use Rattle.weld_fits.specs.HasValue.{HasValue, HaveValues, AllAre, AllEntriesAre}
-use Rattle.weld_values.specs.Grammar.{IsI8}
-use Rattle.weld_values.proofs.Listings.{some_is, none_is}
-use Rattle.weld_values.specs.Showing.{shown_scalar, led, shown_list, shown_byte, shown_item, strung, shown_elements, led_entries, shown_entries, show, show_fields}
+use Rattle.weld_write_value.specs.Showing.{IsI8}
+use Rattle.weld_write_value.specs.Showing.{shown_scalar, led, shown_list, shown_byte, shown_item, strung, shown_elements, led_entries, shown_entries, show, show_fields}
+
+some_is : {A : Type 0} (x y : A) → Some x ≡ Some y → x ≡ y
+some_is x y e = cc
+
+none_is : {A : Type 0} (x : A) → None ≡ Some x → ⊥
+none_is x e = cc
 
 -- a number of a type is shown as a scalar
 number_shown : (t : TypeTree) (v : Value) → HasValue t v → IsNumber v → show t v ≡ shown_scalar v

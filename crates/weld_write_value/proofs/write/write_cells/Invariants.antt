@@ -1,6 +1,6 @@
 use Rattle.std.proofs.Common.{◌≡◌, ◌++◌, map, drop}
-use Rattle.weld_values.specs.Showing.{led, shown_scalar}
-use Rattle.weld_values.proofs.write.write_cells.Given as goal
+use Rattle.weld_write_value.specs.Showing.{led, shown_scalar}
+use Rattle.weld_write_value.proofs.write.write_cells.Given as goal
 
 -- what is written and what is still to come make the whole
 abbrev pub invariant-items : goal.invariant-items

@@ -4,8 +4,8 @@ use Rattle.weld_data.specs.Kind.{InRange}
 use Rattle.weld_data.specs.Value.{Value}
 use Rattle.weld_data.specs.View.{view_column}
 use Rattle.weld_data.specs.Order.{IsNumber}
-use Rattle.weld_values.proofs.Texts.{i8_at, value_is, number_written}
-use Rattle.weld_values.proofs.write.write_numbers.Goals as goal
+use Rattle.weld_write_value.proofs.Texts.{i8_at, value_is, number_written}
+use Rattle.weld_write_value.proofs.write.write_numbers.Goals as goal
 
 pub number_at-number-requires-clause-number : goal.number_at-number-requires-clause-number
 number_at-number-requires-clause-number c =

@@ -2,8 +2,8 @@ use Rattle.std.proofs.Common.{◌≡◌, ◌+◌, ◌*◌, ◌++◌, map, drop}
 use Rattle.weld_data.specs.Value.{values}
 use Rattle.weld_data.specs.View.{view_val}
 use Rattle.weld_tree.specs.TypeTree.{type_nodes, types_nodes, pack}
-use Rattle.weld_values.specs.Showing.{led, led_entries, show, show_fields}
-use Rattle.weld_values.proofs.write.+write.Given as goal
+use Rattle.weld_write_value.specs.Showing.{led, led_entries, show, show_fields}
+use Rattle.weld_write_value.proofs.write.+write.Given as goal
 
 abbrev pub decreases-write_at : goal.decreases-write_at
 decreases-write_at l = 4 * type_nodes l.ty.now

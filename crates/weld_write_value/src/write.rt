@@ -1,6 +1,6 @@
 //! The text of values.
 
-ghost use Rattle.std.specs.Prelude.{◌≡◌, ◌++◌, ◌<◌, map, codes, IfOk, OnOk};
+ghost use Rattle.std.specs.Prelude.{◌≡◌, ◌++◌, ◌<◌, ◌↔◌, map, codes, IfOk, OnOk, IsTrue};
 ghost use Rattle.std.specs.Int.{w8, cast_unsigned};
 ghost use Rattle.weld_data.specs.Kind.{InRange};
 ghost use Rattle.weld_data.specs.Value.{number, values, entries};
@@ -8,10 +8,9 @@ ghost use Rattle.weld_data.specs.View.{view_val, view_column};
 ghost use Rattle.weld_data.specs.declared.kind.Kind.TheVariants as kinds;
 ghost use Rattle.weld_tree.specs.TypeTree.{scalar, pack};
 ghost use Rattle.weld_fits.specs.HasValue.{HasValue, HaveValues, AllAre, AllEntriesAre};
-ghost use Rattle.weld_values.specs.Showing.{shown_scalar, shown_number, shown_list, shown_byte, hex_of, strung, shown_elements, shown_entries, show, show_fields, ShowValue};
+ghost use Rattle.weld_write_value.specs.Showing.{IsI8, shown_scalar, shown_number, shown_list, shown_byte, hex_of, strung, shown_elements, shown_entries, show, show_fields, ShowValue};
 
 use crate::cell::Cell;
-use crate::read::is_i8;
 use itoa::Buffer;
 use std::alloc::{AllocError, Global};
 use weld_data::{Column, Kind, Num, Pairs, Text, Val, Vals};
@@ -111,6 +110,16 @@ fn write_number(number: Num, out: &mut Text) -> Result<(), AllocError>
         Kind::I8 | Kind::U8 | Kind::I32 | Kind::I64 => {
             out.push_all(Buffer::new().format(number.value).as_bytes())
         }
+    }
+}
+
+/// Whether the type is that of the numbers that a string spells: lists of it are written as strings.
+pub fn is_i8(item: &Ty) -> bool
+    ensures { IsTrue result ↔ IsI8 item.now }
+{
+    match &item.form {
+        TyForm::Scalar(Kind::I8) => true,
+        _ => false,
     }
 }
 

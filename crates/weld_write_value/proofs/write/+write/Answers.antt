@@ -7,10 +7,10 @@ use Rattle.weld_data.specs.Value.{Value, number, list, values, dict, entries}
 use Rattle.weld_data.specs.View.{view_val, view_column, view_pair}
 use Rattle.weld_tree.specs.TypeTree.{TypeTree, vec, dict as dict_of, pack, type_nodes, types_nodes}
 use Rattle.weld_fits.specs.HasValue.{HasValue, HaveValues, AllAre}
-use Rattle.weld_values.specs.Grammar.{IsI8}
-use Rattle.weld_values.specs.Showing.{shown_elements, shown_entries, show}
-use Rattle.weld_values.proofs.Texts.{cells_shown, vec_shown, on_ok, all_at, have_length, field_typed, field_written, dict_shown, entry_typed, entry_written, dict_end}
-use Rattle.weld_values.proofs.write.+write.Goals as goal
+use Rattle.weld_write_value.specs.Showing.{IsI8}
+use Rattle.weld_write_value.specs.Showing.{shown_elements, shown_entries, show}
+use Rattle.weld_write_value.proofs.Texts.{cells_shown, vec_shown, on_ok, all_at, have_length, field_typed, field_written, dict_shown, entry_typed, entry_written, dict_end}
+use Rattle.weld_write_value.proofs.write.+write.Goals as goal
 
 pub write_at-returns-in-Vec-List : goal.write_at-returns-in-Vec-List
 write_at-returns-in-Vec-List t c =

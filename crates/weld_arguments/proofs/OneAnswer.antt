@@ -1,0 +1,184 @@
+-- A job's data give one list of arguments, or one thing is wrong with them first.
+use Rattle.std.proofs.Common.{◌≡◌, ◌⊎◌, inl, inr, sym, ◌∙◌, ℕ, ◌+◌, Bool, true, false, List, [], ◌∷◌, Option, Some, None, refl, ap, subst}
+use Rattle.weld_data.specs.Value.{Value}
+use Rattle.weld_tree.specs.TypeTree.{TypeTree}
+use Rattle.weld_tree.specs.Types.{IsWellFormed, IsBuilderFree}
+use Rattle.weld_tree.specs.declared.binder.Binder.{Binder}
+use Rattle.weld_tree.specs.declared.code.Code.{Code}
+use Rattle.weld_tree.specs.declared.code.Code.TheVariants as codes_of
+use Rattle.weld_job.specs.declared.job.Job.{Job}
+use Rattle.weld_job.specs.declared.block.Block.{Block}
+use Rattle.weld_job.specs.declared.block.BlockForm.{BlockForm}
+use Rattle.weld_job.specs.declared.block.BlockForm.TheVariants as forms
+use Rattle.weld_fits.specs.HasValue.{HasValue}
+use Rattle.weld_meaning.specs.Typing.{ParamFits, ParamsFit, noted_type}
+use Rattle.weld_meaning.specs.Meaning.{ArgumentsFit}
+use Rattle.weld_values.specs.Reading.{ReadsAs, WhyNot}
+use Rattle.weld_values.specs.Judging.{IsReadable}
+use Rattle.weld_values.specs.declared.fault.DataFault.{DataFault}
+use Rattle.weld_values.specs.declared.fault.DataFault.TheVariants as faults
+use Rattle.weld_arguments.specs.Arguments.{Gives, IsCode, Fails, BlocksGive, BlocksFail, DataGive, DataFail, Arguments, IsUnfit}
+
+-- ---- one answer
+
+-- what is known of the reading of contents
+pub record ReadsOnce : Type 0 where
+  pub value : (text : List ℕ) (t : TypeTree) (v w : Value) → ReadsAs text t v → ReadsAs text t w → v ≡ w
+  pub no_reason : (text : List ℕ) (t : TypeTree) (v : Value) (f : DataFault) → ReadsAs text t v → WhyNot text t f → f ≡ faults.Memory
+  pub one_reason : (text : List ℕ) (t : TypeTree) (f g : DataFault) → WhyNot text t f → WhyNot text t g → (f ≡ faults.Memory) ⊎ ((g ≡ faults.Memory) ⊎ (f ≡ g))
+
+gives_one : ReadsOnce → (form : BlockForm) (content : List ℕ) (t : TypeTree) (v w : Value) → Gives form content t v → Gives form content t w → v ≡ w
+gives_one k forms.Value content t v w g h = k.value content t v w g h
+gives_one k forms.Table content t v w g h = absurd g
+gives_one k forms.Other content t v w g h = absurd g
+
+no_code : (f : DataFault) (code : Code) → f ≡ faults.Memory → IsCode f code → ⊥
+no_code f code e h = subst (λ (x : DataFault). IsCode x code) e h
+
+code_is : (f : DataFault) (code other : Code) → IsCode f code → IsCode f other → code ≡ other
+code_is faults.Syntax code other h k = h ∙ sym k
+code_is faults.Range code other h k = h ∙ sym k
+code_is faults.Repeat code other h k = h ∙ sym k
+code_is faults.Memory code other h k = absurd h
+
+not_both : ReadsOnce → (form : BlockForm) (content : List ℕ) (t : TypeTree) (v : Value) (code : Code) → Gives form content t v → Fails form content t code → ⊥
+not_both k forms.Value content t v code g (f, w, c) = no_code f code (k.no_reason content t v f g w) c
+not_both k forms.Table content t v code g h = g
+not_both k forms.Other content t v code g h = g
+
+one_code_by : (f g : DataFault) (code other : Code) → IsCode f code → IsCode g other → (f ≡ faults.Memory) ⊎ ((g ≡ faults.Memory) ⊎ (f ≡ g)) → code ≡ other
+one_code_by f g code other c d (inl e) = absurd (no_code f code e c)
+one_code_by f g code other c d (inr (inl e)) = absurd (no_code g other e d)
+one_code_by f g code other c d (inr (inr e)) = code_is g code other (subst (λ (x : DataFault). IsCode x code) e c) d
+
+one_code : ReadsOnce → (form : BlockForm) (content : List ℕ) (t : TypeTree) (code other : Code) → Fails form content t code → Fails form content t other → code ≡ other
+one_code k forms.Value content t code other (f, w, c) (g, u, d) = one_code_by f g code other c d (k.one_reason content t f g w u)
+one_code k forms.Table content t code other h g = h ∙ sym g
+one_code k forms.Other content t code other h g = h ∙ sym g
+
+blocks_one : ReadsOnce → (bs : List Binder) (ks : List Block) (vs ws : List Value) → BlocksGive bs ks vs → BlocksGive bs ks ws → vs ≡ ws
+blocks_one k [] [] [] [] g h = refl
+blocks_one k [] [] [] (w ∷ ws) g h = absurd h
+blocks_one k [] [] (v ∷ vs) ws g h = absurd g
+blocks_one k [] (block ∷ blocks) vs ws g h = absurd g
+blocks_one k (b ∷ bs) [] vs ws g h = absurd g
+blocks_one k (b ∷ bs) (block ∷ blocks) [] ws g h = absurd g
+blocks_one k (b ∷ bs) (block ∷ blocks) (v ∷ vs) [] g h = absurd h
+blocks_one k (b ∷ bs) (block ∷ blocks) (v ∷ vs) (w ∷ ws) g h =
+    ap (λ (x : Value). x ∷ vs) (gives_one k block.form block.content (noted_type b.note) v w g.0 h.0) ∙ ap (λ (xs : List Value). w ∷ xs) (blocks_one k bs blocks vs ws g.1 h.1)
+
+blocks_fit : ReadsOnce → (bs : List Binder) (ks : List Block) (vs : List Value) (first n : ℕ) (code : Code) → BlocksGive bs ks vs → BlocksFail bs ks first n code → ⊥
+blocks_fit k [] [] vs first n code g h = h
+blocks_fit k [] (block ∷ blocks) vs first n code g h = g
+blocks_fit k (b ∷ bs) [] vs first n code g h = g
+blocks_fit k (b ∷ bs) (block ∷ blocks) [] first n code g h = g
+blocks_fit k (b ∷ bs) (block ∷ blocks) (v ∷ vs) first n code g (inl h) = not_both k block.form block.content (noted_type b.note) v code g.0 h.1
+blocks_fit k (b ∷ bs) (block ∷ blocks) (v ∷ vs) first n code g (inr (w, f, h)) = blocks_fit k bs blocks vs (first + 1) n code g.1 h
+
+blocks_unfit : ReadsOnce → (bs : List Binder) (ks : List Block) (first n m : ℕ) (code other : Code) → BlocksFail bs ks first n code → BlocksFail bs ks first m other → (n ≡ m) × (code ≡ other)
+blocks_unfit k [] [] first n m code other h g = absurd h
+blocks_unfit k [] (block ∷ blocks) first n m code other h g = (h.0 ∙ sym g.0, h.1 ∙ sym g.1)
+blocks_unfit k (b ∷ bs) [] first n m code other h g = (h.0 ∙ sym g.0, h.1 ∙ sym g.1)
+blocks_unfit k (b ∷ bs) (block ∷ blocks) first n m code other (inl h) (inl g) = (h.0 ∙ sym g.0, one_code k block.form block.content (noted_type b.note) code other h.1 g.1)
+blocks_unfit k (b ∷ bs) (block ∷ blocks) first n m code other (inl h) (inr (w, f, g)) = absurd (not_both k block.form block.content (noted_type b.note) w code f h.1)
+blocks_unfit k (b ∷ bs) (block ∷ blocks) first n m code other (inr (w, f, h)) (inl g) = absurd (not_both k block.form block.content (noted_type b.note) w other f g.1)
+blocks_unfit k (b ∷ bs) (block ∷ blocks) first n m code other (inr (w, f, h)) (inr (x, e, g)) = blocks_unfit k bs blocks (first + 1) n m code other h g
+
+data_one : ReadsOnce → (stray : Bool) (bs : List Binder) (ks : List Block) (vs ws : List Value) → DataGive stray bs ks vs → DataGive stray bs ks ws → vs ≡ ws
+data_one k true bs ks vs ws g h = absurd g
+data_one k false bs ks vs ws g h = blocks_one k bs ks vs ws g h
+
+data_fit : ReadsOnce → (stray : Bool) (bs : List Binder) (ks : List Block) (vs : List Value) (n : ℕ) (code : Code) → DataGive stray bs ks vs → DataFail stray bs ks n code → ⊥
+data_fit k true bs ks vs n code g h = g
+data_fit k false bs ks vs n code g h = blocks_fit k bs ks vs 1 n code g h
+
+data_unfit : ReadsOnce → (stray : Bool) (bs : List Binder) (ks : List Block) (n m : ℕ) (code other : Code) → DataFail stray bs ks n code → DataFail stray bs ks m other → (n ≡ m) × (code ≡ other)
+data_unfit k true bs ks n m code other h g = (h.0 ∙ sym g.0, h.1 ∙ sym g.1)
+data_unfit k false bs ks n m code other h g = blocks_unfit k bs ks 1 n m code other h g
+
+pub one_arguments : ReadsOnce → (params : List Binder) (job : Job) (vs ws : List Value) → Arguments params job vs → Arguments params job ws → vs ≡ ws
+one_arguments k params job vs ws g h = data_one k job.stray params job.blocks vs ws g h
+
+pub fit_or_unfit : ReadsOnce → (params : List Binder) (job : Job) (vs : List Value) (n : ℕ) (code : Code) → Arguments params job vs → IsUnfit params job n code → ⊥
+fit_or_unfit k params job vs n code g h = data_fit k job.stray params job.blocks vs n code g h
+
+pub one_unfit : ReadsOnce → (params : List Binder) (job : Job) (n m : ℕ) (code other : Code) → IsUnfit params job n code → IsUnfit params job m other → (n ≡ m) × (code ≡ other)
+one_unfit k params job n m code other h g = data_unfit k job.stray params job.blocks n m code other h g
+
+-- ---- an answer
+
+abbrev pub ReadsOrNot : Type 0
+ReadsOrNot = (text : List ℕ) (t : TypeTree) → IsReadable t → ((v : Value) × ReadsAs text t v) ⊎ ((f : DataFault) × WhyNot text t f × (f ≡ faults.Memory → ⊥))
+
+abbrev pub FormedReadable : Type 0
+FormedReadable = (t : TypeTree) → IsWellFormed t → IsBuilderFree t → IsReadable t
+
+param_readable : FormedReadable → (note : Option TypeTree) → ParamFits note → IsReadable (noted_type note)
+param_readable formed None p = absurd p
+param_readable formed (Some t) p = formed t p.0 p.1
+
+code_of : (f : DataFault) → (f ≡ faults.Memory → ⊥) → (code : Code) × IsCode f code
+code_of faults.Syntax n = (codes_of.Syntax, refl)
+code_of faults.Range n = (codes_of.Range, refl)
+code_of faults.Repeat n = (codes_of.Repeat, refl)
+code_of faults.Memory n = absurd (n refl)
+
+abbrev GivesOrFails : BlockForm → List ℕ → TypeTree → Type 0
+GivesOrFails form content t = ((v : Value) × Gives form content t v) ⊎ ((code : Code) × Fails form content t code)
+
+read_by : (content : List ℕ) (t : TypeTree) → ((v : Value) × ReadsAs content t v) ⊎ ((f : DataFault) × WhyNot content t f × (f ≡ faults.Memory → ⊥)) → GivesOrFails forms.Value content t
+read_by content t (inl h) = inl h
+read_by content t (inr (f, w, n)) = let c = code_of f n in inr (c.0, (f, w, c.1))
+
+block_by : ReadsOrNot → (form : BlockForm) (content : List ℕ) (t : TypeTree) → IsReadable t → GivesOrFails form content t
+block_by r forms.Value content t p = read_by content t (r content t p)
+block_by r forms.Table content t p = inr (codes_of.Form, refl)
+block_by r forms.Other content t p = inr (codes_of.Form, refl)
+
+abbrev GiveOrFail : List Binder → List Block → ℕ → Type 0
+GiveOrFail bs ks first = ((vs : List Value) × BlocksGive bs ks vs) ⊎ ((n : ℕ) × (code : Code) × BlocksFail bs ks first n code)
+
+blocks_more : (b : Binder) (bs : List Binder) (block : Block) (blocks : List Block) (first : ℕ) → GivesOrFails block.form block.content (noted_type b.note) → GiveOrFail bs blocks (first + 1) → GiveOrFail (b ∷ bs) (block ∷ blocks) first
+blocks_more b bs block blocks first (inr (code, h)) rest = inr (first, code, inl (refl, h))
+blocks_more b bs block blocks first (inl (v, g)) (inl (vs, h)) = inl (v ∷ vs, (g, h))
+blocks_more b bs block blocks first (inl (v, g)) (inr (n, code, h)) = inr (n, code, inr (v, g, h))
+
+blocks_by : ReadsOrNot → FormedReadable → (bs : List Binder) (ks : List Block) (first : ℕ) → ParamsFit bs → GiveOrFail bs ks first
+blocks_by r formed [] [] first p = inl ([], tt)
+blocks_by r formed [] (block ∷ blocks) first p = inr (first, codes_of.Extra, (refl, refl))
+blocks_by r formed (b ∷ bs) [] first p = inr (first, codes_of.Missing, (refl, refl))
+blocks_by r formed (b ∷ bs) (block ∷ blocks) first p =
+    blocks_more b bs block blocks first (block_by r block.form block.content (noted_type b.note) (param_readable formed b.note p.0)) (blocks_by r formed bs blocks (first + 1) p.1)
+
+data_by : ReadsOrNot → FormedReadable → (stray : Bool) (bs : List Binder) (ks : List Block) → ParamsFit bs → ((vs : List Value) × DataGive stray bs ks vs) ⊎ ((n : ℕ) × (code : Code) × DataFail stray bs ks n code)
+data_by r formed true bs ks p = inr (0, codes_of.Form, (refl, refl))
+data_by r formed false bs ks p = blocks_by r formed bs ks 1 p
+
+pub fits_or_not : ReadsOrNot → FormedReadable → (params : List Binder) (job : Job) → ParamsFit params → ((vs : List Value) × Arguments params job vs) ⊎ ((n : ℕ) × (code : Code) × IsUnfit params job n code)
+fits_or_not r formed params job p = data_by r formed job.stray params job.blocks p
+
+-- ---- types
+
+abbrev pub ReadTyped : Type 0
+ReadTyped = (text : List ℕ) (t : TypeTree) (v : Value) → IsReadable t → ReadsAs text t v → HasValue t v
+
+gives_typed : ReadTyped → (form : BlockForm) (content : List ℕ) (t : TypeTree) (v : Value) → IsReadable t → Gives form content t v → HasValue t v
+gives_typed typed forms.Value content t v p g = typed content t v p g
+gives_typed typed forms.Table content t v p g = absurd g
+gives_typed typed forms.Other content t v p g = absurd g
+
+blocks_typed : ReadTyped → FormedReadable → (bs : List Binder) (ks : List Block) (vs : List Value) → ParamsFit bs → BlocksGive bs ks vs → ArgumentsFit bs vs
+blocks_typed typed formed [] [] [] p g = tt
+blocks_typed typed formed [] [] (v ∷ vs) p g = absurd g
+blocks_typed typed formed [] (block ∷ blocks) vs p g = absurd g
+blocks_typed typed formed (b ∷ bs) [] vs p g = absurd g
+blocks_typed typed formed (b ∷ bs) (block ∷ blocks) [] p g = absurd g
+blocks_typed typed formed (b ∷ bs) (block ∷ blocks) (v ∷ vs) p g =
+    (gives_typed typed block.form block.content (noted_type b.note) v (param_readable formed b.note p.0) g.0, blocks_typed typed formed bs blocks vs p.1 g.1)
+
+data_typed : ReadTyped → FormedReadable → (stray : Bool) (bs : List Binder) (ks : List Block) (vs : List Value) → ParamsFit bs → DataGive stray bs ks vs → ArgumentsFit bs vs
+data_typed typed formed true bs ks vs p g = absurd g
+data_typed typed formed false bs ks vs p g = blocks_typed typed formed bs ks vs p g
+
+pub arguments_typed : ReadTyped → FormedReadable → (params : List Binder) (job : Job) (vs : List Value) → ParamsFit params → Arguments params job vs → ArgumentsFit params vs
+arguments_typed typed formed params job vs p g = data_typed typed formed job.stray params job.blocks vs p g

@@ -1,0 +1,86 @@
+//! The blocks of a job's data, matched with the parameters of a program.
+
+ghost use Rattle.std.specs.Prelude.{◌≡◌, ◌++◌, ◌∷◌, [], ℕ, IfOk, IfErr, OnOk};
+ghost use Rattle.weld_data.specs.Value.{Value};
+ghost use Rattle.weld_meaning.specs.Typing.{ParamFits, ParamsFit, noted_type};
+ghost use Rattle.weld_meaning.specs.Meaning.{ArgumentsFit};
+ghost use Rattle.weld_arguments.specs.Arguments.{Gives, Fails, BlocksGive, BlocksFail, Arguments, IsUnfit, Tells};
+
+use crate::block::read_block;
+use crate::laws::arguments_have_their_types;
+use crate::stop::DataStop;
+use std::alloc::Global;
+use weld_data::Vals;
+use weld_job::{Block, Job};
+use weld_tree::{Binder, Binders, Code};
+use weld_values::laws::well_formed_types_are_readable;
+
+/// Appends the argument that the block of this number gives the parameter.
+fn add_argument(
+    alloc: Global,
+    param: &Binder,
+    block: &Block,
+    number: u64,
+    arguments: &mut Vals,
+) -> Result<(), DataStop>
+    requires { ParamFits param.now.note }
+    ensures ok { OnOk result ((v : Value) × (arguments.new ≡ arguments.old ++ v ∷ []) × Gives block.now.form block.now.content (noted_type param.now.note) v) }
+    ensures unfit { IfErr result (Tells (λ (n : ℕ) (code : _). (n ≡ number) × Fails block.now.form block.now.content (noted_type param.now.note) code)) }
+{
+    well_formed_types_are_readable();
+    let Some(ty) = &param.note else {
+        unreachable!()
+    };
+    let value = read_block(alloc, block, ty, number)?;
+    match arguments.push(value) {
+        Ok(()) => Ok(()),
+        Err(_) => Err(DataStop::Memory),
+    }
+}
+
+/// The arguments that the blocks give the parameters.
+fn read_blocks(alloc: Global, params: &[Binder], blocks: &[Block]) -> Result<Vals, DataStop>
+    requires { ParamsFit params.now }
+    ensures arguments { IfOk result (BlocksGive params.now blocks.now) }
+    ensures unfit { IfErr result (Tells (BlocksFail params.now blocks.now 1)) }
+{
+    let mut arguments = Vals::new(alloc);
+    let mut left = blocks;
+    let mut number = 1;
+    for param in params {
+        let Some((block, more)) = left.split_first() else {
+            return Err(DataStop::Unfit(number, Code::Missing));
+        };
+        match add_argument(alloc, param, block, number, &mut arguments) {
+            Ok(()) => {}
+            Err(stop) => return Err(stop),
+        }
+        left = more;
+        number += 1;
+    }
+    if left.is_empty() {
+        Ok(arguments)
+    } else {
+        Err(DataStop::Unfit(number, Code::Extra))
+    }
+}
+
+/// The arguments that a job's data give the parameters of a program: block by block in order, the first block that
+/// doesn't fit being told (this project's profile of Weld). Each parameter has its type, which is well formed and has no
+/// builder in it.
+///
+/// `Unfit` tells of stray bytes before the blocks by the number 0 and FORM; of a parameter without a block by its number
+/// and MISSING; of a block that is no `%value` by FORM; of a content that doesn't read as the parameter's type by SYNTAX,
+/// RANGE or REPEAT, as `read_value` does; and of a block more than there are parameters by EXTRA.
+pub fn read_arguments(alloc: Global, params: &Binders, job: &Job) -> Result<Vals, DataStop>
+    requires { ParamsFit params.now }
+    ensures arguments { IfOk result (Arguments params.now job.now) }
+    ensures typed { IfOk result (ArgumentsFit params.now) }
+    ensures unfit { IfErr result (Tells (IsUnfit params.now job.now)) }
+{
+    if job.stray {
+        return Err(DataStop::Unfit(0, Code::Form));
+    }
+    arguments_have_their_types();
+    read_blocks(alloc, params.as_slice(), job.blocks.as_slice())
+}

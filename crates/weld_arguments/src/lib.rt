@@ -1,0 +1,10 @@
+//! The arguments of a program: read from the blocks of a job's data, one for each parameter.
+#![tactic(auto)]
+
+mod arguments;
+mod block;
+pub mod laws;
+mod stop;
+
+pub use arguments::read_arguments;
+pub use stop::DataStop;

@@ -1,0 +1,7 @@
+//! Values as text, written.
+#![tactic(auto)]
+
+mod cell;
+mod write;
+
+pub use write::{is_i8, write_value};
