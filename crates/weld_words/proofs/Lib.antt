@@ -1,0 +1,11 @@
+pub mod Built
+pub mod Rows
+pub mod Steps
+pub mod Reading
+pub mod Lexing
+pub mod Standing
+pub mod Counts
+pub mod Spelling
+pub mod Complete
+pub mod Forms
+pub mod Refusals
