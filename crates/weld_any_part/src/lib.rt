@@ -3,6 +3,7 @@
 
 pub mod any;
 mod fields;
+pub mod laws;
 pub mod one;
 
 pub use any::{AnyItem, AnyPart, AnyShape, FieldShapes, Fields};

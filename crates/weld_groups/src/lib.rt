@@ -2,6 +2,7 @@
 #![tactic(auto)]
 
 pub mod groups;
+pub mod laws;
 mod lists;
 mod pairs;
 

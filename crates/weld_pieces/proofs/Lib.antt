@@ -1,5 +1,4 @@
 pub mod CellLemmas
-pub mod Comparing
 pub mod MapLemmas
 pub mod KeyedLemmas
 pub mod PairLemmas

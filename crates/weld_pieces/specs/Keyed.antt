@@ -13,7 +13,7 @@ use Rattle.weld_data.specs.declared.op.MergeOp.{MergeOp}
 use Rattle.weld_data.specs.contracts.op.MergeOp as op_type
 use Rattle.weld_data.specs.Value.{Value}
 use Rattle.weld_data.specs.ValueCode.{coded_value}
-use Rattle.weld_data.specs.Order.{SameKeyType}
+use Rattle.weld_data.specs.Order.{SameKeyType, KeyType, HasKeyType}
 use Rattle.weld_builders.specs.ValueOrder.{ValueMap}
 use Rattle.weld_builders.specs.Part.{Part, keyed_part}
 
@@ -64,6 +64,10 @@ itself v = v
 -- each key is one that a part takes whose keys are kept so
 abbrev pub KeysAreKept : {X : Type 0} → Option Kind → ValueMap X → Type 0
 KeysAreKept key m = AllByRecursion (IsKeptKey key) (keys_of (finite.entries m))
+
+-- each key is one of the type
+abbrev pub KeysAreOf : {X : Type 0} → KeyType → ValueMap X → Type 0
+KeysAreOf t m = AllByRecursion (HasKeyType t) (keys_of (finite.entries m))
 
 -- entries as those of a dictionary
 abbrev pub shown : {K X : Type 0} → (K → Value) → (X → Value) → List (K × X) → List (Value × Value)

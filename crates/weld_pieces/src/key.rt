@@ -1,9 +1,9 @@
 //! Keys that are kept in order as values.
 
-use crate::compare::compare_values;
 use std::cmp::Ordering;
 use std::marker::Model;
 use weld_data::Val;
+use weld_sorted::compare_values;
 
 /// A value that is a key.
 #[derive(Debug, Drop)]

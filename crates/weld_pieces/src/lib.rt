@@ -2,7 +2,6 @@
 #![tactic(auto)]
 
 pub mod cells;
-mod compare;
 mod grow;
 pub mod key;
 pub mod keyed;

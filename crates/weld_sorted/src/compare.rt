@@ -12,8 +12,10 @@ ghost use Rattle.weld_data.specs.Order.{IsKey, IsKeyField, AreKeyFields};
 use std::cmp::Ordering;
 use weld_data::{Column, Kind, Num, Val, Vals};
 
-/// How the first value stands to the second. It takes no memory.
-pub(crate) fn compare_values(a: &Val, b: &Val) -> Ordering
+/// How the first value stands to the second in the one total order of all values, by their kinds and
+/// then by their numbers, lists and structs item by item (this project's profile). Both may be keys;
+/// they need not be of one type. It takes no memory.
+pub fn compare_values(a: &Val, b: &Val) -> Ordering
     requires left { IsKey (view_val a.now) }
     requires right { IsKey (view_val b.now) }
     ensures { result ≡ value_cmp (view_val a.now) (view_val b.now) }

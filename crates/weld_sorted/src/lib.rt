@@ -1,9 +1,10 @@
-//! Entries of dictionaries sorted by their keys.
+//! The one order of all values on keys, and entries of dictionaries sorted by it.
 #![tactic(auto)]
 
-mod compare;
+pub mod compare;
 mod entry;
 mod sorted;
 
+pub use compare::compare_values;
 pub use entry::Entry;
 pub use sorted::sort_entries;

@@ -1,0 +1,5 @@
+//! Tests of parts that are chosen when the program runs.
+#![tactic(auto)]
+
+#[cfg(test)]
+mod nested;

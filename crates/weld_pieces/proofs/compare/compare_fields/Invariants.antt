@@ -1,7 +1,0 @@
-use Rattle.std.proofs.Common.{◌≡◌, drop}
-use Rattle.std.specs.Cmp.Lexicographic.{slice_cmp}
-use Rattle.weld_builders.specs.ValueOrder.{value_cmp}
-use Rattle.weld_pieces.proofs.compare.compare_fields.Given as goal
-
-abbrev pub invariant-loop-i : goal.invariant-loop-i
-invariant-loop-i l = slice_cmp value_cmp l.a l.b ≡ slice_cmp value_cmp (drop l.i l.a) (drop l.i l.b)
