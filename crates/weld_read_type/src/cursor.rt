@@ -50,6 +50,13 @@ impl<'a> Cursor<'a> {
         self.tokens.is_empty()
     }
 
+    /// The tokens that are left.
+    pub fn rest(&self) -> &'a [Token]
+        ensures { result.now ≡ self.now }
+    {
+        self.tokens
+    }
+
     /// Reads a token that is the terminal.
     pub fn take(&mut self, terminal: Terminal) -> Result<(), Stop>
         ensures taken { OnOk result (Taken terminal self.old self.new) }

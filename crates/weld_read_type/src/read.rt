@@ -11,7 +11,7 @@ use weld_terminals::{Class, Reserved, Symbol};
 use weld_tree::{BuildTy, Ty, Tys};
 
 /// `+`, `*`, `min` or `max`.
-fn read_op(cursor: &mut Cursor) -> Result<MergeOp, Stop>
+pub fn read_op(cursor: &mut Cursor) -> Result<MergeOp, Stop>
     ensures read { IfOk result (λ op. OpFront cursor.old cursor.new op) }
     ensures no_longer { length cursor.new ≤ length cursor.old }
 {

@@ -140,9 +140,15 @@ derives_spelled ts d =
     let P : Tree Class → Type 0 = IsOf (item (OfRule Program)) in
     (program_of h.tree, record { tree = h.tree; tree_of = subst P (sym h.alike) d.1; tokens = sym (append-nil (yield h.tree)) ∙ ap (λ z. yield h.tree ++ z) (sym (no_classes h.rest h.left)) ∙ sym h.tokens; is = refl })
 
--- by the grammar's law, tokens have one tree
-pub one_spelled : ((r : Rule) (t u : Tree Class) → IsOf (item (OfRule r)) t → IsOf (item (OfRule r)) u → yield t ≡ yield u → t ≡ u) → (ts : List Token) (p q : ProgramTree) → Spells ts p → Spells ts q → p ≡ q
-one_spelled law ts p q h k =
-    let yields : yield (seen h.tree) ≡ yield (seen k.tree) = yield-seen h.tree ∙ ap classes (h.tokens ∙ sym k.tokens) ∙ sym (yield-seen k.tree) in
-    let same = seen_alike h.tree k.tree [] [] (law Program (seen h.tree) (seen k.tree) h.tree_of k.tree_of yields) (ap (λ z. z ++ []) (h.tokens ∙ sym k.tokens)) in
-    sym h.is ∙ ap program_of same.trees ∙ k.is
+-- the grammar's law of one tree
+abbrev pub HasOneTree : Type 0
+HasOneTree = (r : Rule) (t u : Tree Class) → IsOf (item (OfRule r)) t → IsOf (item (OfRule r)) u → yield t ≡ yield u → t ≡ u
+
+-- by it, tokens have one tree
+pub one_over_tokens : HasOneTree → (r : Rule) (t u : Tree Token) → IsOf (item (OfRule r)) (seen t) → IsOf (item (OfRule r)) (seen u) → yield t ≡ yield u → t ≡ u
+one_over_tokens law r t u h k e =
+    let yields : yield (seen t) ≡ yield (seen u) = yield-seen t ∙ ap classes e ∙ sym (yield-seen u) in
+    (seen_alike t u [] [] (law r (seen t) (seen u) h k yields) (ap (λ z. z ++ []) e)).trees
+
+pub one_spelled : HasOneTree → (ts : List Token) (p q : ProgramTree) → Spells ts p → Spells ts q → p ≡ q
+one_spelled law ts p q h k = sym h.is ∙ ap program_of (one_over_tokens law Program h.tree k.tree h.tree_of k.tree_of (h.tokens ∙ sym k.tokens)) ∙ k.is

@@ -55,8 +55,13 @@ abbrev pub note_of : Tree Token → Option TypeTree
 note_of (here (node (pair c (pair t rest)))) = Some (type_of t)
 note_of _ = None
 
-abbrev pub binder_of : Tree Token → Option TypeTree → ℕ → Binder
-binder_of w note n = record { sym = record { 0 = n }; place = first_of (yield w); note = note }
+-- where it begins; of no note nothing is said
+abbrev pub note_place_of : Tree Token → Place
+note_place_of (here (node (pair c (pair t rest)))) = first_of (yield t)
+note_place_of _ = record { line = 0; column = 0 }
+
+abbrev pub binder_of : Tree Token → Tree Token → ℕ → Binder
+binder_of w note n = record { sym = record { 0 = n }; place = first_of (yield w); note = note_of note; note_place = note_place_of note }
 
 abbrev pub bound_as : Tree Token → ℕ → Bound
 bound_as w n = record { bytes = word_of w; number = n }
@@ -117,7 +122,7 @@ fields_of _ base = base
 abbrev mutual
   -- an expression: a `let`, or the operators
   pub expr_of : Tree Token → List Bound → ℕ → Spelled
-  expr_of (node (here (node (pair l (pair w (pair note (pair q (pair v (pair m (pair b end)))))))))) scope n = let value = or_of v scope (n + 1) in let body = expr_of b (bound_as w n ∷ scope) value.next in record { expr = let_in (node_at l) (binder_of w (note_of note) n) value.expr body.expr; next = body.next }
+  expr_of (node (here (node (pair l (pair w (pair note (pair q (pair v (pair m (pair b end)))))))))) scope n = let value = or_of v scope (n + 1) in let body = expr_of b (bound_as w n ∷ scope) value.next in record { expr = let_in (node_at l) (binder_of w note n) value.expr body.expr; next = body.next }
   expr_of (node (there (here t))) scope n = or_of t scope n
   expr_of _ scope n = nothing n
 
@@ -207,8 +212,8 @@ abbrev mutual
   primary_of (node (there (there (there (there (there (there (there (there (there (there (there (there (there (here (node (pair w (pair a (pair t (pair c (pair u (pair d (pair v end))))))))))))))))))))))) scope n = let e = expr_of t scope n in let f = expr_of u scope e.next in let g = expr_of v scope f.next in record { expr = three (node_at w) slice e.expr f.expr g.expr; next = g.next }
   primary_of (node (there (there (there (there (there (there (there (there (there (there (there (there (there (there (here (node (pair w (pair a (pair t (pair c (pair u end)))))))))))))))))))))) scope n = let e = expr_of t scope n in let f = expr_of u scope e.next in record { expr = two (node_at w) merge e.expr f.expr; next = f.next }
   primary_of (node (there (there (there (there (there (there (there (there (there (there (there (there (there (there (there (here (node (pair w (pair a (pair t end))))))))))))))))))))) scope n = let e = expr_of t scope n in record { expr = one (node_at w) finish e.expr; next = e.next }
-  primary_of (node (there (there (there (there (there (there (there (there (there (there (there (there (there (there (there (there (here (node (pair w (pair a (pair l (pair c (pair t (pair d (pair i (pair (node (pair x (pair p end))) (pair j (pair (node (pair y (pair q end2))) (pair k (pair (node (pair z (pair r end3))) (pair m (pair b end4))))))))))))))))))))))))))))))))) scope n = let legs = rows_of l scope n in let builder = expr_of t scope legs.next in let body = expr_of b (bound_as z (builder.next + 2) ∷ bound_as y (builder.next + 1) ∷ bound_as x builder.next ∷ scope) (builder.next + 3) in record { expr = loop (node_at w) legs.legs builder.expr (binder_of x (note_of p) builder.next) (binder_of y (note_of q) (builder.next + 1)) (binder_of z (note_of r) (builder.next + 2)) body.expr; next = body.next }
-  primary_of (node (there (there (there (there (there (there (there (there (there (there (there (there (there (there (there (there (there (here (node (pair w (pair a (pair t (pair c (pair i (pair (node (pair x (pair p end))) (pair m (pair b end2)))))))))))))))))))))))))))) scope n = let state = expr_of t scope n in let body = expr_of b (bound_as x state.next ∷ scope) (state.next + 1) in record { expr = iterate (node_at w) state.expr (binder_of x (note_of p) state.next) body.expr; next = body.next }
+  primary_of (node (there (there (there (there (there (there (there (there (there (there (there (there (there (there (there (there (here (node (pair w (pair a (pair l (pair c (pair t (pair d (pair i (pair (node (pair x (pair p end))) (pair j (pair (node (pair y (pair q end2))) (pair k (pair (node (pair z (pair r end3))) (pair m (pair b end4))))))))))))))))))))))))))))))))) scope n = let legs = rows_of l scope n in let builder = expr_of t scope legs.next in let body = expr_of b (bound_as z (builder.next + 2) ∷ bound_as y (builder.next + 1) ∷ bound_as x builder.next ∷ scope) (builder.next + 3) in record { expr = loop (node_at w) legs.legs builder.expr (binder_of x p builder.next) (binder_of y q (builder.next + 1)) (binder_of z r (builder.next + 2)) body.expr; next = body.next }
+  primary_of (node (there (there (there (there (there (there (there (there (there (there (there (there (there (there (there (there (there (here (node (pair w (pair a (pair t (pair c (pair i (pair (node (pair x (pair p end))) (pair m (pair b end2)))))))))))))))))))))))))))) scope n = let state = expr_of t scope n in let body = expr_of b (bound_as x state.next ∷ scope) (state.next + 1) in record { expr = iterate (node_at w) state.expr (binder_of x p state.next) body.expr; next = body.next }
   primary_of (node (there (there (there (there (there (there (there (there (there (there (there (there (there (there (there (there (there (there (here (node (pair k (pair a (pair t end)))))))))))))))))))))))) scope n = let e = expr_of t scope n in record { expr = one (node_at k) (cast (int_kind_of k)) e.expr; next = e.next }
   primary_of (node (there (there (there (there (there (there (there (there (there (there (there (there (there (there (there (there (there (there (there (here b))))))))))))))))))))) scope n = builder_of b scope n
   primary_of _ scope n = nothing n
@@ -243,8 +248,8 @@ abbrev mutual
 
 -- a parameter, with its number
 abbrev pub param_of : Tree Token → ℕ → Binder
-param_of (node (pair w (pair c (pair t rest)))) n = binder_of w (Some (type_of t)) n
-param_of t n = binder_of t None n
+param_of (node (pair w (pair c (pair t rest)))) n = record { sym = record { 0 = n }; place = first_of (yield w); note = Some (type_of t); note_place = first_of (yield t) }
+param_of t n = record { sym = record { 0 = n }; place = first_of (yield t); note = None; note_place = record { line = 0; column = 0 } }
 
 -- its name
 abbrev pub param_bound : Tree Token → ℕ → Bound

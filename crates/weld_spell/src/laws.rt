@@ -4,6 +4,11 @@ ghost use Rattle.weld_terminals.specs.declared.token.Token.{Token};
 ghost use Rattle.weld_tree.specs.Program.{ProgramTree, bound, syms_of, AreDistinct};
 ghost use Rattle.weld_grammar.specs.declared.rule.Rule.TheVariants.{Program};
 ghost use Rattle.weld_grammar.specs.Breaks.{Derives};
+ghost use Rattle.weld_grammar.specs.declared.rule.Rule.{Rule};
+ghost use Rattle.weld_grammar.specs.declared.item.Item.TheVariants.{Part as OfRule};
+ghost use Rattle.weld_grammar.specs.Grammar.{item};
+ghost use Rattle.weld_grammar.specs.Derivation.{Tree, yield, IsOf};
+ghost use Rattle.weld_read_type.specs.Fronts.{seen};
 ghost use Rattle.weld_accept.specs.Classes.{classes};
 ghost use Rattle.weld_spell.specs.Spells.{Spells};
 ghost use Rattle.weld_spell.specs.Numbers.{count_from};
@@ -14,6 +19,13 @@ use weld_grammar::laws::one_tree;
 /// them.
 pub fn one_program()
     ensures { (ts : List Token) (p q : ProgramTree) → Spells ts p → Spells ts q → p ≡ q }
+{
+    one_tree();
+}
+
+/// A rule derives tokens by one tree over them at most.
+pub fn one_tree_of_tokens()
+    ensures { (r : Rule) (t u : Tree Token) → IsOf (item (OfRule r)) (seen t) → IsOf (item (OfRule r)) (seen u) → yield t ≡ yield u → t ≡ u }
 {
     one_tree();
 }

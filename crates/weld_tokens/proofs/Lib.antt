@@ -5,3 +5,4 @@ pub mod Reading
 pub mod OneReading
 pub mod Numbers
 pub mod Spelled
+pub mod SomeReading

@@ -1,10 +1,9 @@
 -- The first refusal of a text, by what its bytes, its tokens and their grammar show (the Weld papers). What the grammar finds is a parameter.
-use Rattle.std.specs.Prelude.{◌≡◌, ◌⊎◌, ℕ, Bool, true, false, not, ◌&&◌, if◌then◌else◌, List, [], ◌∷◌, Option, Some, None}
+use Rattle.std.specs.Prelude.{ℕ, Bool, true, false, not, ◌&&◌, if◌then◌else◌, List, [], ◌∷◌, Option, Some, None}
 use Rattle.std.specs.Option.{option_map}
-use Rattle.std.specs.Bool.{MatchBool}
 use Rattle.weld_tree.specs.declared.place.Place.{Place}
 use Rattle.weld_tree.specs.declared.code.Code.{Code}
-use Rattle.weld_tree.specs.declared.code.Code.TheVariants.{X1, X2, X3, M2, M3, M4, M5, M6, M7, M8, M9}
+use Rattle.weld_tree.specs.declared.code.Code.TheVariants.{X2, X3, M3, M4, M5, M6, M7, M8, M9}
 use Rattle.weld_tree.specs.declared.refusal.Refusal.{Refusal}
 use Rattle.weld_tree.specs.declared.refusal.Refusal.TheVariants.{At, Size}
 use Rattle.weld_terminals.specs.declared.symbol.Symbol.TheVariants.{RightParen, RightBracket, RightBrace, Minus}
@@ -14,8 +13,7 @@ use Rattle.weld_terminals.specs.declared.class.Class.TheVariants as classes
 use Rattle.weld_terminals.specs.declared.token.Token.{Token}
 use Rattle.weld_tokens.specs.declared.order.Findings.{Findings}
 use Rattle.weld_tokens.specs.Literals.{is_in_range}
-use Rattle.weld_tokens.specs.Tokens.{AreTokens, IsWrongAt}
-use Rattle.weld_tokens.specs.TokenLimits.{has_too_many_bytes, has_too_many_tokens, first_long_name}
+use Rattle.weld_tokens.specs.TokenLimits.{has_too_many_tokens, first_long_name}
 
 -- a number that its kind doesn't have, where `negative` says that it is that of a negative literal
 abbrev pub out_of_range : Class → Bool → List ℕ → Bool
@@ -86,14 +84,3 @@ first_refusal tokens found =
     (or_else (at M8 found.too_many_fields)
     (or_else (at M9 (first_long_name tokens))
     (named found.misnamed)))))))))
-
--- this refusal is the first of a text, where the grammar finds this in its tokens
-abbrev pub IsFirstRefusal : (List Token → Findings) → List ℕ → Refusal → Type 0
-IsFirstRefusal find text refusal =
-    MatchBool (has_too_many_bytes text) (refusal ≡ Size M2)
-    (((place : Place) × IsWrongAt text place × (refusal ≡ At X1 place))
-    ⊎ ((tokens : List Token) × AreTokens text tokens × (first_refusal tokens (find tokens) ≡ Some refusal)))
-
--- no rule up to the names refuses the text
-abbrev pub IsUnrefused : (List Token → Findings) → List ℕ → List Token → Type 0
-IsUnrefused find text tokens = MatchBool (has_too_many_bytes text) ⊥ (AreTokens text tokens × (first_refusal tokens (find tokens) ≡ None))

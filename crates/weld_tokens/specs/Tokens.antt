@@ -52,6 +52,10 @@ place_after place (b ∷ bs) = place_after (next_place place b) bs
 abbrev pub start : Place
 start = record { line = 1; column = 1 }
 
+-- the place behind the last byte of a text
+abbrev pub end_of : List ℕ → Place
+end_of text = place_after start text
+
 -- the place of the first token of a text that stands at this place, and the place behind that token
 abbrev pub word_place : Place → List ℕ → Place
 word_place place text = place_after place (take (gap_len text) text)

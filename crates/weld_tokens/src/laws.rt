@@ -1,6 +1,6 @@
 //! Laws of this crate's definitions, each the contract of a function that does nothing.
 
-ghost use Rattle.std.specs.Prelude.{◌≡◌, List, Some};
+ghost use Rattle.std.specs.Prelude.{◌≡◌, ℕ, ◌⊎◌, List, Some};
 ghost use Rattle.weld_terminals.specs.Symbols.{symbol_text};
 ghost use Rattle.weld_terminals.specs.ReservedWords.{reserved_text};
 ghost use Rattle.weld_terminals.specs.declared.symbol.Symbol.{Symbol};
@@ -13,10 +13,15 @@ ghost use Rattle.weld_terminals.specs.declared.token.Token.{Token};
 ghost use Rattle.weld_tokens.specs.Tokens.{AreTokens, IsWrongAt};
 
 /// A text has one list of tokens at most, one place at most where X1 refuses it, and never both.
-pub fn one_reading(text: &[u8])
-    ensures tokens { (a b : List Token) → AreTokens text.now a → AreTokens text.now b → a ≡ b }
-    ensures wrong { (p q : Place) → IsWrongAt text.now p → IsWrongAt text.now q → p ≡ q }
-    ensures not_both { (a : List Token) (p : Place) → AreTokens text.now a → IsWrongAt text.now p → ⊥ }
+pub fn one_reading()
+    ensures tokens { (text : List ℕ) (a b : List Token) → AreTokens text a → AreTokens text b → a ≡ b }
+    ensures wrong { (text : List ℕ) (p q : Place) → IsWrongAt text p → IsWrongAt text q → p ≡ q }
+    ensures not_both { (text : List ℕ) (a : List Token) (p : Place) → AreTokens text a → IsWrongAt text p → ⊥ }
+{}
+
+/// A text has tokens, or a place where X1 refuses it.
+pub fn some_reading()
+    ensures { (text : List ℕ) → ((tokens : List Token) × AreTokens text tokens) ⊎ ((place : Place) × IsWrongAt text place) }
 {}
 
 /// Each symbol and each reserved word is the token of its own bytes.
@@ -26,6 +31,6 @@ pub fn spelled_tokens()
 {}
 
 /// Each token of a text has the class of its bytes.
-pub fn classes_of_tokens(text: &[u8])
-    ensures { (tokens : List Token) → AreTokens text.now tokens → AllByRecursion (λ t. class_of t.word ≡ Some t.class) tokens }
+pub fn classes_of_tokens()
+    ensures { (text : List ℕ) (tokens : List Token) → AreTokens text tokens → AllByRecursion (λ t. class_of t.word ≡ Some t.class) tokens }
 {}

@@ -1,5 +1,5 @@
 ghost use Rattle.std.specs.Prelude.{◌≡◌, ◌+◌, ◌≤◌, length};
-ghost use Rattle.weld_tokens.specs.Tokens.{next_place, place_after};
+ghost use Rattle.weld_tokens.specs.Tokens.{end_of, next_place, place_after};
 
 use weld_tree::Place;
 
@@ -37,4 +37,12 @@ pub(crate) fn place_after(place: Place, bytes: &[u8]) -> Place
         here = next_place(here, *byte);
     }
     here
+}
+
+/// The place behind the last byte of a text of at most 262,144 bytes.
+pub fn end_of(text: &[u8]) -> Place
+    requires { length text.now ≤ 262144 }
+    ensures { result ≡ end_of text.now }
+{
+    place_after(Place { line: 1, column: 1 }, text)
 }

@@ -144,8 +144,8 @@ fn some_bytes_are_no_one_token(rt: HostRuntime) -> Result<(), Fail> {
     ] {
         assert_eq!(rt; class_of(word), None);
     }
-    one_reading(b"a");
-    classes_of_tokens(b"a");
+    one_reading();
+    classes_of_tokens();
     spelled_tokens();
     Ok(())
 }

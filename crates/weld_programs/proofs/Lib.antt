@@ -1,0 +1,5 @@
+pub mod Broken
+pub mod Modes
+pub mod Flows
+pub mod Fine
+pub mod Sound

@@ -1,0 +1,12 @@
+pub mod Rows
+pub mod Nameless
+pub mod Classes
+pub mod Lines
+pub mod Forms
+pub mod Expressions
+pub mod Binding
+pub mod Rowing
+pub mod Building
+pub mod Whole
+pub mod Cycle
+pub mod Results
