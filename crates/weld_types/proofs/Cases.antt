@@ -1,5 +1,5 @@
 -- Small programs whose first refusal is worked out by hand, by which the definitions are checked. Each stands on one line; a number is a column.
-use Rattle.std.proofs.Common.{◌≡◌, ℕ, pos, true, List, [], ◌∷◌, Option, Some, None, refl}
+use Rattle.std.proofs.Common.{◌≡◌, ℕ, ◌+◌, pos, true, List, [], ◌∷◌, Option, Some, None, refl}
 use Rattle.weld_data.specs.declared.kind.Kind.{Kind}
 use Rattle.weld_data.specs.declared.kind.Kind.TheVariants.{I32, I64}
 use Rattle.weld_data.specs.declared.kind.Kind.TheVariants as kinds
@@ -21,7 +21,7 @@ abbrev node : ℕ → At
 node c = record { place = place c; ty = Blank }
 
 abbrev binder : ℕ → ℕ → Option TypeTree → Binder
-binder s c note = record { sym = record { 0 = s }; place = place c; note = note }
+binder s c note = record { sym = record { 0 = s }; place = place c; note = note; note_place = place (c + 3) }
 
 abbrev i32 : ℕ → ExprTree
 i32 c = leaf (node c) (int I32 (pos 1))
@@ -69,10 +69,10 @@ At_column r code c = r ≡ Some (code, place c)
 no_such_builder : At_column (first (leaf (node 4) (fresh (list_of (build items))))) Y1 4
 no_such_builder = refl
 
-param_of_no_type : At_column (typing_refusal (record { params = binder 0 2 (Some (vec (build items))) ∷ []; body = i32 20 })) Y1 2
+param_of_no_type : At_column (typing_refusal (record { params = binder 0 2 (Some (vec (build items))) ∷ []; body = i32 20 })) Y1 5
 param_of_no_type = refl
 
-builder_param : At_column (typing_refusal (record { params = binder 0 2 (Some (build items)) ∷ []; body = i32 20 })) Y2 2
+builder_param : At_column (typing_refusal (record { params = binder 0 2 (Some (build items)) ∷ []; body = i32 20 })) Y2 5
 builder_param = refl
 
 builder_body : At_column (first (builder 5)) Y3 5
@@ -168,7 +168,7 @@ result_of_one = refl
 -- ---- the order: two wrong things in one program
 
 -- a parameter comes before the body, and a builder-free parameter last of its rules
-param_before_body : At_column (typing_refusal (record { params = binder 0 2 (Some (build items)) ∷ []; body = one (node 20) neg (yes 21) })) Y2 2
+param_before_body : At_column (typing_refusal (record { params = binder 0 2 (Some (build items)) ∷ []; body = one (node 20) neg (yes 21) })) Y2 5
 param_before_body = refl
 
 -- children before parents, left to right

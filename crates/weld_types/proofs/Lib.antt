@@ -3,3 +3,4 @@ mod Cases
 mod TestLemmas
 mod Tables
 pub mod Typing
+pub mod Elements

@@ -3,3 +3,4 @@ pub mod Walk
 pub mod Sizes
 pub mod Says
 pub mod ScopeView
+pub mod Gathered

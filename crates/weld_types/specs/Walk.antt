@@ -186,9 +186,9 @@ row_by (breaks c) bounds b = breaks c
 
 -- ---- the walk
 
--- where the type that is noted at a binder stands, which is where the binder stands
+-- where the type that is noted at a binder stands
 abbrev pub note_place : Binder → Place
-note_place b = b.place
+note_place b = b.note_place
 
 -- the note of a binder is well formed, and equals the type found
 abbrev pub noted : {A : Type 0} → Option TypeTree → Binder → TypeTree → Found A → Found A

@@ -6,5 +6,8 @@ pub mod rules;
 pub mod scope;
 mod tests;
 
-pub use rules::{check_note, check_param, leaf_type, many_type, one_type, three_type, two_type};
+pub use rules::{
+    check_answer, check_loop_body, check_loop_notes, check_note, check_param, check_state,
+    check_turn, leaf_type, many_type, one_type, row_type, three_type, two_type,
+};
 pub use scope::Scope;

@@ -16,11 +16,15 @@ use std::alloc::Global;
 use weld_data::Kind;
 use weld_tree::{BuildTy, Code, LeafForm, OneForm, Place, Refusal, Ty, TyForm, Tys};
 
+mod binding;
 mod many;
 mod notes;
 mod three;
 mod two;
 
+pub use binding::{
+    check_answer, check_loop_body, check_loop_notes, check_state, check_turn, row_type,
+};
 pub use many::many_type;
 pub use notes::{check_note, check_param};
 pub use three::three_type;

@@ -51,7 +51,7 @@ fn vec_of(item: &Ty, place: Place, alloc: Global) -> Result<Ty, Refusal>
 
 /// Whether each of these types is that one.
 #[tactic(auto, using(crate::proofs::CodeTests::all_left, crate::proofs::CodeTests::no_all_left))]
-fn are_all(types: &[Ty], ty: &Ty) -> bool
+pub(crate) fn are_all(types: &[Ty], ty: &Ty) -> bool
     ensures { result ≡ are_all (pack types.now) ty.now }
 {
     for other in types {

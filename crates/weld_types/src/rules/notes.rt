@@ -14,7 +14,7 @@ pub fn check_note(binder: &Binder, found: &Ty) -> Result<(), Refusal>
         return Ok(());
     };
     if !is_well_formed(note) {
-        return Err(Refusal::At(Code::Y1, binder.place));
+        return Err(Refusal::At(Code::Y1, binder.note_place));
     }
     if same(note, found) {
         Ok(())
@@ -28,14 +28,14 @@ pub fn check_param(param: &Binder) -> Result<(), Refusal>
     ensures { (later : Found TypeTree) → Allows result (param_type param.now.note param.now later) later }
 {
     let Some(ty) = &param.note else {
-        return Err(Refusal::At(Code::Y1, param.place));
+        return Err(Refusal::At(Code::Y1, param.note_place));
     };
     if !is_well_formed(ty) {
-        return Err(Refusal::At(Code::Y1, param.place));
+        return Err(Refusal::At(Code::Y1, param.note_place));
     }
     if is_builder_free(ty) {
         Ok(())
     } else {
-        Err(Refusal::At(Code::Y2, param.place))
+        Err(Refusal::At(Code::Y2, param.note_place))
     }
 }

@@ -1,0 +1,4 @@
+pub mod Left
+pub mod Params
+pub mod Answered
+pub mod Frames
