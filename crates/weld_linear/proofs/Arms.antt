@@ -4,54 +4,44 @@ use Rattle.weld_tree.specs.ExprTree.{ExprTree, leaf, one, two, three, many, let_
 use Rattle.weld_meaning.specs.Environment.{Named}
 use Rattle.weld_meaning.specs.Origin.{Path, Origin, value, made, own, outer, named, struct, Origins, no_origins, more_origins, origin_at, field_origin, is_value, are_values, struct_origin, origin_of_name, origin, origins, named_below, named_fields, by_name}
 use Rattle.weld_meaning.specs.Linear.{IsNotMade, AreNotMade, ArmsAgree}
-use Rattle.weld_meaning.specs.Available.{is_builder}
 use Rattle.weld_linear.specs.Arms.{Labels, ArmsShare}
+use Rattle.weld_linear.specs.Resolve.{follow, resolve, all_resolve}
 
 clash : {A : Type 0} {b : Bool} → b ≡ true → b ≡ false → A
 clash p q = let no : ⊥ = cc in absurd no
 
--- what field accesses lead to
-abbrev follow : Path → Origin → Origin
-follow [] o = o
-follow (n ∷ p) o = field_origin n (follow p o)
+-- a builder of within the innermost lambda
+abbrev pub is_inner : Origin → Bool
+is_inner value = false
+is_inner made = true
+is_inner (own p) = true
+is_inner outer = false
+is_inner (named s p) = true
+is_inner (struct os) = false
 
--- each path of a name as what stands there
+-- each path of a name leads to such a builder
 abbrev mutual
-  resolve : Named Origin → Origin → Origin
-  resolve h value = value
-  resolve h made = made
-  resolve h (own p) = own p
-  resolve h outer = outer
-  resolve h (named s p) = follow p (origin_of_name s h)
-  resolve h (struct os) = struct (all_resolve h os)
-
-  all_resolve : Named Origin → Origins → Origins
-  all_resolve h no_origins = no_origins
-  all_resolve h (more_origins o os) = more_origins (resolve h o) (all_resolve h os)
-
--- each path of a name leads to a builder
-abbrev mutual
-  Leads : Named Origin → Origin → Type 0
+  pub Leads : Named Origin → Origin → Type 0
   Leads h value = Unit {0}
   Leads h made = Unit {0}
   Leads h (own p) = Unit {0}
   Leads h outer = Unit {0}
-  Leads h (named s p) = is_builder (follow p (origin_of_name s h)) ≡ true
+  Leads h (named s p) = is_inner (follow p (origin_of_name s h)) ≡ true
   Leads h (struct os) = AllLead h os
 
-  AllLead : Named Origin → Origins → Type 0
+  pub AllLead : Named Origin → Origins → Type 0
   AllLead h no_origins = Unit {0}
   AllLead h (more_origins o os) = Leads h o × AllLead h os
 
-field_builder : (n : ℕ) (o : Origin) → is_builder o ≡ true → is_builder (field_origin n o) ≡ true
+field_builder : (n : ℕ) (o : Origin) → is_inner o ≡ true → is_inner (field_origin n o) ≡ true
 field_builder n value e = clash e refl
 field_builder n made e = refl
 field_builder n (own p) e = refl
-field_builder n outer e = refl
+field_builder n outer e = clash e refl
 field_builder n (named s p) e = refl
 field_builder n (struct os) e = clash e refl
 
-builder_no_value : (o : Origin) → is_builder o ≡ true → is_value o ≡ false
+pub builder_no_value : (o : Origin) → is_inner o ≡ true → is_value o ≡ false
 builder_no_value value e = clash e refl
 builder_no_value made e = refl
 builder_no_value (own p) e = refl
@@ -85,7 +75,7 @@ resolve_field h n outer = refl
 resolve_field h n (named s p) = refl
 resolve_field h n (struct os) = resolve_at h n os
 
-value_resolved : (h : Named Origin) (o : Origin) → Leads h o → is_value (resolve h o) ≡ is_value o
+pub value_resolved : (h : Named Origin) (o : Origin) → Leads h o → is_value (resolve h o) ≡ is_value o
 value_resolved h value k = refl
 value_resolved h made k = refl
 value_resolved h (own p) k = refl
@@ -113,8 +103,8 @@ struct_leads h false os k = k
 Shows : Named Origin → Origin → Origin → Type 0
 Shows h o u = Leads h o × (resolve h o ≡ u)
 
-record Resolves (h n m : Named Origin) : Type 0 where
-  at : (s : ℕ) → Leads h (origin_of_name s n) × (resolve h (origin_of_name s n) ≡ origin_of_name s m)
+pub record Resolves (h n m : Named Origin) : Type 0 where
+  pub at : (s : ℕ) → Leads h (origin_of_name s n) × (resolve h (origin_of_name s n) ≡ origin_of_name s m)
 
 resolves_more : (h n m : Named Origin) (b : ℕ) (o u : Origin) → Leads h o → resolve h o ≡ u → Resolves h n m → Resolves h ((b, o) ∷ n) ((b, u) ∷ m)
 resolves_more h n m b o u k e r = record { at = λ s. by s (s == b) refl }
@@ -124,7 +114,7 @@ resolves_more h n m b o u k e r = record { at = λ s. by s (s == b) refl }
     by s false p = rw p (r.at s)
 
 mutual
-  shows : (h n m : Named Origin) (e : ExprTree) → Resolves h n m → Leads h (origin e n) × (resolve h (origin e n) ≡ origin e m)
+  pub shows : (h n m : Named Origin) (e : ExprTree) → Resolves h n m → Leads h (origin e n) × (resolve h (origin e n) ≡ origin e m)
   shows h n m (leaf a (int k x)) r = (tt, refl)
   shows h n m (leaf a (truth b)) r = (tt, refl)
   shows h n m (leaf a (chars bs)) r = (tt, refl)
@@ -175,10 +165,10 @@ name_below s (e ∷ h) = by (s == e.0) refl (name_below s h)
 mutual
   below_shows : (h : Named Origin) (s : ℕ) (p : Path) (o : Origin) → follow p (origin_of_name s h) ≡ o → Leads h (named_below s p o) × (resolve h (named_below s p o) ≡ o)
   below_shows h s p value e = (tt, refl)
-  below_shows h s p made e = (ap is_builder e, e)
-  below_shows h s p (own q) e = (ap is_builder e, e)
+  below_shows h s p made e = (ap is_inner e, e)
+  below_shows h s p (own q) e = (ap is_inner e, e)
   below_shows h s p outer e = (tt, refl)
-  below_shows h s p (named t q) e = (ap is_builder e, e)
+  below_shows h s p (named t q) e = (ap is_inner e, e)
   below_shows h s p (struct os) e =
       let w = fields_show h s zero p os (λ n. let z : (zero + n) ≡ n = omega arith in ap (λ m. field_origin m (follow p (origin_of_name s h))) z ∙ ap (field_origin n) e) in
       (w.0, ap struct w.1)
@@ -192,14 +182,14 @@ mutual
       let ws = fields_show h s (suc k) p os (λ n. let y : (suc k + n) ≡ (k + suc n) = omega arith in ap (λ m. field_origin m (follow p (origin_of_name s h))) y ∙ f (suc n)) in
       ((w.0, ws.0), λ i. more_origins (w.1 i) (ws.1 i))
 
-names_resolve : (h : Named Origin) → Resolves h (by_name h) h
+pub names_resolve : (h : Named Origin) → Resolves h (by_name h) h
 names_resolve h = record {
   at = λ s.
       let w = below_shows h s [] (origin_of_name s h) refl in
       (subst (Leads h) (sym (name_below s h)) w.0, ap (resolve h) (name_below s h) ∙ w.1);
 }
 
-by_names : (e : ExprTree) (h : Named Origin) → resolve h (origin e (by_name h)) ≡ origin e h
+pub by_names : (e : ExprTree) (h : Named Origin) → resolve h (origin e (by_name h)) ≡ origin e h
 by_names e h = (shows h (by_name h) h e (names_resolve h)).1
 
 mutual
@@ -218,6 +208,67 @@ mutual
 names_twice : (g : Named Origin) → by_name (by_name g) ≡ by_name g
 names_twice [] = refl
 names_twice (e ∷ g) = λ i. (e.0, below_twice e.0 [] e.1 i) ∷ names_twice g i
+
+-- ---- a `let`, by the names before it
+
+builder_below : (s : ℕ) (p : Path) (o : Origin) → is_inner o ≡ true → named_below s p o ≡ named s p
+builder_below s p value e = clash e refl
+builder_below s p made e = refl
+builder_below s p (own q) e = refl
+builder_below s p outer e = clash e refl
+builder_below s p (named t q) e = refl
+builder_below s p (struct os) e = clash e refl
+
+mutual
+  below_resolved : (h : Named Origin) (s : ℕ) (p : Path) (o : Origin) → Leads h o → named_below s p (resolve h o) ≡ named_below s p o
+  below_resolved h s p value k = refl
+  below_resolved h s p made k = refl
+  below_resolved h s p (own q) k = refl
+  below_resolved h s p outer k = refl
+  below_resolved h s p (named t q) k = builder_below s p (follow q (origin_of_name t h)) k
+  below_resolved h s p (struct os) k = ap struct (fields_resolved h s zero p os k)
+
+  fields_resolved : (h : Named Origin) (s n : ℕ) (p : Path) (os : Origins) → AllLead h os → named_fields s n p (all_resolve h os) ≡ named_fields s n p os
+  fields_resolved h s n p no_origins k = refl
+  fields_resolved h s n p (more_origins o os) k = λ i. more_origins (below_resolved h s (n ∷ p) o k.0 i) (fields_resolved h s (suc n) p os k.1 i)
+
+-- the bound name read as what is bound to it
+let_resolves : (b : ℕ) (e : ExprTree) (g : Named Origin)
+    → Resolves ((b, origin e (by_name g)) ∷ by_name g) (by_name ((b, origin e g) ∷ g)) ((b, origin e (by_name g)) ∷ by_name g)
+let_resolves b e g = record { at = λ s. by s (s == b) refl }
+  where
+    form : named_below b [] (origin e g) ≡ named_below b [] (origin e (by_name g))
+    form =
+        let w = shows g (by_name g) g e (names_resolve g) in
+        ap (named_below b []) (sym w.1) ∙ below_resolved g b [] (origin e (by_name g)) w.0
+
+    here : (s : ℕ) (c : Bool) → (s == b) ≡ c → origin_of_name s ((b, origin e (by_name g)) ∷ by_name g) ≡ (if c then origin e (by_name g) else origin_of_name s (by_name g))
+    here s true p = rw p refl
+    here s false p = rw p refl
+
+    there : (s : ℕ) (c : Bool) → (s == b) ≡ c → origin_of_name s (by_name ((b, origin e g) ∷ g)) ≡ (if c then named_below b [] (origin e g) else origin_of_name s (by_name g))
+    there s true p = rw p refl
+    there s false p = rw p refl
+
+    named_twice : (s : ℕ) → named_below s [] (origin_of_name s (by_name g)) ≡ origin_of_name s (by_name g)
+    named_twice s = ap (named_below s []) (name_below s g) ∙ below_twice s [] (origin_of_name s g) ∙ sym (name_below s g)
+
+    by : (s : ℕ) (c : Bool) → (s == b) ≡ c
+        → Leads ((b, origin e (by_name g)) ∷ by_name g) (origin_of_name s (by_name ((b, origin e g) ∷ g)))
+        × (resolve ((b, origin e (by_name g)) ∷ by_name g) (origin_of_name s (by_name ((b, origin e g) ∷ g))) ≡ origin_of_name s ((b, origin e (by_name g)) ∷ by_name g))
+    by s true p =
+        let w = below_shows ((b, origin e (by_name g)) ∷ by_name g) s [] (origin e (by_name g)) (here s true p) in
+        let q : origin_of_name s (by_name ((b, origin e g) ∷ g)) ≡ named_below s [] (origin e (by_name g)) =
+        there s true p ∙ form ∙ ap (λ t. named_below t [] (origin e (by_name g))) (sym (eqb-true s b p)) in
+        (subst (Leads ((b, origin e (by_name g)) ∷ by_name g)) (sym q) w.0, ap (resolve ((b, origin e (by_name g)) ∷ by_name g)) q ∙ w.1 ∙ sym (here s true p))
+    by s false p =
+        let w = below_shows ((b, origin e (by_name g)) ∷ by_name g) s [] (origin_of_name s (by_name g)) (here s false p) in
+        let q : origin_of_name s (by_name ((b, origin e g) ∷ g)) ≡ named_below s [] (origin_of_name s (by_name g)) = there s false p ∙ sym (named_twice s) in
+        (subst (Leads ((b, origin e (by_name g)) ∷ by_name g)) (sym q) w.0, ap (resolve ((b, origin e (by_name g)) ∷ by_name g)) q ∙ w.1 ∙ sym (here s false p))
+
+pub let_by_name : (b : ℕ) (e f : ExprTree) (g : Named Origin)
+    → resolve ((b, origin e (by_name g)) ∷ by_name g) (origin f (by_name ((b, origin e g) ∷ g))) ≡ origin f ((b, origin e (by_name g)) ∷ by_name g)
+let_by_name b e f g = (shows _ _ _ f (let_resolves b e g)).1
 
 mutual
   below_not_made : (s : ℕ) (p : Path) (o : Origin) → IsNotMade (named_below s p o)

@@ -18,7 +18,7 @@ abbrev node : ℕ → At
 node c = record { place = place c; ty = Blank }
 
 abbrev binder : ℕ → ℕ → Binder
-binder s c = record { sym = record { 0 = s }; place = place c; note = None }
+binder s c = record { sym = record { 0 = s }; place = place c; note = None; note_place = place c }
 
 abbrev var : ℕ → ℕ → ExprTree
 var s c = leaf (node c) (name s)

@@ -1,0 +1,4 @@
+pub mod Fit
+pub mod FrameView
+pub mod Takes
+pub mod ThingView

@@ -1,0 +1,8 @@
+//! What lets a program be evaluated one element after another: the things that expressions come to,
+//! the names in scope, the forms on things, and the laws that an evaluator in the code rests on.
+#![tactic(auto)]
+
+pub mod forms;
+pub mod frame;
+pub mod laws;
+pub mod thing;

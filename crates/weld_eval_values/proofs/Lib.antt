@@ -1,0 +1,3 @@
+pub mod ByteLemmas
+pub mod ScalarLemmas
+pub mod VectorLemmas

@@ -1,0 +1,34 @@
+use Rattle.std.proofs.Common.{map, take, drop, ap, sym, ◌∙◌}
+use Rattle.weld_data.specs.View.{view_column}
+use Rattle.weld_eval_values.proofs.VectorLemmas.{map_part}
+use Rattle.weld_eval_values.proofs.vector.elements_from.Goals as goal
+
+pub returns-in_ok-items_from-in-Bool : goal.returns-in_ok-items_from-in-Bool
+returns-in_ok-items_from-in-Bool c =
+    ap (map _) c.in_ok-items_from-in-Bool.ensures
+    ∙ map_part _ c.args.count c.args.start c.in-Bool.items
+    ∙ ap (λ u. take c.args.count (drop c.args.start (view_column u))) (sym c.in-Bool.is)
+
+pub returns-in_ok-items_from-in-I8 : goal.returns-in_ok-items_from-in-I8
+returns-in_ok-items_from-in-I8 c =
+    ap (map _) c.in_ok-items_from-in-I8.ensures
+    ∙ map_part _ c.args.count c.args.start c.in-I8.items
+    ∙ ap (λ u. take c.args.count (drop c.args.start (view_column u))) (sym c.in-I8.is)
+
+pub returns-in_ok-items_from-in-U8 : goal.returns-in_ok-items_from-in-U8
+returns-in_ok-items_from-in-U8 c =
+    ap (map _) c.in_ok-items_from-in-U8.ensures
+    ∙ map_part _ c.args.count c.args.start c.in-U8.items
+    ∙ ap (λ u. take c.args.count (drop c.args.start (view_column u))) (sym c.in-U8.is)
+
+pub returns-in_ok-items_from-in-I32 : goal.returns-in_ok-items_from-in-I32
+returns-in_ok-items_from-in-I32 c =
+    ap (map _) c.in_ok-items_from-in-I32.ensures
+    ∙ map_part _ c.args.count c.args.start c.in-I32.items
+    ∙ ap (λ u. take c.args.count (drop c.args.start (view_column u))) (sym c.in-I32.is)
+
+pub returns-in_ok-items_from-in-I64 : goal.returns-in_ok-items_from-in-I64
+returns-in_ok-items_from-in-I64 c =
+    ap (map _) c.in_ok-items_from-in-I64.ensures
+    ∙ map_part _ c.args.count c.args.start c.in-I64.items
+    ∙ ap (λ u. take c.args.count (drop c.args.start (view_column u))) (sym c.in-I64.is)

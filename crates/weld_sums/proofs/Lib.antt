@@ -1,0 +1,4 @@
+pub mod Legs
+pub mod Elements
+pub mod RowLemmas
+pub mod Meanings
