@@ -1,5 +1,5 @@
 -- From the parts of a job to its bytes.
-use Rattle.std.proofs.Common.{◌≡◌, ℕ, ◌+◌, ◌<◌, ◌≤◌, Bool, true, false, List, [], ◌∷◌, length, Option, Some, None, Result, Ok, Err, IfOk, IfSome, inl, inr, sym, subst, refl, arith, ℤ}
+use Rattle.std.proofs.Common.{◌≡◌, ℕ, ◌+◌, ◌<◌, ◌≤◌, Bool, true, false, List, length, Option, Some, None, Result, Ok, Err, IfOk, IfSome, sym, subst, refl, ℤ}
 use Rattle.std.specs.Bool.{MatchBool}
 use Rattle.std.proofs.lemmas.Bool.{le-ltb, lt-ltb}
 use Rattle.weld_tree.specs.declared.code.Code.{Code}
@@ -8,13 +8,10 @@ use Rattle.std.specs.Io.KnownBytes.{IsAtEnd}
 use Rattle.weld_job.specs.Blocks.{job_of}
 use Rattle.weld_job.specs.Reading.{job_limit, TakesJust}
 use Rattle.weld_job.specs.declared.job.Job.{Job}
-use Rattle.weld_job.specs.declared.block.Block.{Block}
-use Rattle.weld_job.specs.declared.block.BlockForm.{BlockForm}
-use Rattle.weld_job.specs.declared.block.BlockForm.TheVariants as forms
 use Rattle.weld_front.specs.FirstForm.{IsFirstForm}
-use Rattle.weld_front.specs.Numbers.{ReadsAsNumbers, IsWrong}
+use Rattle.weld_front.specs.Numbers.{Fits, IsUnfit}
 use Rattle.weld_front.specs.Total.{total}
-use Rattle.weld_front.specs.Answer.{Answers, AnswersParts, is_too_long, Fits, IsUnfit, IsUnfitBlock, IsOfJob, Extent, refusal_text, unfit_text}
+use Rattle.weld_front.specs.Answer.{Answers, AnswersParts, is_too_long, IsOfJob, Extent, refusal_text, unfit_text}
 use Rattle.weld_front.specs.Data.{Concludes}
 use Rattle.weld_front.specs.declared.answer.Answer.{Answer}
 use Rattle.weld_front.specs.declared.first_form.Body.{Body}
@@ -30,15 +27,6 @@ pub parts_answer : (left : Option (List ℕ)) (job : Job) (status : Status) (tex
 parts_answer None job status text e l a = tt
 parts_answer (Some bytes) job status text e l a =
     within_by (is_too_long bytes) _ (AnswersParts (job_of bytes) status text) (le-ltb job_limit (length bytes) l) (subst (λ (j : Job). AnswersParts j status text) e a)
-
--- a second block behind one that fits
-pub extra_unfit : (form : BlockForm) (content : List ℕ) (more : List Block) (numbers : List ℤ) → form ≡ forms.Value → ReadsAsNumbers content numbers → 0 < length more → IsUnfitBlock form content more 2 codes_of.Extra
-extra_unfit form content [] numbers e r l = absurd (omega arith)
-extra_unfit form content (block ∷ rest) numbers e r l = subst (λ (f : BlockForm). IsUnfitBlock f content (block ∷ rest) 2 codes_of.Extra) (sym e) (inr (numbers, block, rest, r, refl, refl, refl))
-
--- a first block that is wrong
-pub wrong_unfit : (form : BlockForm) (content : List ℕ) (more : List Block) (code : Code) → form ≡ forms.Value → IsWrong content code → IsUnfitBlock form content more 1 code
-wrong_unfit form content more code e w = subst (λ (f : BlockForm). IsUnfitBlock f content more 1 code) (sym e) (inl (w, refl))
 
 -- ---- the answers by the parts
 

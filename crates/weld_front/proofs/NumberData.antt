@@ -1,17 +1,14 @@
 -- Contents of type vec[i64]: their numbers, and what is wrong with them.
-use Rattle.std.proofs.Common.{◌≡◌, ◌⊎◌, inl, inr, ⊎_elim, ℕ, ◌+◌, zero, suc, ℤ, List, [], ◌∷◌, ◌++◌, map, length, take, slice_get, Some, None, IfSome, sym, refl, ap, ap₂, subst, ◌∙◌, add-one, arith}
+use Rattle.std.proofs.Common.{◌≡◌, ℕ, ◌+◌, zero, suc, ℤ, List, [], ◌∷◌, ◌++◌, map, take, slice_get, Some, IfSome, sym, refl, ap, ap₂, subst, ◌∙◌, add-one}
 use Rattle.std.proofs.lemmas.List.{map-append}
 use Rattle.weld_data.specs.declared.kind.Kind.{Kind}
 use Rattle.weld_data.specs.declared.kind.Kind.TheVariants.{I64}
 use Rattle.weld_data.specs.Kind.{InRange}
 use Rattle.weld_data.specs.Value.{Value, number, list, struct, dict, Values, no_values, and_value, values}
 use Rattle.weld_data.specs.Order.{IsNumber as IsAnyNumber}
-use Rattle.weld_tree.specs.declared.code.Code.{Code}
 use Rattle.weld_fits.specs.HasValue.{HasValue, AllAre, IsNumber}
-use Rattle.weld_values.specs.Reading.{ReadsAs, WhyNot}
-use Rattle.weld_values.specs.declared.fault.DataFault.{DataFault}
-use Rattle.weld_values.specs.declared.fault.DataFault.TheVariants.{Syntax, Range, Repeat, Memory}
-use Rattle.weld_front.specs.Numbers.{numbers_type, vector, ReadsAsNumbers, IsCode, IsWrong}
+use Rattle.weld_meaning.specs.Meaning.{ArgumentsFit}
+use Rattle.weld_front.specs.Numbers.{numbers_type, parameter, vector}
 
 -- ---- numbers and values
 
@@ -71,29 +68,18 @@ take-one [] i v p = absurd cc
 take-one (w ∷ vs) zero v p = let e : w ≡ v = cc in ap (λ u. u ∷ []) e
 take-one (w ∷ vs) (suc i) v p = let h = take-one vs i v p in rw add-one (ap (λ us. w ∷ us) (rw add-one at h))
 
--- ---- one reading
+-- ---- one argument
 
-pub same_numbers : (content : List ℕ) (xs ys : List ℤ) → ((v w : Value) → ReadsAs content numbers_type v → ReadsAs content numbers_type w → v ≡ w) → ReadsAsNumbers content xs → ReadsAsNumbers content ys → xs ≡ ys
-same_numbers content xs ys one r s = vector_injective xs ys (one (vector xs) (vector ys) r s)
+one_head : (v w : Value) → (v ∷ []) ≡ (w ∷ []) → v ≡ w
+one_head v w e = cc
 
-memory_has_no_code : (f : DataFault) (code : Code) → f ≡ Memory → IsCode f code → ⊥
-memory_has_no_code f code e c = subst (λ (g : DataFault). IsCode g code) e c
+pub same_numbers : (xs ys : List ℤ) → (vector xs ∷ []) ≡ (vector ys ∷ []) → xs ≡ ys
+same_numbers xs ys e = vector_injective xs ys (one_head (vector xs) (vector ys) e)
 
-pub reads_not_wrong : (content : List ℕ) (xs : List ℤ) (code : Code) → ((v : Value) (f : DataFault) → ReadsAs content numbers_type v → WhyNot content numbers_type f → f ≡ Memory) → ReadsAsNumbers content xs → IsWrong content code → ⊥
-reads_not_wrong content xs code none r (f, w, c) = memory_has_no_code f code (none (vector xs) f r w) c
-
-one_code : (f : DataFault) (c d : Code) → IsCode f c → IsCode f d → c ≡ d
-one_code Syntax c d p q = p ∙ sym q
-one_code Range c d p q = p ∙ sym q
-one_code Repeat c d p q = p ∙ sym q
-one_code Memory c d p q = absurd p
-
-pub same_code : (content : List ℕ) (c d : Code) → ((f g : DataFault) → WhyNot content numbers_type f → WhyNot content numbers_type g → (f ≡ Memory) ⊎ ((g ≡ Memory) ⊎ (f ≡ g))) → IsWrong content c → IsWrong content d → c ≡ d
-same_code content c d one (f, v, p) (g, w, q) =
-    ⊎_elim
-    (λ e. absurd (memory_has_no_code f c e p))
-    (⊎_elim (λ e. absurd (memory_has_no_code g d e q)) (λ e. one_code g c d (subst (λ (h : DataFault). IsCode h c) e p) q))
-    (one f g v w)
+pub numbers_of_arguments : (vs : List Value) → ArgumentsFit (parameter ∷ []) vs → (zs : List ℤ) × (vs ≡ vector zs ∷ [])
+numbers_of_arguments [] h = absurd h
+numbers_of_arguments (v ∷ []) h = let n = vector_of v h.0 in (n.0, ap (λ (w : Value). w ∷ []) n.1)
+numbers_of_arguments (v ∷ w ∷ vs) h = absurd h.1
 
 -- one more number of a column
 pub one_more : (vs : List Value) (i : ℕ) (ns new : List ℤ) (k : Kind) (x y : ℤ) → AllAre (IsNumber I64) (values vs) → slice_get vs i ≡ Some (number k x) → y ≡ x → map (number I64) ns ≡ take i vs → new ≡ ns ++ y ∷ [] → map (number I64) new ≡ take (i + 1) vs

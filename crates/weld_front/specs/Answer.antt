@@ -1,5 +1,5 @@
 -- What `weld run` answers to a job: a status and a text. From the Weld papers' meaning; the texts and the order of refusals by this project's profile.
-use Rattle.std.specs.Prelude.{◌≡◌, ℕ, ◌+◌, ◌⊎◌, Bool, true, false, nat_lt, List, [], ◌∷◌, ◌++◌, Option, Some, None, ℤ, length, take, codes, IfSome}
+use Rattle.std.specs.Prelude.{◌≡◌, ℕ, ◌+◌, ◌⊎◌, Bool, false, nat_lt, List, [], ◌∷◌, ◌++◌, Option, Some, None, ℤ, length, take, codes, IfSome}
 use Rattle.std.specs.Bool.{MatchBool}
 use Rattle.std.specs.Fmt.{decimal}
 use Rattle.std.specs.Io.KnownBytes.{Appends, IsAtEnd}
@@ -10,44 +10,15 @@ use Rattle.weld_tree.specs.declared.code.Code.TheVariants as codes_of
 use Rattle.weld_job.specs.Blocks.{job_of}
 use Rattle.weld_job.specs.Reading.{job_limit, TakesJust}
 use Rattle.weld_job.specs.declared.job.Job.{Job}
-use Rattle.weld_job.specs.declared.block.Block.{Block}
-use Rattle.weld_job.specs.declared.block.BlockForm.{BlockForm}
-use Rattle.weld_job.specs.declared.block.BlockForm.TheVariants as forms
 use Rattle.weld_front.specs.FirstForm.{IsFirstForm}
-use Rattle.weld_front.specs.Numbers.{ReadsAsNumbers, IsWrong, number_type, number_value}
+use Rattle.weld_front.specs.Numbers.{Fits, IsUnfit, number_type, number_value}
 use Rattle.weld_front.specs.Total.{total}
+use Rattle.weld_words.specs.Words.{IsForm}
+use Rattle.weld_words.specs.declared.options.Options.{Options}
+use Rattle.weld_words.specs.declared.options.Command.TheVariants.{Run}
 use Rattle.weld_front.specs.declared.status.Status.{Status}
 use Rattle.weld_front.specs.declared.status.Status.TheVariants.{Done, Fault, Refused, Unfit, Read, Write, Memory}
 use Rattle.weld_front.specs.declared.first_form.Body.{Body}
-
--- ---- the data of a program with one parameter of type vec[i64]
-
--- the data are one value block, which reads as these numbers
-abbrev pub FitsBlocks : Bool → List Block → List ℤ → Type 0
-FitsBlocks false (block ∷ []) numbers = (block.form ≡ forms.Value) × ReadsAsNumbers block.content numbers
-FitsBlocks stray blocks numbers = ⊥
-
-abbrev pub Fits : Job → List ℤ → Type 0
-Fits job numbers = FitsBlocks job.stray job.blocks numbers
-
--- the first block doesn't fit, or it fits and another one follows
-abbrev pub IsUnfitBlock : BlockForm → List ℕ → List Block → ℕ → Code → Type 0
-IsUnfitBlock forms.Value content more number code =
-    (IsWrong content code × (number ≡ 1))
-    ⊎ (
-    (numbers : List ℤ) × (block : Block) × (rest : List Block)
-    × ReadsAsNumbers content numbers × (more ≡ block ∷ rest) × (number ≡ 2) × (code ≡ codes_of.Extra)
-    )
-IsUnfitBlock form content more number code = (number ≡ 1) × (code ≡ codes_of.Form)
-
--- What is wrong with the data first, by the parameter's number: stray bytes before the blocks, then no block, then what the first block says.
-abbrev pub IsUnfitBlocks : Bool → List Block → ℕ → Code → Type 0
-IsUnfitBlocks true blocks number code = (number ≡ 0) × (code ≡ codes_of.Form)
-IsUnfitBlocks false [] number code = (number ≡ 1) × (code ≡ codes_of.Missing)
-IsUnfitBlocks false (block ∷ more) number code = IsUnfitBlock block.form block.content more number code
-
-abbrev pub IsUnfit : Job → ℕ → Code → Type 0
-IsUnfit job number code = IsUnfitBlocks job.stray job.blocks number code
 
 -- ---- texts
 
@@ -103,9 +74,13 @@ Answers bytes status text =
 
 -- ---- what a call does
 
--- the words are in form: they are the one word `run`
-abbrev pub IsRun : List (List ℕ) → Type 0
-IsRun words = words ≡ codes "run" ∷ []
+-- The words are in form and ask for what is built: the command `run`, without a report. The commands `check`, `show`, `session` and
+-- `soak`, and `--report`, are answered by the usage line until their stages.
+pub record IsRun (words : List (List ℕ)) : Type 0 where
+  pub options : Options
+  pub form : IsForm words options
+  pub runs : options.command ≡ Run
+  pub unreported : options.report ≡ false
 
 -- where the source tells its bytes, they have an answer of this status, of which the sink took the whole text, where it tells what it holds
 abbrev pub Delivers : Option (List ℕ) → Option (List ℕ) → Option (List ℕ) → Status → Type 0

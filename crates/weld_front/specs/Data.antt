@@ -1,16 +1,12 @@
 -- What is found of a job's data, and what is answered to it.
-use Rattle.std.specs.Prelude.{◌≡◌, false, Option, Some, None, ℤ, List}
+use Rattle.std.specs.Prelude.{◌≡◌, Option, Some, None, ℤ}
 use Rattle.weld_job.specs.declared.job.Job.{Job}
-use Rattle.weld_job.specs.declared.block.Block.{Block}
 use Rattle.weld_front.specs.declared.answer.Data.{Data}
 use Rattle.weld_front.specs.declared.answer.Data.TheVariants.{Numbers, Unfit}
 use Rattle.weld_front.specs.declared.answer.Answer.{Answer}
 use Rattle.weld_front.specs.declared.status.Status.TheVariants.{Done, Fault}
-use Rattle.weld_front.specs.Answer.{Fits, IsUnfit, FitsBlocks, IsUnfitBlocks, value_text, fault_text}
-
-abbrev pub BlocksSay : List Block → Data → Type 0
-BlocksSay blocks (Numbers numbers) = FitsBlocks false blocks numbers
-BlocksSay blocks (Unfit number code) = IsUnfitBlocks false blocks number code
+use Rattle.weld_front.specs.Numbers.{Fits, IsUnfit}
+use Rattle.weld_front.specs.Answer.{value_text, fault_text}
 
 abbrev pub DataSays : Job → Data → Type 0
 DataSays job (Numbers numbers) = Fits job numbers

@@ -1,13 +1,12 @@
 -- The data of a program with one parameter of type vec[i64], by this project's profile of Weld.
-use Rattle.std.specs.Prelude.{◌≡◌, ℕ, ℤ, List, map}
+use Rattle.std.specs.Prelude.{ℕ, ℤ, List, [], ◌∷◌, map, Some}
 use Rattle.weld_data.specs.declared.kind.Kind.TheVariants.{I64}
 use Rattle.weld_data.specs.Value.{Value, number, list, values}
 use Rattle.weld_tree.specs.TypeTree.{TypeTree, scalar, vec}
 use Rattle.weld_tree.specs.declared.code.Code.{Code}
-use Rattle.weld_tree.specs.declared.code.Code.TheVariants as codes_of
-use Rattle.weld_values.specs.Reading.{ReadsAs, WhyNot}
-use Rattle.weld_values.specs.declared.fault.DataFault.{DataFault}
-use Rattle.weld_values.specs.declared.fault.DataFault.TheVariants.{Syntax, Range, Repeat, Memory}
+use Rattle.weld_tree.specs.declared.binder.Binder.{Binder}
+use Rattle.weld_job.specs.declared.job.Job.{Job}
+use Rattle.weld_arguments.specs.Arguments.{Arguments, IsUnfit as UnfitArguments}
 
 -- the parameter's type
 abbrev pub numbers_type : TypeTree
@@ -24,17 +23,14 @@ number_type = scalar I64
 abbrev pub number_value : ℤ → Value
 number_value value = number I64 value
 
--- the content reads as these numbers
-abbrev pub ReadsAsNumbers : List ℕ → List ℤ → Type 0
-ReadsAsNumbers content numbers = ReadsAs content numbers_type (vector numbers)
+-- the one parameter, of which only the type counts
+abbrev pub parameter : Binder
+parameter = record { sym = record { 0 = 0 }; place = record { line = 1; column = 2 }; note = Some numbers_type; note_place = record { line = 1; column = 5 } }
 
--- the code of what is wrong with a content; want of memory has none
-abbrev pub IsCode : DataFault → Code → Type 0
-IsCode Syntax code = code ≡ codes_of.Syntax
-IsCode Range code = code ≡ codes_of.Range
-IsCode Repeat code = code ≡ codes_of.Repeat
-IsCode Memory code = ⊥
+-- the data of the job are these numbers
+abbrev pub Fits : Job → List ℤ → Type 0
+Fits job numbers = Arguments (parameter ∷ []) job (vector numbers ∷ [])
 
--- the content doesn't read, for the reason of this code
-abbrev pub IsWrong : List ℕ → Code → Type 0
-IsWrong content code = (fault : DataFault) × WhyNot content numbers_type fault × IsCode fault code
+-- the data don't fit, by the number of the parameter and the code
+abbrev pub IsUnfit : Job → ℕ → Code → Type 0
+IsUnfit job n code = UnfitArguments (parameter ∷ []) job n code

@@ -2,20 +2,21 @@ ghost use Rattle.std.specs.Prelude.{◌≡◌, ◌≤◌, ◌∷◌, Err, IfOk, 
 ghost use Rattle.weld_ports.specs.Faults.{Rises};
 ghost use Rattle.weld_job.specs.Reading.{Takes};
 ghost use Rattle.weld_front.specs.Answer.{Answers, AnswersParts, IsOfJob, Extent, refusal_text, unfit_text, value_text, fault_text};
-ghost use Rattle.weld_front.specs.Data.{DataSays, BlocksSay, Concludes};
+ghost use Rattle.weld_front.specs.Data.{DataSays, Concludes};
 ghost use Rattle.weld_front.specs.Total.{total};
 ghost use Rattle.std.specs.String.{string_bytes};
 
 use crate::first_form::{Body, read_first_form};
-use crate::numbers::read_numbers;
+use crate::numbers::{numbers_from, one_parameter};
 use crate::status::Status;
 use crate::sum::sum_rows;
 use std::alloc::{AllocError, Global};
+use weld_arguments::{DataStop, read_arguments};
 use weld_data::{I64s, Kind, Num, Text, Val};
-use weld_job::{Block, BlockForm, Job, JobFault, read_job};
+use weld_job::{Job, JobFault, read_job};
 use weld_ports::Source;
 use weld_tree::{Code, Ty};
-use weld_values::{DataFault, write_value};
+use weld_values::write_value;
 
 /// What is written, and the status that the program ends with.
 #[derive(Debug, Drop)]
@@ -36,7 +37,7 @@ pub enum NoAnswer {
 #[derive(Debug, Drop)]
 enum Data {
     Numbers(I64s),
-    Unfit(u32, Code),
+    Unfit(u64, Code),
 }
 
 /// The answer with this text.
@@ -60,7 +61,7 @@ fn refusal(alloc: Global, code: Code) -> Result<Answer, AllocError>
 }
 
 /// What is said of data that don't fit.
-fn unfit(alloc: Global, number: u32, code: Code) -> Result<Answer, AllocError>
+fn unfit(alloc: Global, number: u64, code: Code) -> Result<Answer, AllocError>
     ensures status { IfOk result (λ answer. answer.status ≡ Status.Unfit) }
     ensures text { IfOk result (λ answer. answer.text ≡ unfit_text number code) }
 {
@@ -96,45 +97,15 @@ fn fault(alloc: Global) -> Result<Answer, AllocError>
     })
 }
 
-/// Reads a value block, which others may follow.
-fn read_value_block(alloc: Global, block: &Block, more: &[Block]) -> Result<Data, AllocError>
-    requires { block.now.form ≡ BlockForm.Value }
-    ensures { IfOk result (λ found. BlocksSay (block.now ∷ more.now) found) }
-{
-    let numbers = match read_numbers(alloc, block.content.as_slice()) {
-        Ok(numbers) => numbers,
-        Err(DataFault::Syntax) => return Ok(Data::Unfit(1, Code::Syntax)),
-        Err(DataFault::Range) => return Ok(Data::Unfit(1, Code::Range)),
-        Err(DataFault::Repeat) => return Ok(Data::Unfit(1, Code::Repeat)),
-        Err(DataFault::Memory) => return Err(AllocError),
-    };
-    if more.is_empty() {
-        return Ok(Data::Numbers(numbers));
-    }
-    Ok(Data::Unfit(2, Code::Extra))
-}
-
-/// Reads the data where no stray bytes stand, from the first block and those after it.
-fn read_block(alloc: Global, block: &Block, more: &[Block]) -> Result<Data, AllocError>
-    ensures { IfOk result (λ found. BlocksSay (block.now ∷ more.now) found) }
-{
-    match block.form {
-        BlockForm::Value => read_value_block(alloc, block, more),
-        BlockForm::Table => Ok(Data::Unfit(1, Code::Form)),
-        BlockForm::Other => Ok(Data::Unfit(1, Code::Form)),
-    }
-}
-
 /// Reads the data of a program with one parameter of type vec[i64].
 fn read_data(alloc: Global, job: &Job) -> Result<Data, AllocError>
     ensures { IfOk result (λ found. DataSays job.now found) }
 {
-    if job.stray {
-        return Ok(Data::Unfit(0, Code::Form));
-    }
-    match job.blocks.as_slice() {
-        [] => Ok(Data::Unfit(1, Code::Missing)),
-        [block, more @ ..] => read_block(alloc, block, more),
+    let params = one_parameter(alloc)?;
+    match read_arguments(alloc, &params, job) {
+        Ok(arguments) => Ok(Data::Numbers(numbers_from(alloc, arguments)?)),
+        Err(DataStop::Unfit(number, code)) => Ok(Data::Unfit(number, code)),
+        Err(DataStop::Memory) => Err(AllocError),
     }
 }
 

@@ -33,10 +33,10 @@ pub fn weld_main<S: Source, K: Sink, G: Gate>(
     ensures complete { IsRun (map string_bytes words.now) → (Rises (S.faults input.old) (S.faults input.new) → ⊥)
         → (Rises (K.faults output.old) (K.faults output.new) → ⊥) → Completes (S.left input.old) result }
 
-    // Words that aren't in form: nothing is read, and the usage line is written.
+    // Words that aren't in form, or ask for what isn't built yet: nothing is read, and the usage line is written.
     ensures words { result ≡ Status.Words → Appends (K.held output.old) (K.held output.new) usage_text }
     ensures words_only { result ≡ Status.Words → IsRun (map string_bytes words.now) → ⊥ }
-    ensures words_always { (IsRun (map string_bytes words.now) → ⊥) → (result ≡ Status.Words) ⊎ (result ≡ Status.Write) }
+    ensures words_always { (IsRun (map string_bytes words.now) → ⊥) → (result ≡ Status.Words) ⊎ ((result ≡ Status.Write) ⊎ (result ≡ Status.Memory)) }
     ensures unread { (IsRun (map string_bytes words.now) → ⊥) → (S.left input.new ≡ S.left input.old) × (S.faults input.new ≡ S.faults input.old) }
 
     // Failures have their cause in a count, and leave a front of the answer or nothing.
@@ -54,8 +54,10 @@ pub fn weld_main<S: Source, K: Sink, G: Gate>(
     ensures source_never_falls { S.faults input.old ≤ S.faults input.new }
     ensures sink_never_falls { K.faults output.old ≤ K.faults output.new }
 {
-    if !is_run(words) {
-        return conclude(output, Status::Words, USAGE);
+    match is_run(alloc, words) {
+        Ok(true) => {}
+        Ok(false) => return conclude(output, Status::Words, USAGE),
+        Err(_) => return Status::Memory,
     }
     match read_answer(alloc, input) {
         Ok(answer) => conclude(output, answer.status, answer.text.as_slice()),

@@ -9,21 +9,19 @@ ghost use Rattle.weld_front.specs.Total.{total, row_values, whole_sum};
 ghost use Rattle.weld_front.specs.declared.first_form.Body.{Body};
 ghost use Rattle.weld_front.specs.declared.status.Status.{Status};
 
-use weld_values::laws::{each_text_reads_or_not, one_reading, read_values_have_the_type};
-
 /// A job has one status and one text at most, so that each answer comes exactly where its rule says.
 pub fn one_answer()
     ensures { (job : List ℕ) (s t : Status) (x y : List ℕ) → Answers job s x → Answers job t y → (s ≡ t) × (x ≡ y) }
 {
-    one_reading();
+    weld_arguments::laws::one_answer();
 }
 
 /// Each list of bytes has an answer, so that no job is left out of the rules.
 pub fn each_job_has_an_answer()
     ensures { (job : List ℕ) → (status : Status) × (text : List ℕ) × Answers job status text }
 {
-    each_text_reads_or_not();
-    read_values_have_the_type();
+    weld_arguments::laws::each_job_fits_or_not();
+    weld_arguments::laws::arguments_have_their_types();
 }
 
 /// Where every row has a value, the program's value is the wrapped sum of whole numbers.

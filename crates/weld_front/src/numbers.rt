@@ -1,15 +1,14 @@
-ghost use Rattle.std.specs.Prelude.{◌≡◌, map, IfOk, IfErr};
+ghost use Rattle.std.specs.Prelude.{◌≡◌, ◌∷◌, [], map, IfOk};
 ghost use Rattle.weld_data.specs.declared.kind.Kind.TheVariants as kinds;
 ghost use Rattle.weld_data.specs.Value.{number, values};
 ghost use Rattle.weld_data.specs.View.{view_val, view_column};
 ghost use Rattle.weld_fits.specs.HasValue.{HasValue, AllAre, IsNumber};
-ghost use Rattle.weld_values.specs.Reading.{WhyNot};
-ghost use Rattle.weld_front.specs.Numbers.{numbers_type, vector, ReadsAsNumbers};
+ghost use Rattle.weld_meaning.specs.Meaning.{ArgumentsFit};
+ghost use Rattle.weld_front.specs.Numbers.{numbers_type, parameter, vector};
 
 use std::alloc::{AllocError, Global};
-use weld_data::{Column, I64s, Kind, Val};
-use weld_tree::Ty;
-use weld_values::{DataFault, read_value};
+use weld_data::{Column, I64s, Kind, Val, Vals};
+use weld_tree::{Binder, Binders, Place, Sym, Ty};
 
 /// The numbers of a column of kind i64, copied one by one.
 fn copy_numbers(alloc: Global, column: &Column) -> Result<I64s, AllocError>
@@ -35,20 +34,30 @@ fn numbers_of(alloc: Global, value: Val) -> Result<I64s, AllocError>
     }
 }
 
-/// Reads the content of a data block as a vector of numbers of kind i64. It answers them exactly where the
-/// content reads so, and else why it doesn't; `Memory` says that memory was wanting, and nothing of the content.
-pub fn read_numbers(alloc: Global, content: &[u8]) -> Result<I64s, DataFault>
-    ensures numbers { IfOk result (λ numbers. ReadsAsNumbers content.now numbers) }
-    ensures fault { IfErr result (WhyNot content.now numbers_type) }
+/// The numbers of the one argument.
+pub fn numbers_from(alloc: Global, arguments: Vals) -> Result<I64s, AllocError>
+    requires { ArgumentsFit (parameter ∷ []) arguments }
+    ensures { IfOk result (λ numbers. (vector numbers ∷ []) ≡ arguments) }
 {
-    let Ok(ty) = Ty::vec_of(alloc, Ty::scalar(Kind::I64)) else {
-        return Err(DataFault::Memory);
-    };
-    match read_value(alloc, content, &ty) {
-        Ok(value) => match numbers_of(alloc, value) {
-            Ok(numbers) => Ok(numbers),
-            Err(_) => Err(DataFault::Memory),
-        },
-        Err(fault) => Err(fault),
+    let mut values = arguments.into_vec();
+    match values.pop() {
+        Some(value) => numbers_of(alloc, value),
+        None => unreachable!(),
     }
+}
+
+/// The one parameter of a program of the first form.
+pub fn one_parameter(alloc: Global) -> Result<Binders, AllocError>
+    ensures { IfOk result (λ params. params ≡ parameter ∷ []) }
+{
+    let ty = Ty::vec_of(alloc, Ty::scalar(Kind::I64))?;
+    let binder = Binder {
+        sym: Sym(0),
+        place: Place { line: 1, column: 2 },
+        note: Some(ty),
+        note_place: Place { line: 1, column: 5 },
+    };
+    let mut params = Binders::new(alloc);
+    params.push(binder)?;
+    Ok(params)
 }

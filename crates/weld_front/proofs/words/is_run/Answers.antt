@@ -1,22 +1,21 @@
-use Rattle.std.proofs.Common.{◌≡◌, ℕ, ◌<◌, ◌≤◌, List, [], ◌∷◌, length, get_or, map, sym, ap, ◌∙◌, arith, string_bytes, Global, codes}
-use Rattle.std.proofs.lemmas.Slice.Eq.{slice_eq-Decides}
-use Rattle.std.proofs.lemmas.Bool.Decides.{Decides-eqb}
+use Rattle.std.proofs.Common.{◌≡◌, false, ap, subst, Err}
+use Rattle.weld_words.specs.declared.options.Options.{Options}
+use Rattle.weld_words.specs.declared.options.Command.TheVariants.{Run}
 use Rattle.weld_front.proofs.words.is_run.Goals as goal
 
--- a list of one
-single : {A : Type 0} (xs : List A) (x : A) → 1 ≤ length xs → length xs < 2 → x ≡ get_or xs 0 x → xs ≡ x ∷ []
-single [] x l u h = absurd (omega arith)
-single (y ∷ []) x l u h = ap (λ z. z ∷ []) (sym h)
-single (y ∷ z ∷ zs) x l u h = absurd (omega arith)
+pub returns-in-Ok : goal.returns-in-Ok
+returns-in-Ok c = (
+  λ yes_runs. let runs = c.runs.ensures.0 yes_runs in record { options = c.in-Ok.options; form = c.in-Ok.ensures.ok; runs = runs.0; unreported = runs.1 },
+  λ asked.
+      let same : asked.options ≡ c.in-Ok.options = c.one_reading.ensures _ asked.options c.in-Ok.options asked.form c.in-Ok.ensures.ok in
+      c.runs.ensures.1 (
+        subst (λ (o : Options). o.command ≡ Run) same asked.runs,
+        subst (λ (o : Options). o.report ≡ false) same asked.unreported,
+      ),
+)
 
-head_is : (x y : List ℕ) → (x ∷ []) ≡ (y ∷ []) → x ≡ y
-head_is x y h = cc
-
-pub returns-in-len1 : goal.returns-in-len1
-returns-in-len1 c =
-    let one = single c.args.words.now c.word-item.result c.in-len1.len_at_least c.in-len1.len_below c.word-item.is in
-    let bytes : map (string_bytes {Z = Global}) c.args.words.now ≡ string_bytes c.word-item.result ∷ [] = ap (map (string_bytes {Z = Global})) one in
-    let d = slice_eq-Decides Decides-eqb c.as_str.result.now (codes "run") c.eq.result c.eq.ensures in (
-      λ h. bytes ∙ ap (λ (t : List ℕ). t ∷ []) (sym c.as_str.ensures.value ∙ d.0 h),
-      λ h. d.1 (c.as_str.ensures.value ∙ head_is (string_bytes c.word-item.result) (codes "run") (sym bytes ∙ h)),
-    )
+pub returns-in-Err-Form : goal.returns-in-Err-Form
+returns-in-Err-Form c = (
+  λ never. absurd cc,
+  λ asked. absurd (c.in-Err-Form.ensures.form (ap Err c.in-Err-Form.field-0-is) asked.options asked.form),
+)
