@@ -1,3 +1,4 @@
 pub mod Order
 pub mod Answering
 pub mod OneAnswer
+pub mod NoNames

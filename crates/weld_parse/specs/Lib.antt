@@ -1,2 +1,3 @@
 pub mod Findings
 pub mod Parses
+pub mod Judged

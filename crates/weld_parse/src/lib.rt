@@ -1,5 +1,10 @@
-//! Which program a text is, or which rule refuses it first: a definition, and its laws. The call that reads
-//! a program comes with the reader of expressions.
+//! Programs from texts: the program that a text spells, or the first rule that refuses it.
 #![tactic(auto)]
 
+mod findings;
 pub mod laws;
+pub mod program;
+pub mod reading;
+
+pub use program::{Read, read_program};
+pub use reading::parse;
