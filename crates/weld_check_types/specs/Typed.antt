@@ -6,6 +6,7 @@ use Rattle.weld_tree.specs.Program.{ProgramTree, coded_program}
 use Rattle.weld_tree.specs.TypeCode.{coded_type}
 use Rattle.weld_tree.specs.TypeTree.{TypeTree}
 use Rattle.weld_types.specs.Sizes.{ProgramKeepsSize}
+use Rattle.weld_check_types.specs.Notes.{ProgramIsNoted}
 
 -- a program and its type
 pub record TypedTree : Type 0 where
@@ -15,7 +16,9 @@ pub record TypedTree : Type 0 where
 abbrev pub coded_typed : Coded TypedTree
 coded_typed = code_by (ProgramTree × TypeTree) (coded× coded_program coded_type) (λ t. (t.program, t.ty)) (λ c. record { program = c.0; ty = c.1 }) (λ _. refl)
 
--- the program has the type by the rules (the Weld papers), and its types keep the limits (this project's profile)
+-- the program has the type by the rules (the Weld papers), its types keep the limits, and each node of its body has its
+-- type noted (this project's profile)
 pub record IsTyped (p : ProgramTree) (t : TypeTree) : Type 0 where
   pub has : ProgramHas p t
   pub keeps : ProgramKeepsSize p
+  pub noted : ProgramIsNoted p

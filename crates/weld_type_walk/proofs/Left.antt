@@ -1,11 +1,9 @@
 -- What is left of lists of expressions, legs and parameters from a place on.
-use Rattle.std.proofs.Common.{◌≡◌, ℕ, ◌+◌, ◌<◌, ◌≤◌, List, [], ◌∷◌, ◌++◌, length, drop, get_or, map, sym, ap, ◌∙◌, refl, subst, Result, Ok, Err}
+use Rattle.std.proofs.Common.{◌≡◌, ℕ, ◌+◌, ◌<◌, ◌≤◌, List, [], ◌∷◌, ◌++◌, length, drop, get_or, sym, ap, ◌∙◌, refl, subst, Result, Ok, Err}
 use Rattle.std.proofs.lemmas.List.{at_drop_more, drop_all}
 use Rattle.weld_meaning.specs.Typing.{Types}
 use Rattle.weld_tree.specs.TypeTree.{TypeTree, TypeTrees, pack, no_types, more_types}
-use Rattle.weld_tree.specs.ExprTree.{ExprTree, LegTrees, more_legs, whole, strided, pack_exprs, pack_legs}
-use Rattle.weld_tree.specs.ExprView.{view_leg}
-use Rattle.weld_tree.specs.declared.expr.Leg.{Leg}
+use Rattle.weld_tree.specs.ExprTree.{ExprTree, LegTree, LegTrees, more_legs, whole, strided, pack_exprs, pack_legs}
 use Rattle.weld_tree.specs.declared.refusal.Refusal.{Refusal}
 use Rattle.weld_tree.specs.declared.refusal.Refusal.TheVariants.{At, Size, Memory}
 use Rattle.weld_types.specs.Gathered.{before}
@@ -42,10 +40,10 @@ found_more : (ts : List TypeTree) (t : TypeTree) (w : Found TypeTrees) → go_on
 found_more ts t (found us) = ap found (sym (before_more ts t us))
 found_more ts t (refused c p) = refl
 
-pub type_left : {A : Type 0} (es : List ExprTree) (ts us : List TypeTree) (g : Types) (i : ℕ) (e : ExprTree) (x : A) → i < length es → e ≡ get_or es i e → Pushes (Ok x) (type_of e g) ts us
+pub type_left : {A : Type 0} (es : List ExprTree) (ts us : List TypeTree) (g : Types) (i : ℕ) (e d : ExprTree) (x : A) → i < length es → e ≡ get_or es i d → Pushes (Ok x) (type_of e g) ts us
     → gathered_types ts (pack_exprs (drop i es)) g ≡ gathered_types us (pack_exprs (drop (i + 1) es)) g
-type_left es ts us g i e x h p q =
-    at_drop_more (λ rest. gathered_types ts (pack_exprs rest) g) es i e h
+type_left es ts us g i e d x h p q =
+    at_drop_more (λ rest. gathered_types ts (pack_exprs rest) g) es i d h
     ∙ ap (λ u. go_on (go_on (type_of u g) (λ t. go_on (types_of (pack_exprs (drop (i + 1) es)) g) (λ vs. found (more_types t vs)))) (λ vs. found (before ts vs))) (sym p)
     ∙ ap (λ w. go_on (go_on w (λ t. go_on (types_of (pack_exprs (drop (i + 1) es)) g) (λ vs. found (more_types t vs)))) (λ vs. found (before ts vs))) q.1
     ∙ found_more ts q.0 (types_of (pack_exprs (drop (i + 1) es)) g)
@@ -54,37 +52,37 @@ type_left es ts us g i e x h p q =
 pub no_type_left : (es : List ExprTree) (ts : List TypeTree) (g : Types) (i : ℕ) → length es ≤ i → gathered_types ts (pack_exprs (drop i es)) g ≡ found (pack ts)
 no_type_left es ts g i h = ap (λ rest. gathered_types ts (pack_exprs rest) g) (drop_all i es h) ∙ ap found (before_none ts)
 
-pub type_refused : (es : List ExprTree) (ts : List TypeTree) (g : Types) (i : ℕ) (e : ExprTree) (r : Refusal) → i < length es → e ≡ get_or es i e → RefusalSays r (type_of e g)
+pub type_refused : (es : List ExprTree) (ts : List TypeTree) (g : Types) (i : ℕ) (e d : ExprTree) (r : Refusal) → i < length es → e ≡ get_or es i d → RefusalSays r (type_of e g)
     → RefusalSays r (gathered_types ts (pack_exprs (drop i es)) g)
-type_refused es ts g i e r h p q =
+type_refused es ts g i e d r h p q =
     subst (λ (w : Found TypeTrees). RefusalSays r w)
-    (sym (at_drop_more (λ rest. gathered_types ts (pack_exprs rest) g) es i e h
+    (sym (at_drop_more (λ rest. gathered_types ts (pack_exprs rest) g) es i d h
     ∙ ap (λ u. go_on (go_on (type_of u g) (λ t. go_on (types_of (pack_exprs (drop (i + 1) es)) g) (λ vs. found (more_types t vs)))) (λ vs. found (before ts vs))) (sym p)))
     (says_on r (go_on (type_of e g) (λ t. go_on (types_of (pack_exprs (drop (i + 1) es)) g) (λ vs. found (more_types t vs)))) (λ vs. found (before ts vs))
     (says_on r (type_of e g) (λ t. go_on (types_of (pack_exprs (drop (i + 1) es)) g) (λ vs. found (more_types t vs))) q))
 
 -- ---- legs
 
-pub leg_left : {A : Type 0} (ls : List Leg) (was now : CodeStrips) (g : Types) (i : ℕ) (l : Leg) (x : A) → i < length ls → l ≡ get_or ls i l → GathersLeg (Ok x) (view_leg l) g was now
-    → gathered_strips was (pack_legs (map view_leg (drop i ls))) g ≡ gathered_strips now (pack_legs (map view_leg (drop (i + 1) ls))) g
-leg_left ls was now g i l x h p q =
-    at_drop_more (λ rest. gathered_strips was (pack_legs (map view_leg rest)) g) ls i l h
-    ∙ ap (λ m. gathered_strips was (more_legs (view_leg m) (pack_legs (map view_leg (drop (i + 1) ls)))) g) (sym p)
-    ∙ q (pack_legs (map view_leg (drop (i + 1) ls)))
+pub leg_left : {A : Type 0} (ls : List LegTree) (was now : CodeStrips) (g : Types) (i : ℕ) (l d : LegTree) (x : A) → i < length ls → l ≡ get_or ls i d → GathersLeg (Ok x) l g was now
+    → gathered_strips was (pack_legs (drop i ls)) g ≡ gathered_strips now (pack_legs (drop (i + 1) ls)) g
+leg_left ls was now g i l d x h p q =
+    at_drop_more (λ rest. gathered_strips was (pack_legs rest) g) ls i d h
+    ∙ ap (λ m. gathered_strips was (more_legs m (pack_legs (drop (i + 1) ls))) g) (sym p)
+    ∙ q (pack_legs (drop (i + 1) ls))
 
-pub no_leg_left : (ls : List Leg) (s : CodeStrips) (g : Types) (i : ℕ) → length ls ≤ i → gathered_strips s (pack_legs (map view_leg (drop i ls))) g ≡ found (view_strips s)
+pub no_leg_left : (ls : List LegTree) (s : CodeStrips) (g : Types) (i : ℕ) → length ls ≤ i → gathered_strips s (pack_legs (drop i ls)) g ≡ found (view_strips s)
 no_leg_left ls s g i h =
-    ap (λ rest. gathered_strips s (pack_legs (map view_leg rest)) g) (drop_all i ls h)
+    ap (λ rest. gathered_strips s (pack_legs rest) g) (drop_all i ls h)
     ∙ ap (λ vs. found (strips (vs) (before s.bounds no_types))) (before_none s.vectors)
     ∙ ap (λ bs. found (strips (pack s.vectors) (bs))) (before_none s.bounds)
 
-pub leg_refused : (ls : List Leg) (was : CodeStrips) (g : Types) (i : ℕ) (l : Leg) (r : Refusal) → i < length ls → l ≡ get_or ls i l → ((rest : LegTrees) → RefusalSays r (strips_of (more_legs (view_leg l) rest) g))
-    → RefusalSays r (gathered_strips was (pack_legs (map view_leg (drop i ls))) g)
-leg_refused ls was g i l r h p q =
+pub leg_refused : (ls : List LegTree) (was : CodeStrips) (g : Types) (i : ℕ) (l d : LegTree) (r : Refusal) → i < length ls → l ≡ get_or ls i d → ((rest : LegTrees) → RefusalSays r (strips_of (more_legs l rest) g))
+    → RefusalSays r (gathered_strips was (pack_legs (drop i ls)) g)
+leg_refused ls was g i l d r h p q =
     subst (λ (w : Found Strips). RefusalSays r w)
-    (sym (at_drop_more (λ rest. gathered_strips was (pack_legs (map view_leg rest)) g) ls i l h
-    ∙ ap (λ m. gathered_strips was (more_legs (view_leg m) (pack_legs (map view_leg (drop (i + 1) ls)))) g) (sym p)))
-    (says_on r (strips_of (more_legs (view_leg l) (pack_legs (map view_leg (drop (i + 1) ls)))) g) (λ (s : Strips). found (strips_before was s)) (q (pack_legs (map view_leg (drop (i + 1) ls)))))
+    (sym (at_drop_more (λ rest. gathered_strips was (pack_legs rest) g) ls i d h
+    ∙ ap (λ m. gathered_strips was (more_legs m (pack_legs (drop (i + 1) ls))) g) (sym p)))
+    (says_on r (strips_of (more_legs l (pack_legs (drop (i + 1) ls))) g) (λ (s : Strips). found (strips_before was s)) (q (pack_legs (drop (i + 1) ls))))
 
 -- one vector more
 vector_more : (was now : CodeStrips) (t : TypeTree) (s : Strips) → now.vectors ≡ was.vectors ++ t ∷ [] → now.bounds ≡ was.bounds

@@ -50,3 +50,8 @@ type_behind_legs p s e b n x f g =
     go_on (type_of e g) (λ t. go_on (at_node p (row_by (elements s.vectors) s.bounds t)) (λ r.
     noted b.note b t (noted n.note n place_type (noted x.note x r
     (go_on (type_of f (body_types b n x t r g)) (λ u. demand_at (same_type u t) Y26 p (found t)))))))
+
+-- what is answered are the types that the walk finds, or its refusal
+abbrev pub SaysTypes : Result (List TypeTree) Refusal → Found TypeTrees → Type 0
+SaysTypes (Ok ts) w = w ≡ found (pack ts)
+SaysTypes (Err r) w = RefusalSays r w
