@@ -1,5 +1,5 @@
-ghost use Rattle.std.specs.Prelude.{◌≡◌, IfOk};
-ghost use Rattle.weld_meaning.specs.Origin.{origin_of_name};
+ghost use Rattle.std.specs.Prelude.{◌≡◌, [], ◌∷◌, IfOk};
+ghost use Rattle.weld_meaning.specs.Origin.{origin_of_name, value, outside, by_name};
 ghost use Rattle.weld_linear.specs.ScopeView.{view_scope};
 
 use crate::source::Source;
@@ -18,6 +18,41 @@ pub enum Scope<'a> {
 }
 
 impl<'a> Scope<'a> {
+    /// No names.
+    pub fn empty() -> Scope<'a>
+        ensures { view_scope result ≡ [] }
+    {
+        Scope::Empty
+    }
+
+    /// These and one more, of this origin.
+    pub fn bound(name: Sym, source: &'a Source, rest: &'a Scope<'a>) -> Scope<'a>
+        ensures { view_scope result ≡ (name.0, source.now) ∷ view_scope rest.now }
+    {
+        Scope::Bound(name, source, rest)
+    }
+
+    /// These and one more, a value.
+    pub fn of_value(name: Sym, rest: &'a Scope<'a>) -> Scope<'a>
+        ensures { view_scope result ≡ (name.0, value) ∷ view_scope rest.now }
+    {
+        Scope::Value(name, rest)
+    }
+
+    /// These as they are seen from within a lambda.
+    pub fn outside(rest: &'a Scope<'a>) -> Scope<'a>
+        ensures { view_scope result ≡ outside (view_scope rest.now) }
+    {
+        Scope::Outside(rest)
+    }
+
+    /// These, each as its own origin.
+    pub fn by_name(rest: &'a Scope<'a>) -> Scope<'a>
+        ensures { view_scope result ≡ by_name (view_scope rest.now) }
+    {
+        Scope::ByName(rest)
+    }
+
     /// The origin of the name; of one that isn't in scope that of a value.
     #[tactic(auto, using(crate::proofs::Names::name_outside, crate::proofs::Names::name_by_name))]
     pub fn origin_of(&self, name: Sym, alloc: Global) -> Result<Source, AllocError>

@@ -57,7 +57,7 @@ impl Source {
     }
 
     /// What stands at the path of the struct; nothing where that is a value.
-    pub(crate) fn at_path(&self, path: &[usize]) -> Option<&Source>
+    pub fn at_path(&self, path: &[usize]) -> Option<&Source>
         ensures { MatchOption result (at_path path.now self.now ≡ value) (λ o. o.now ≡ at_path path.now self.now) }
     {
         match split(path) {
