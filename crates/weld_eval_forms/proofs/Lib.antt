@@ -1,0 +1,9 @@
+pub mod KeyTypes
+pub mod ManyShapes
+pub mod Results
+pub mod Rows
+pub mod Shapes
+pub mod Starting
+pub mod ThreeShapes
+pub mod Turns
+pub mod TwoShapes

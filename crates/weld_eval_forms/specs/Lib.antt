@@ -1,0 +1,3 @@
+pub mod FormTakes
+pub mod Legs
+pub mod Starts

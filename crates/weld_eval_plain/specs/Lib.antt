@@ -1,0 +1,3 @@
+pub mod Nodes
+pub mod Rows
+pub mod Turns

@@ -1,0 +1,7 @@
+//! Evaluates an accepted program one element after another.
+#![tactic(auto)]
+
+mod plain;
+mod walk;
+
+pub use plain::eval_plain;

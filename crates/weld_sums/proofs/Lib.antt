@@ -1,4 +1,0 @@
-pub mod Legs
-pub mod Elements
-pub mod RowLemmas
-pub mod Meanings

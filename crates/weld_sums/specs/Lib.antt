@@ -1,3 +1,0 @@
-pub mod Sums
-pub mod Totals
-pub mod Answers
