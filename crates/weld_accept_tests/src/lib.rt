@@ -5,3 +5,5 @@
 
 #[cfg(test)]
 mod places;
+#[cfg(test)]
+mod words;

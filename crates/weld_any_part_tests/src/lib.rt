@@ -3,3 +3,5 @@
 
 #[cfg(test)]
 mod nested;
+#[cfg(test)]
+mod one;

@@ -170,7 +170,7 @@ fn empty_part(alloc: Global) -> Result<AnyPart, Stop>
 }
 
 /// The join of two parts.
-fn joined(first: AnyPart, later: AnyPart) -> Result<AnyPart, AllocError>
+fn joined(first: AnyPart, later: AnyPart) -> Result<AnyPart, Stop>
     requires first { kept_of first ≡ nested }
     requires later { kept_of later ≡ nested }
     ensures { IfOk result (λ p. kept_of p ≡ nested) }
@@ -178,16 +178,59 @@ fn joined(first: AnyPart, later: AnyPart) -> Result<AnyPart, AllocError>
     let mut part = first;
     match join_any(&mut part, later) {
         Ok(()) => Ok(part),
+        Err(_) => Err(Stop::Memory),
+    }
+}
+
+/// A part, and a piece after it.
+fn with_later(alloc: Global, part: AnyPart, numbers: &[i64]) -> Result<AnyPart, Stop>
+    requires { kept_of part ≡ nested }
+    ensures { IfOk result (λ p. kept_of p ≡ nested) }
+{
+    match part_of(alloc, numbers) {
+        Ok(later) => joined(part, later),
         Err(e) => Err(e),
     }
 }
 
-/// The result.
-fn finished(alloc: Global, part: AnyPart) -> Result<Val, AllocError>
+/// A part, and a piece before it.
+fn with_earlier(alloc: Global, numbers: &[i64], part: AnyPart) -> Result<AnyPart, Stop>
+    requires { kept_of part ≡ nested }
+    ensures { IfOk result (λ p. kept_of p ≡ nested) }
+{
+    match part_of(alloc, numbers) {
+        Ok(first) => joined(first, part),
+        Err(e) => Err(e),
+    }
+}
+
+/// The first two pieces joined, then the third.
+fn earlier_first(alloc: Global) -> Result<AnyPart, Stop>
+    ensures { IfOk result (λ p. kept_of p ≡ nested) }
+{
+    let part = part_of(alloc, PIECES[0])?;
+    let part = with_later(alloc, part, PIECES[1])?;
+    with_later(alloc, part, PIECES[2])
+}
+
+/// The first piece, and the last two that are joined before.
+fn later_first(alloc: Global) -> Result<AnyPart, Stop>
+    ensures { IfOk result (λ p. kept_of p ≡ nested) }
+{
+    let part = part_of(alloc, PIECES[2])?;
+    let part = with_earlier(alloc, PIECES[1], part)?;
+    with_earlier(alloc, PIECES[0], part)
+}
+
+/// Whether a part's result is of all numbers.
+fn finishes_with_all(alloc: Global, part: AnyPart) -> Result<bool, Stop>
     requires { kept_of part ≡ nested }
 {
     laws::keyless_parts_finish();
-    finish_any(part, alloc)
+    match finish_any(part, alloc) {
+        Ok(value) => Ok(is_all(&value)),
+        Err(_) => Err(Stop::Memory),
+    }
 }
 
 /// Whether a value is the struct of all numbers and of a struct of their sum and the two cells.
@@ -229,19 +272,21 @@ fn is_sum(value: &Val) -> bool {
 }
 
 #[test]
-fn structs_of_structs_join_both_ways(rt: HostRuntime) -> Result<(), Fail> {
+fn structs_of_structs_join_earlier_first(rt: HostRuntime) -> Result<(), Fail> {
     let alloc = rt.alloc();
-    let first = part_of(alloc, PIECES[0]).ok().ok_or("a part")?;
-    let second = part_of(alloc, PIECES[1]).ok().ok_or("a part")?;
-    let third = part_of(alloc, PIECES[2]).ok().ok_or("a part")?;
-    let left = joined(joined(first, second)?, third)?;
-    let value = finished(alloc, left)?;
-    assert!(rt; is_all(&value));
-    let first = part_of(alloc, PIECES[0]).ok().ok_or("a part")?;
-    let second = part_of(alloc, PIECES[1]).ok().ok_or("a part")?;
-    let third = part_of(alloc, PIECES[2]).ok().ok_or("a part")?;
-    let right = joined(first, joined(second, third)?)?;
-    let value = finished(alloc, right)?;
-    assert!(rt; is_all(&value));
+    match earlier_first(alloc) {
+        Ok(part) => assert_eq!(rt; finishes_with_all(alloc, part), Ok(true)),
+        Err(_) => assert!(rt; false),
+    }
+    Ok(())
+}
+
+#[test]
+fn structs_of_structs_join_later_first(rt: HostRuntime) -> Result<(), Fail> {
+    let alloc = rt.alloc();
+    match later_first(alloc) {
+        Ok(part) => assert_eq!(rt; finishes_with_all(alloc, part), Ok(true)),
+        Err(_) => assert!(rt; false),
+    }
     Ok(())
 }

@@ -4,4 +4,6 @@
 #[cfg(test)]
 mod groups;
 #[cfg(test)]
+mod keyed;
+#[cfg(test)]
 mod tests;
