@@ -4,7 +4,7 @@
     cases/model/weld_model.py FILE.job [run|check]      answers as `weld run` or `weld check` does, where the data fit
 
 It knows nothing of the program: it tokenizes with a regular expression, parses by recursive descent, checks and
-evaluates with Python's whole numbers, lists and dicts. The answers of most cases below cases/to_come/ were worked out with it, and those that were worked out by hand agree with it.
+evaluates with Python's whole numbers, lists and dicts. The answers of most cases below cases/ were worked out with it, and those that were worked out by hand agree with it.
 """
 import re
 import sys

@@ -1,86 +1,99 @@
 -- Each list of bytes has an answer.
-use Rattle.std.proofs.Common.{◌≡◌, ℕ, ◌⊎◌, inl, inr, Bool, true, false, List, [], ◌∷◌, Option, Some, None, sym, subst, refl, ◌∙◌, ℤ}
+use Rattle.std.proofs.Common.{◌≡◌, ℕ, ◌⊎◌, inl, inr, Bool, true, false, List, Option, Some, None, sym, ap, subst, refl}
 use Rattle.std.specs.Bool.{MatchBool}
 use Rattle.weld_data.specs.Value.{Value}
+use Rattle.weld_builders.specs.Outcome.{Outcome, done, fault, stuck}
+use Rattle.weld_tree.specs.TypeTree.{TypeTree}
+use Rattle.weld_tree.specs.Program.{ProgramTree}
+use Rattle.weld_tree.specs.declared.binder.Binder.{Binder}
 use Rattle.weld_tree.specs.declared.code.Code.{Code}
 use Rattle.weld_tree.specs.declared.code.Code.TheVariants as codes_of
+use Rattle.weld_tree.specs.declared.place.Place.{Place}
+use Rattle.weld_tree.specs.declared.refusal.Refusal.{Refusal}
+use Rattle.weld_tree.specs.declared.refusal.Refusal.TheVariants.{At, Size}
+use Rattle.weld_fits.specs.HasValue.{HasValue}
+use Rattle.weld_types.specs.Walk.{Found, found, refused, refusal_of, program_type}
+use Rattle.weld_meaning.specs.LinearWalk.{linear_refusal}
+use Rattle.weld_meaning.specs.Typing.{ParamsFit, ProgramHas}
+use Rattle.weld_meaning.specs.Meaning.{GivesOrFaults, ArgumentsFit, meaning}
 use Rattle.weld_job.specs.Blocks.{job_of}
 use Rattle.weld_job.specs.declared.job.Job.{Job}
-use Rattle.weld_front.specs.Reading.{first_form_of}
-use Rattle.weld_front.specs.FirstForm.{IsFirstForm}
-use Rattle.weld_tree.specs.declared.binder.Binder.{Binder}
-use Rattle.weld_meaning.specs.Typing.{ParamsFit}
-use Rattle.weld_meaning.specs.Meaning.{ArgumentsFit}
-use Rattle.weld_arguments.specs.Arguments.{Arguments, IsUnfit as UnfitArguments}
-use Rattle.weld_front.specs.Numbers.{Fits, IsUnfit, parameter}
-use Rattle.weld_front.specs.Total.{total}
-use Rattle.weld_front.specs.Answer.{Answers, AnswersParts, is_too_long, value_text, unfit_text, fault_text, refusal_text}
-use Rattle.weld_front.specs.declared.first_form.Body.{Body}
+use Rattle.weld_parse.specs.Parses.{Parses, IsRefused}
+use Rattle.weld_arguments.specs.Arguments.{Arguments, IsUnfit}
+use Rattle.weld_front.specs.Accepting.{Accepts, Says, Refuses}
+use Rattle.weld_front.specs.Answer.{Answers, AnswersParts, RunAnswers, CheckAnswers, is_too_long}
+use Rattle.weld_front.specs.Texts.{value_text, ok_text, fault_text, unfit_text, refusal_text}
+use Rattle.weld_front.specs.declared.words.Task.{Task}
+use Rattle.weld_front.specs.declared.words.Task.TheVariants.{Run, Check}
 use Rattle.weld_front.specs.declared.status.Status.{Status}
 use Rattle.weld_front.specs.declared.status.Status.TheVariants.{Done, Fault, Refused, Unfit}
-use Rattle.weld_front.proofs.Patterns.{none_is}
-use Rattle.weld_front.proofs.FormLemmas.{form_taken, form_there}
-use Rattle.weld_front.proofs.NumberData.{numbers_of_arguments}
 
--- a text is of some kind or of none
-abbrev Decided : {A : Type 0} → (A → Type 0) → Type 0
-Decided {A} P = ((x : A) × P x) ⊎ ((x : A) → P x → ⊥)
+-- what is known of all texts, data and programs
+pub record EachKnown : Type 0 where
+  pub text : (text : List ℕ) → ((p : ProgramTree) × Parses text p) ⊎ ((r : Refusal) × IsRefused text r)
+  pub typed : (text : List ℕ) (p : ProgramTree) (t : TypeTree) → Parses text p → program_type p ≡ found t → ProgramHas p t
+  pub data_of : (ps : List Binder) (job : Job) → ParamsFit ps → ((vs : List Value) × Arguments ps job vs) ⊎ ((n : ℕ) × (c : Code) × IsUnfit ps job n c)
+  pub fit : (ps : List Binder) (job : Job) (vs : List Value) → ParamsFit ps → Arguments ps job vs → ArgumentsFit ps vs
+  pub never_stuck : (p : ProgramTree) (t : TypeTree) (vs : List Value) → ProgramHas p t → ArgumentsFit p.params vs → GivesOrFaults (HasValue t) (meaning p vs)
 
--- ---- the data
+-- a text is accepted, or refused for something
+data Judged (text : List ℕ) : Type 0 where
+  accepted : (p : ProgramTree) (t : TypeTree) → Accepts text p t → Judged text
+  turned_down : (r : Refusal) → Refuses text r → Judged text
 
--- each job's data are arguments of the parameter, or something is wrong with them; the arguments are of its type
-abbrev pub EachFits : Type 0
-EachFits = (ps : List Binder) (job : Job) → ParamsFit ps → ((vs : List Value) × Arguments ps job vs) ⊎ ((n : ℕ) × (c : Code) × UnfitArguments ps job n c)
+linear_judged : (text : List ℕ) (p : ProgramTree) (t : TypeTree) (o : Option (Code × Place)) → Parses text p → program_type p ≡ found t → linear_refusal p ≡ o → Judged text
+linear_judged text p t None h e f = accepted p t (record { parses = h; typed = e; linear = f })
+linear_judged text p t (Some at) h e f =
+    turned_down (At at.0 at.1) (inr (inr (record { program = p; type = t; parses = h; typed = e; says = subst (λ (o : Option (Code × Place)). Says o (At at.0 at.1)) (sym f) refl })))
 
-abbrev pub EachHasTypes : Type 0
-EachHasTypes = (ps : List Binder) (job : Job) (vs : List Value) → ParamsFit ps → Arguments ps job vs → ArgumentsFit ps vs
+typed_judged : (text : List ℕ) (p : ProgramTree) (o : Found TypeTree) → Parses text p → program_type p ≡ o → Judged text
+typed_judged text p (found t) h e = linear_judged text p t (linear_refusal p) h e refl
+typed_judged text p (refused c place) h e =
+    turned_down (At c place) (inr (inl (record { program = p; parses = h; says = subst (λ (o : Option (Code × Place)). Says o (At c place)) (sym (ap refusal_of e)) refl })))
 
-parameter_fits : ParamsFit (parameter ∷ [])
-parameter_fits = (((tt, tt), tt), tt)
-
--- the data fit, or something is wrong with them
-abbrev DataDecided : Job → Type 0
-DataDecided job = ((zs : List ℤ) × Fits job zs) ⊎ ((number : ℕ) × (code : Code) × IsUnfit job number code)
-
-data_decided : EachFits → EachHasTypes → (job : Job) → DataDecided job
-data_decided each typed job = by (each (parameter ∷ []) job parameter_fits)
+judged : EachKnown → (text : List ℕ) → Judged text
+judged known text = by (known.text text)
   where
-    by : (((vs : List Value) × Arguments (parameter ∷ []) job vs) ⊎ ((n : ℕ) × (c : Code) × UnfitArguments (parameter ∷ []) job n c)) → DataDecided job
-    by (inl (vs, a)) =
-        let n = numbers_of_arguments vs (typed (parameter ∷ []) job vs parameter_fits a) in
-        inl (n.0, subst (λ (ws : List Value). Arguments (parameter ∷ []) job ws) n.1 a)
-    by (inr (n, c, u)) = inr (n, c, u)
-
-form_decided : (text : List ℕ) → Decided (λ (body : Body). IsFirstForm text body)
-form_decided text = by (first_form_of text) refl
-  where
-    by : (o : Option Body) → first_form_of text ≡ o → Decided (λ (body : Body). IsFirstForm text body)
-    by None h = inr (λ body f. none_is body (sym h ∙ form_there text body f))
-    by (Some body) h = inl (body, form_taken text body h)
+    by : ((p : ProgramTree) × Parses text p) ⊎ ((r : Refusal) × IsRefused text r) → Judged text
+    by (inl (p, h)) = typed_judged text p (program_type p) h refl
+    by (inr (r, h)) = turned_down r (inl h)
 
 -- ---- the answer
 
-abbrev PartsAnswered : Job → Type 0
-PartsAnswered job = (status : Status) × (text : List ℕ) × AnswersParts job status text
+abbrev Answered : (Status → List ℕ → Type 0) → Type 0
+Answered P = (status : Status) × (text : List ℕ) × P status text
 
-program_answered : (job : Job) (body : Body) (zs : List ℤ) → IsFirstForm job.text body → Fits job zs → (o : Option ℤ) → total body zs ≡ o → PartsAnswered job
-program_answered job body zs f d None e = (Fault, fault_text, (body, zs, f, d, e, refl))
-program_answered job body zs f d (Some value) e = (Done, value_text value, (body, zs, value, f, d, e, refl))
+concluded : (job : Job) (p : ProgramTree) (t : TypeTree) (vs : List Value) (o : Outcome Value) → Accepts job.text p t → Arguments p.params job vs → meaning p vs ≡ o → GivesOrFaults (HasValue t) o → Answered (RunAnswers job)
+concluded job p t vs (done v) a d e g = (Done, value_text t v, (p, t, a, (vs, d, (v, e, refl))))
+concluded job p t vs fault a d e g = (Fault, fault_text, (p, t, a, (vs, d, (e, refl))))
+concluded job p t vs stuck a d e g = absurd g
 
-form_answered : (job : Job) (body : Body) → IsFirstForm job.text body → DataDecided job → PartsAnswered job
-form_answered job body f (inl (zs, d)) = program_answered job body zs f d (total body zs) refl
-form_answered job body f (inr (number, code, u)) = (Unfit, unfit_text number code, (body, number, code, f, u, refl))
+program_answered : EachKnown → (job : Job) (p : ProgramTree) (t : TypeTree) → Accepts job.text p t → Answered (RunAnswers job)
+program_answered known job p t a =
+    let has : ProgramHas p t = known.typed job.text p t a.parses a.typed in by has (known.data_of p.params job has.params)
+  where
+    by : ProgramHas p t → ((vs : List Value) × Arguments p.params job vs) ⊎ ((n : ℕ) × (c : Code) × IsUnfit p.params job n c) → Answered (RunAnswers job)
+    by has (inl (vs, d)) = concluded job p t vs (meaning p vs) a d refl (known.never_stuck p t vs has (known.fit p.params job vs has.params d))
+    by has (inr (n, c, u)) = (Unfit, unfit_text n c, (p, t, a, (n, c, u, refl)))
 
-parts_answered : EachFits → EachHasTypes → (job : Job) → Decided (λ (body : Body). IsFirstForm job.text body) → PartsAnswered job
-parts_answered each typed job (inl (body, f)) = form_answered job body f (data_decided each typed job)
-parts_answered each typed job (inr none) = (Refused, refusal_text codes_of.X0, (none, refl))
+run_answered : EachKnown → (job : Job) → Judged job.text → Answered (RunAnswers job)
+run_answered known job (accepted p t a) = program_answered known job p t a
+run_answered known job (turned_down r h) = (Refused, refusal_text r, (r, h, refl))
 
-pub answers_some : EachFits → EachHasTypes → (bytes : List ℕ) → (status : Status) × (text : List ℕ) × Answers bytes status text
-answers_some each typed bytes = by (is_too_long bytes) refl
+check_answered : (job : Job) → Judged job.text → Answered (CheckAnswers job)
+check_answered job (accepted p t a) = (Done, ok_text t, (p, t, a, refl))
+check_answered job (turned_down r h) = (Refused, refusal_text r, (r, h, refl))
+
+parts_answered : EachKnown → (task : Task) (job : Job) → Answered (AnswersParts task job)
+parts_answered known Run job = run_answered known job (judged known job.text)
+parts_answered known Check job = check_answered job (judged known job.text)
+
+pub answers_some : EachKnown → (task : Task) (bytes : List ℕ) → (status : Status) × (text : List ℕ) × Answers task bytes status text
+answers_some known task bytes = by (is_too_long bytes) refl
   where
     within : Bool → Type 0
-    within long = (status : Status) × (text : List ℕ) × MatchBool long ((status ≡ Refused) × (text ≡ refusal_text codes_of.M1)) (AnswersParts (job_of bytes) status text)
+    within long = (status : Status) × (text : List ℕ) × MatchBool long ((status ≡ Refused) × (text ≡ refusal_text (Size codes_of.M1))) (AnswersParts task (job_of bytes) status text)
 
     by : (long : Bool) → is_too_long bytes ≡ long → within long
-    by true e = (Refused, refusal_text codes_of.M1, (refl, refl))
-    by false e = parts_answered each typed (job_of bytes) (form_decided (job_of bytes).text)
+    by true e = (Refused, refusal_text (Size codes_of.M1), (refl, refl))
+    by false e = parts_answered known task (job_of bytes)

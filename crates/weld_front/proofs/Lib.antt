@@ -1,11 +1,6 @@
-pub mod Reading
-pub mod Patterns
-pub mod NumberData
-pub mod Numerals
 pub mod EachAnswer
-pub mod FormLemmas
-pub mod Sums
 pub mod Sinks
 pub mod Answering
 pub mod OneAnswer
-pub mod Totals
+pub mod Accepts
+mod Noted

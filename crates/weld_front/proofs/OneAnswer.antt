@@ -1,80 +1,217 @@
 -- A job has one answer at most.
-use Rattle.std.proofs.Common.{◌≡◌, ℕ, Bool, true, false, List, [], ◌∷◌, Option, Some, None, sym, ap, refl, ◌∙◌, ℤ}
+use Rattle.std.proofs.Common.{◌≡◌, ℕ, inl, inr, Bool, true, false, List, Option, Some, None, sym, ap, subst, refl, ◌∙◌}
 use Rattle.std.specs.Bool.{MatchBool}
+use Rattle.weld_data.specs.Value.{Value}
+use Rattle.weld_builders.specs.Outcome.{done, fault}
+use Rattle.weld_tree.specs.TypeTree.{TypeTree}
+use Rattle.weld_tree.specs.Program.{ProgramTree}
+use Rattle.weld_tree.specs.declared.binder.Binder.{Binder}
 use Rattle.weld_tree.specs.declared.code.Code.{Code}
+use Rattle.weld_tree.specs.declared.place.Place.{Place}
+use Rattle.weld_tree.specs.declared.refusal.Refusal.{Refusal}
+use Rattle.weld_types.specs.Walk.{found, refusal_of, program_type, typing_refusal}
+use Rattle.weld_meaning.specs.LinearWalk.{linear_refusal}
 use Rattle.weld_job.specs.Blocks.{job_of}
 use Rattle.weld_job.specs.declared.job.Job.{Job}
-use Rattle.weld_front.specs.FirstForm.{IsFirstForm}
-use Rattle.weld_data.specs.Value.{Value}
-use Rattle.weld_tree.specs.declared.binder.Binder.{Binder}
-use Rattle.weld_arguments.specs.Arguments.{Arguments, IsUnfit as UnfitArguments}
-use Rattle.weld_front.specs.Numbers.{Fits, IsUnfit, parameter, vector}
-use Rattle.weld_front.specs.Total.{total}
-use Rattle.weld_front.specs.Answer.{Answers, AnswersParts, is_too_long, value_text, unfit_text}
-use Rattle.weld_front.specs.declared.first_form.Body.{Body}
+use Rattle.weld_parse.specs.Parses.{Parses, IsRefused}
+use Rattle.weld_arguments.specs.Arguments.{Arguments, IsUnfit}
+use Rattle.weld_front.specs.Accepting.{Accepts, Says, IsIllTyped, IsNotLinear, Refuses}
+use Rattle.weld_front.specs.Answer.{Answers, AnswersParts, RunAnswers, CheckAnswers, RefusalAnswers, ProgramAnswers, Concludes, is_too_long}
+use Rattle.weld_front.specs.Texts.{value_text, ok_text, unfit_text, refusal_text}
+use Rattle.weld_front.specs.declared.words.Task.{Task}
+use Rattle.weld_front.specs.declared.words.Task.TheVariants.{Run, Check}
 use Rattle.weld_front.specs.declared.status.Status.{Status}
 use Rattle.weld_front.specs.declared.status.Status.TheVariants.{Done, Fault, Words, Refused, Unfit, Read, Write, Memory}
-use Rattle.weld_front.proofs.Patterns.{some_is, none_is}
-use Rattle.weld_front.proofs.FormLemmas.{form_there}
-use Rattle.weld_front.proofs.NumberData.{same_numbers}
+
+-- what is known of texts: one program, or one refusal, and not both
+pub record TextsKnown : Type 0 where
+  pub one_program : (text : List ℕ) (p q : ProgramTree) → Parses text p → Parses text q → p ≡ q
+  pub not_both : (text : List ℕ) (p : ProgramTree) (r : Refusal) → Parses text p → IsRefused text r → ⊥
+  pub one_refusal : (text : List ℕ) (r s : Refusal) → IsRefused text r → IsRefused text s → r ≡ s
 
 -- what is known of data: one list of arguments, or one thing wrong with them first, and not both
 pub record DataKnown : Type 0 where
   pub one_list : (ps : List Binder) (job : Job) (vs ws : List Value) → Arguments ps job vs → Arguments ps job ws → vs ≡ ws
-  pub not_both : (ps : List Binder) (job : Job) (vs : List Value) (n : ℕ) (c : Code) → Arguments ps job vs → UnfitArguments ps job n c → ⊥
-  pub one_code : (ps : List Binder) (job : Job) (n m : ℕ) (c d : Code) → UnfitArguments ps job n c → UnfitArguments ps job m d → (n ≡ m) × (c ≡ d)
+  pub not_both : (ps : List Binder) (job : Job) (vs : List Value) (n : ℕ) (c : Code) → Arguments ps job vs → IsUnfit ps job n c → ⊥
+  pub one_code : (ps : List Binder) (job : Job) (n m : ℕ) (c d : Code) → IsUnfit ps job n c → IsUnfit ps job m d → (n ≡ m) × (c ≡ d)
 
-fit_or_unfit : DataKnown → (job : Job) (numbers : List ℤ) (number : ℕ) (code : Code) → Fits job numbers → IsUnfit job number code → ⊥
-fit_or_unfit known job numbers number code f u = known.not_both (parameter ∷ []) job (vector numbers ∷ []) number code f u
+-- ---- one program or one refusal
 
-fits_unique : DataKnown → (job : Job) (xs ys : List ℤ) → Fits job xs → Fits job ys → xs ≡ ys
-fits_unique known job xs ys f g = same_numbers xs ys (known.one_list (parameter ∷ []) job (vector xs ∷ []) (vector ys ∷ []) f g)
+type_one : (p : ProgramTree) (t u : TypeTree) → program_type p ≡ found t → program_type p ≡ found u → t ≡ u
+type_one p t u e f = let same : found t ≡ found u = sym e ∙ f in cc
 
-form_unique : (text : List ℕ) (a b : Body) → IsFirstForm text a → IsFirstForm text b → a ≡ b
-form_unique text a b f g = some_is a b (sym (form_there text a f) ∙ form_there text b g)
+pub program_one : TextsKnown → (text : List ℕ) (p q : ProgramTree) (t u : TypeTree) → Accepts text p t → Accepts text q u → p ≡ q
+program_one known text p q t u a b = known.one_program text p q a.parses b.parses
+
+types_one : TextsKnown → (text : List ℕ) (p q : ProgramTree) (t u : TypeTree) → Accepts text p t → Accepts text q u → t ≡ u
+types_one known text p q t u a b =
+    type_one p t u a.typed (subst (λ (x : ProgramTree). program_type x ≡ found u) (sym (program_one known text p q t u a b)) b.typed)
+
+says_none : (o : Option (Code × Place)) (r : Refusal) → o ≡ None → Says o r → ⊥
+says_none None r e s = s
+says_none (Some at) r e s = cc
+
+says_one : (o : Option (Code × Place)) (r s : Refusal) → Says o r → Says o s → r ≡ s
+says_one None r s h g = absurd h
+says_one (Some at) r s h g = h ∙ sym g
+
+-- a program with a type isn't refused by the typing rules
+typed_unrefused : (p : ProgramTree) (t : TypeTree) → program_type p ≡ found t → typing_refusal p ≡ None
+typed_unrefused p t e = ap refusal_of e
+
+not_refused : TextsKnown → (text : List ℕ) (p : ProgramTree) (t : TypeTree) (r : Refusal) → Accepts text p t → Refuses text r → ⊥
+not_refused known text p t r a (inl h) = known.not_both text p r a.parses h
+not_refused known text p t r a (inr (inl h)) =
+    let same : p ≡ h.program = known.one_program text p h.program a.parses h.parses in
+    says_none (typing_refusal h.program) r (subst (λ (x : ProgramTree). typing_refusal x ≡ None) same (typed_unrefused p t a.typed)) h.says
+not_refused known text p t r a (inr (inr h)) =
+    let same : p ≡ h.program = known.one_program text p h.program a.parses h.parses in
+    says_none (linear_refusal h.program) r (subst (λ (x : ProgramTree). linear_refusal x ≡ None) same a.linear) h.says
+
+ill_typed_one : TextsKnown → (text : List ℕ) (r s : Refusal) → IsIllTyped text r → IsIllTyped text s → r ≡ s
+ill_typed_one known text r s h g =
+    let same : h.program ≡ g.program = known.one_program text h.program g.program h.parses g.parses in
+    says_one (typing_refusal g.program) r s (subst (λ (x : ProgramTree). Says (typing_refusal x) r) same h.says) g.says
+
+ill_typed_or_linear : TextsKnown → (text : List ℕ) (r s : Refusal) → IsIllTyped text r → IsNotLinear text s → ⊥
+ill_typed_or_linear known text r s h g =
+    let same : g.program ≡ h.program = known.one_program text g.program h.program g.parses h.parses in
+    says_none (typing_refusal h.program) r (subst (λ (x : ProgramTree). typing_refusal x ≡ None) same (typed_unrefused g.program g.type g.typed)) h.says
+
+not_linear_one : TextsKnown → (text : List ℕ) (r s : Refusal) → IsNotLinear text r → IsNotLinear text s → r ≡ s
+not_linear_one known text r s h g =
+    let same : h.program ≡ g.program = known.one_program text h.program g.program h.parses g.parses in
+    says_one (linear_refusal g.program) r s (subst (λ (x : ProgramTree). Says (linear_refusal x) r) same h.says) g.says
+
+refusals_one : TextsKnown → (text : List ℕ) (r s : Refusal) → Refuses text r → Refuses text s → r ≡ s
+refusals_one known text r s (inl h) (inl g) = known.one_refusal text r s h g
+refusals_one known text r s (inl h) (inr (inl g)) = absurd (known.not_both text g.program r g.parses h)
+refusals_one known text r s (inl h) (inr (inr g)) = absurd (known.not_both text g.program r g.parses h)
+refusals_one known text r s (inr (inl h)) (inl g) = absurd (known.not_both text h.program s h.parses g)
+refusals_one known text r s (inr (inr h)) (inl g) = absurd (known.not_both text h.program s h.parses g)
+refusals_one known text r s (inr (inl h)) (inr (inl g)) = ill_typed_one known text r s h g
+refusals_one known text r s (inr (inl h)) (inr (inr g)) = absurd (ill_typed_or_linear known text r s h g)
+refusals_one known text r s (inr (inr h)) (inr (inl g)) = absurd (ill_typed_or_linear known text s r g h)
+refusals_one known text r s (inr (inr h)) (inr (inr g)) = not_linear_one known text r s h g
+
+refusal_texts : TextsKnown → (job : Job) (x y : List ℕ) → RefusalAnswers job x → RefusalAnswers job y → x ≡ y
+refusal_texts known job x y (r, h, e) (s, g, f) = e ∙ ap refusal_text (refusals_one known job.text r s h g) ∙ sym f
+
+-- ---- what a program is answered with
 
 -- one status and one text
 abbrev Same : Status → List ℕ → Status → List ℕ → Type 0
-Same s t s' t' = (s ≡ s') × (t ≡ t')
+Same s x s' y = (s ≡ s') × (x ≡ y)
 
--- a fitting program and data have one sum
-one_total : DataKnown → (job : Job) (a b : Body) (xs ys : List ℤ) (o p : Option ℤ) → IsFirstForm job.text a → Fits job xs → total a xs ≡ o → IsFirstForm job.text b → Fits job ys → total b ys ≡ p → o ≡ p
-one_total known job a b xs ys o p f d e g h k =
-    let same : a ≡ b = form_unique job.text a b f g in
-    let list : xs ≡ ys = fits_unique known job xs ys d h in
-    sym e ∙ ap (λ (x : Body). total x xs) same ∙ ap (total b) list ∙ k
+concludes_one : (p : ProgramTree) (t : TypeTree) (vs : List Value) (s s' : Status) (x y : List ℕ) → Concludes p t vs s x → Concludes p t vs s' y → Same s x s' y
+concludes_one p t vs Done Done x y (v, e, f) (w, g, h) =
+    let same : done v ≡ done w = sym e ∙ g in
+    let values : v ≡ w = cc in
+    (refl, f ∙ ap (value_text t) values ∙ sym h)
+concludes_one p t vs Done Fault x y (v, e, f) (g, h) = let same : done v ≡ fault = sym e ∙ g in cc
+concludes_one p t vs Fault Done x y (e, f) (w, g, h) = let same : done w ≡ fault = sym g ∙ e in cc
+concludes_one p t vs Fault Fault x y (e, f) (g, h) = (refl, f ∙ sym h)
+concludes_one p t vs Words s' x y h g = absurd h
+concludes_one p t vs Refused s' x y h g = absurd h
+concludes_one p t vs Unfit s' x y h g = absurd h
+concludes_one p t vs Read s' x y h g = absurd h
+concludes_one p t vs Write s' x y h g = absurd h
+concludes_one p t vs Memory s' x y h g = absurd h
+concludes_one p t vs s Words x y h g = absurd g
+concludes_one p t vs s Refused x y h g = absurd g
+concludes_one p t vs s Unfit x y h g = absurd g
+concludes_one p t vs s Read x y h g = absurd g
+concludes_one p t vs s Write x y h g = absurd g
+concludes_one p t vs s Memory x y h g = absurd g
 
-parts_one : DataKnown → (job : Job) (s s' : Status) (t t' : List ℕ) → AnswersParts job s t → AnswersParts job s' t' → Same s t s' t'
-parts_one known job Done Done t t' (a, xs, v, f, d, e, p) (b, ys, w, g, h, k, q) = (refl, p ∙ ap value_text (some_is v w (one_total known job a b xs ys (Some v) (Some w) f d e g h k)) ∙ sym q)
-parts_one known job Done Fault t t' (a, xs, v, f, d, e, p) (b, ys, g, h, k, q) = absurd (none_is v (sym (one_total known job a b xs ys (Some v) None f d e g h k)))
-parts_one known job Done Refused t t' (a, xs, v, f, d, e, p) (none, q) = absurd (none a f)
-parts_one known job Done Unfit t t' (a, xs, v, f, d, e, p) (b, n, c, g, u, q) = absurd (fit_or_unfit known job xs n c d u)
-parts_one known job Fault Done t t' (a, xs, f, d, e, p) (b, ys, w, g, h, k, q) = absurd (none_is w (one_total known job a b xs ys None (Some w) f d e g h k))
-parts_one known job Fault Fault t t' (a, xs, f, d, e, p) (b, ys, g, h, k, q) = (refl, p ∙ sym q)
-parts_one known job Fault Refused t t' (a, xs, f, d, e, p) (none, q) = absurd (none a f)
-parts_one known job Fault Unfit t t' (a, xs, f, d, e, p) (b, n, c, g, u, q) = absurd (fit_or_unfit known job xs n c d u)
-parts_one known job Refused Done t t' (none, p) (b, ys, w, g, h, k, q) = absurd (none b g)
-parts_one known job Refused Fault t t' (none, p) (b, ys, g, h, k, q) = absurd (none b g)
-parts_one known job Refused Refused t t' (none, p) (none', q) = (refl, p ∙ sym q)
-parts_one known job Refused Unfit t t' (none, p) (b, n, c, g, u, q) = absurd (none b g)
-parts_one known job Unfit Done t t' (a, n, c, f, u, p) (b, ys, w, g, h, k, q) = absurd (fit_or_unfit known job ys n c h u)
-parts_one known job Unfit Fault t t' (a, n, c, f, u, p) (b, ys, g, h, k, q) = absurd (fit_or_unfit known job ys n c h u)
-parts_one known job Unfit Refused t t' (a, n, c, f, u, p) (none, q) = absurd (none a f)
-parts_one known job Unfit Unfit t t' (a, n, c, f, u, p) (b, m, d, g, v, q) =
-    let same = known.one_code (parameter ∷ []) job n m c d u v in
-    (refl, p ∙ ap (λ (k : ℕ). unfit_text k c) same.0 ∙ ap (unfit_text m) same.1 ∙ sym q)
-parts_one known job Words s' t t' x y = absurd x
-parts_one known job Read s' t t' x y = absurd x
-parts_one known job Write s' t t' x y = absurd x
-parts_one known job Memory s' t t' x y = absurd x
-parts_one known job s Words t t' x y = absurd y
-parts_one known job s Read t t' x y = absurd y
-parts_one known job s Write t t' x y = absurd y
-parts_one known job s Memory t t' x y = absurd y
+-- the answers on data that fit, and those on data that don't
+data Split (p : ProgramTree) (t : TypeTree) (job : Job) (s : Status) (x : List ℕ) : Type 0 where
+  on_data : (vs : List Value) → Arguments p.params job vs → Concludes p t vs s x → Split p t job s x
+  off_data : (number : ℕ) (code : Code) → s ≡ Unfit → IsUnfit p.params job number code → x ≡ unfit_text number code → Split p t job s x
 
-one_by : (b : Bool) (s s' : Status) (t t' text : List ℕ) (P Q : Type 0) → (P → Q → Same s t s' t') → MatchBool b ((s ≡ Refused) × (t ≡ text)) P → MatchBool b ((s' ≡ Refused) × (t' ≡ text)) Q → Same s t s' t'
-one_by true s s' t t' text P Q f x y = (x.0 ∙ sym y.0, x.1 ∙ sym y.1)
-one_by false s s' t t' text P Q f x y = f x y
+split : (p : ProgramTree) (t : TypeTree) (job : Job) (s : Status) (x : List ℕ) → ProgramAnswers p t job s x → Split p t job s x
+split p t job Unfit x (n, c, u, e) = off_data n c refl u e
+split p t job Done x (vs, a, c) = on_data vs a c
+split p t job Fault x (vs, a, c) = on_data vs a c
+split p t job Words x (vs, a, c) = absurd c
+split p t job Refused x (vs, a, c) = absurd c
+split p t job Read x (vs, a, c) = absurd c
+split p t job Write x (vs, a, c) = absurd c
+split p t job Memory x (vs, a, c) = absurd c
 
-pub answers_one : DataKnown → (job : List ℕ) (s s' : Status) (t t' : List ℕ) → Answers job s t → Answers job s' t' → (s ≡ s') × (t ≡ t')
-answers_one known job s s' t t' x y = one_by (is_too_long job) s s' t t' _ _ _ (parts_one known (job_of job) s s' t t') x y
+splits_one : DataKnown → (p : ProgramTree) (t : TypeTree) (job : Job) (s s' : Status) (x y : List ℕ) → Split p t job s x → Split p t job s' y → Same s x s' y
+splits_one known p t job s s' x y (on_data vs a c) (on_data ws b d) =
+    concludes_one p t ws s s' x y (subst (λ (us : List Value). Concludes p t us s x) (known.one_list p.params job vs ws a b) c) d
+splits_one known p t job s s' x y (on_data vs a c) (off_data n k e u f) = absurd (known.not_both p.params job vs n k a u)
+splits_one known p t job s s' x y (off_data n k e u f) (on_data ws b d) = absurd (known.not_both p.params job ws n k b u)
+splits_one known p t job s s' x y (off_data n k e u f) (off_data m l g v h) =
+    (e ∙ sym g, f ∙ ap (λ (i : ℕ). unfit_text i k) (known.one_code p.params job n m k l u v).0 ∙ ap (unfit_text m) (known.one_code p.params job n m k l u v).1 ∙ sym h)
+
+-- an answer to an accepted program, whatever its status
+record Accepted (job : Job) (s : Status) (x : List ℕ) : Type 0 where
+  program : ProgramTree
+  type : TypeTree
+  accepts : Accepts job.text program type
+  answers : ProgramAnswers program type job s x
+
+accepted_one : TextsKnown → DataKnown → (job : Job) (s s' : Status) (x y : List ℕ) → Accepted job s x → Accepted job s' y → Same s x s' y
+accepted_one texts known job s s' x y a b =
+    let programs : a.program ≡ b.program = program_one texts job.text a.program b.program a.type b.type a.accepts b.accepts in
+    let types : a.type ≡ b.type = types_one texts job.text a.program b.program a.type b.type a.accepts b.accepts in
+    let moved : ProgramAnswers b.program b.type job s x =
+    subst (λ (t : TypeTree). ProgramAnswers b.program t job s x) types (subst (λ (p : ProgramTree). ProgramAnswers p a.type job s x) programs a.answers) in
+    splits_one known b.program b.type job s s' x y
+    (split b.program b.type job s x moved) (split b.program b.type job s' y b.answers)
+
+-- an answer of `run` is a refusal, or one to an accepted program
+data RunSplit (job : Job) (s : Status) (x : List ℕ) : Type 0 where
+  is_refused : s ≡ Refused → RefusalAnswers job x → RunSplit job s x
+  is_accepted : Accepted job s x → RunSplit job s x
+
+run_split : (job : Job) (s : Status) (x : List ℕ) → RunAnswers job s x → RunSplit job s x
+run_split job Refused x h = is_refused refl h
+run_split job Done x (p, t, a, h) = is_accepted (record { program = p; type = t; accepts = a; answers = h })
+run_split job Fault x (p, t, a, h) = is_accepted (record { program = p; type = t; accepts = a; answers = h })
+run_split job Unfit x (p, t, a, h) = is_accepted (record { program = p; type = t; accepts = a; answers = h })
+run_split job Words x (p, t, a, h) = is_accepted (record { program = p; type = t; accepts = a; answers = h })
+run_split job Read x (p, t, a, h) = is_accepted (record { program = p; type = t; accepts = a; answers = h })
+run_split job Write x (p, t, a, h) = is_accepted (record { program = p; type = t; accepts = a; answers = h })
+run_split job Memory x (p, t, a, h) = is_accepted (record { program = p; type = t; accepts = a; answers = h })
+
+either : TextsKnown → (job : Job) (s : Status) (x y : List ℕ) → RefusalAnswers job x → Accepted job s y → ⊥
+either known job s x y (r, h, e) a = not_refused known job.text a.program a.type r a.accepts h
+
+runs_one : TextsKnown → DataKnown → (job : Job) (s s' : Status) (x y : List ℕ) → RunSplit job s x → RunSplit job s' y → Same s x s' y
+runs_one texts known job s s' x y (is_refused e h) (is_refused f g) = (e ∙ sym f, refusal_texts texts job x y h g)
+runs_one texts known job s s' x y (is_refused e h) (is_accepted b) = absurd (either texts job s' x y h b)
+runs_one texts known job s s' x y (is_accepted a) (is_refused f g) = absurd (either texts job s y x g a)
+runs_one texts known job s s' x y (is_accepted a) (is_accepted b) = accepted_one texts known job s s' x y a b
+
+checks_one : TextsKnown → (job : Job) (s s' : Status) (x y : List ℕ) → CheckAnswers job s x → CheckAnswers job s' y → Same s x s' y
+checks_one texts job Done Done x y (p, t, a, e) (q, u, b, f) = (refl, e ∙ ap ok_text (types_one texts job.text p q t u a b) ∙ sym f)
+checks_one texts job Done Refused x y (p, t, a, e) (r, h, f) = absurd (not_refused texts job.text p t r a h)
+checks_one texts job Refused Done x y (r, h, f) (p, t, a, e) = absurd (not_refused texts job.text p t r a h)
+checks_one texts job Refused Refused x y h g = (refl, refusal_texts texts job x y h g)
+checks_one texts job Fault s' x y h g = absurd h
+checks_one texts job Unfit s' x y h g = absurd h
+checks_one texts job Words s' x y h g = absurd h
+checks_one texts job Read s' x y h g = absurd h
+checks_one texts job Write s' x y h g = absurd h
+checks_one texts job Memory s' x y h g = absurd h
+checks_one texts job s Fault x y h g = absurd g
+checks_one texts job s Unfit x y h g = absurd g
+checks_one texts job s Words x y h g = absurd g
+checks_one texts job s Read x y h g = absurd g
+checks_one texts job s Write x y h g = absurd g
+checks_one texts job s Memory x y h g = absurd g
+
+parts_one : TextsKnown → DataKnown → (task : Task) (job : Job) (s s' : Status) (x y : List ℕ) → AnswersParts task job s x → AnswersParts task job s' y → Same s x s' y
+parts_one texts known Run job s s' x y h g = runs_one texts known job s s' x y (run_split job s x h) (run_split job s' y g)
+parts_one texts known Check job s s' x y h g = checks_one texts job s s' x y h g
+
+one_by : (b : Bool) (s s' : Status) (x y text : List ℕ) (P Q : Type 0) → (P → Q → Same s x s' y) → MatchBool b ((s ≡ Refused) × (x ≡ text)) P → MatchBool b ((s' ≡ Refused) × (y ≡ text)) Q → Same s x s' y
+one_by true s s' x y text P Q f h g = (h.0 ∙ sym g.0, h.1 ∙ sym g.1)
+one_by false s s' x y text P Q f h g = f h g
+
+pub answers_one : TextsKnown → DataKnown → (task : Task) (bytes : List ℕ) (s s' : Status) (x y : List ℕ) → Answers task bytes s x → Answers task bytes s' y → (s ≡ s') × (x ≡ y)
+answers_one texts known task bytes s s' x y h g = one_by (is_too_long bytes) s s' x y _ _ _ (parts_one texts known task (job_of bytes) s s' x y) h g

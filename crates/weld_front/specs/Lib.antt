@@ -1,8 +1,4 @@
-pub mod Spelling
-pub mod FirstForm
-pub mod Numbers
-pub mod Reading
-pub mod Total
+pub mod Accepting
+pub mod Texts
 pub mod Answer
 pub mod Exit
-pub mod Data

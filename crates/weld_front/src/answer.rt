@@ -1,21 +1,28 @@
-ghost use Rattle.std.specs.Prelude.{◌≡◌, ◌≤◌, ◌∷◌, Err, IfOk, OnOk, IfSome};
+ghost use Rattle.std.specs.Prelude.{◌≡◌, ◌≤◌, Err, IfOk, OnOk, IfSome};
+ghost use Rattle.std.specs.String.{string_bytes};
+ghost use Rattle.weld_data.specs.View.{view_val};
+ghost use Rattle.weld_fits.specs.HasValue.{HasValue};
+ghost use Rattle.weld_meaning.specs.Typing.{ProgramHas};
+ghost use Rattle.weld_meaning.specs.Accepted.{IsAccepted};
+ghost use Rattle.weld_meaning.specs.Meaning.{ArgumentsFit};
 ghost use Rattle.weld_ports.specs.Faults.{Rises};
 ghost use Rattle.weld_job.specs.Reading.{Takes};
-ghost use Rattle.weld_front.specs.Answer.{Answers, AnswersParts, IsOfJob, Extent, refusal_text, unfit_text, value_text, fault_text};
-ghost use Rattle.weld_front.specs.Data.{DataSays, Concludes};
-ghost use Rattle.weld_front.specs.Total.{total};
-ghost use Rattle.std.specs.String.{string_bytes};
+ghost use Rattle.weld_front.specs.Answer.{Answers, AnswersParts, Concludes, ProgramAnswers, RunAnswers, CheckAnswers, IsOfJob, Extent};
+ghost use Rattle.weld_front.specs.Texts.{refusal_text, unfit_text, value_text, ok_text, fault_text};
 
-use crate::first_form::{Body, read_first_form};
-use crate::numbers::{numbers_from, one_parameter};
+use crate::accepting::accept_text;
 use crate::status::Status;
-use crate::sum::sum_rows;
+use crate::words::Task;
 use std::alloc::{AllocError, Global};
 use weld_arguments::{DataStop, read_arguments};
-use weld_data::{I64s, Kind, Num, Text, Val};
+use weld_data::{Stop, Text, Val, Vals};
+use weld_eval_plain::eval_plain;
 use weld_job::{Job, JobFault, read_job};
+use weld_meaning::laws::{meaning_looks_past_spelling, typed_programs_are_never_stuck};
 use weld_ports::Source;
-use weld_tree::{Code, Ty};
+use weld_print_type::print_ty;
+use weld_tree::{Code, Program, Refusal, Ty};
+use weld_unnoted::laws::notes_play_no_part;
 use weld_values::write_value;
 
 /// What is written, and the status that the program ends with.
@@ -32,14 +39,6 @@ pub enum NoAnswer {
     Memory,
 }
 
-/// What the data of a program with one parameter of type vec[i64] are: its numbers, or the number of the
-/// parameter that they don't fit with the code.
-#[derive(Debug, Drop)]
-enum Data {
-    Numbers(I64s),
-    Unfit(u64, Code),
-}
-
 /// The answer with this text.
 fn answer_of(status: Status, text: String) -> Answer
     ensures status { result.status ≡ status }
@@ -51,13 +50,28 @@ fn answer_of(status: Status, text: String) -> Answer
     }
 }
 
-/// The refusal of a text.
-fn refusal(alloc: Global, code: Code) -> Result<Answer, AllocError>
+/// The refusal of a text. Where memory was wanting there is none.
+fn refused(alloc: Global, refusal: Refusal) -> Result<Answer, AllocError>
     ensures status { IfOk result (λ answer. answer.status ≡ Status.Refused) }
-    ensures text { IfOk result (λ answer. answer.text ≡ refusal_text code) }
+    ensures text { IfOk result (λ answer. answer.text ≡ refusal_text refusal) }
+    ensures said { IfOk result (λ answer. refusal ≡ Refusal.Memory → ⊥) }
 {
-    let letters = code.text();
-    Ok(answer_of(Status::Refused, format!(in alloc; "refused {letters}\n")?))
+    match refusal {
+        Refusal::At(code, place) => {
+            let letters = code.text();
+            let line = place.line;
+            let column = place.column;
+            Ok(answer_of(
+                Status::Refused,
+                format!(in alloc; "refused {letters} at {line}:{column}\n")?,
+            ))
+        }
+        Refusal::Size(code) => {
+            let letters = code.text();
+            Ok(answer_of(Status::Refused, format!(in alloc; "refused {letters}\n")?))
+        }
+        Refusal::Memory => Err(AllocError),
+    }
 }
 
 /// What is said of data that don't fit.
@@ -73,12 +87,27 @@ fn unfit(alloc: Global, number: u64, code: Code) -> Result<Answer, AllocError>
 }
 
 /// The program's value.
-fn done(alloc: Global, value: i64) -> Result<Answer, AllocError>
+fn done(alloc: Global, value: &Val, ty: &Ty) -> Result<Answer, AllocError>
+    requires { HasValue ty.now (view_val value.now) }
     ensures status { IfOk result (λ answer. answer.status ≡ Status.Done) }
-    ensures text { IfOk result (λ answer. answer.text ≡ value_text value) }
+    ensures text { IfOk result (λ answer. answer.text ≡ value_text ty.now (view_val value.now)) }
 {
-    let ty = Ty::scalar(Kind::I64);
-    let mut text = write_value(alloc, &Val::Num(Num::of_i64(value)), &ty)?;
+    let mut text = write_value(alloc, value, ty)?;
+    text.push(b'\n')?;
+    Ok(Answer {
+        status: Status::Done,
+        text,
+    })
+}
+
+/// The type of an accepted program.
+fn told(alloc: Global, ty: &Ty) -> Result<Answer, AllocError>
+    ensures status { IfOk result (λ answer. answer.status ≡ Status.Done) }
+    ensures text { IfOk result (λ answer. answer.text ≡ ok_text ty.now) }
+{
+    let mut text = Text::copy_of(alloc, b"ok ")?;
+    let spelled = print_ty(alloc, ty)?;
+    text.push_all(spelled.as_slice())?;
     text.push(b'\n')?;
     Ok(Answer {
         status: Status::Done,
@@ -97,46 +126,71 @@ fn fault(alloc: Global) -> Result<Answer, AllocError>
     })
 }
 
-/// Reads the data of a program with one parameter of type vec[i64].
-fn read_data(alloc: Global, job: &Job) -> Result<Data, AllocError>
-    ensures { IfOk result (λ found. DataSays job.now found) }
+/// What an accepted program is answered with on arguments of its types.
+fn run_on(alloc: Global, program: &Program, ty: &Ty, arguments: &Vals) -> Result<Answer, AllocError>
+    requires typed { ProgramHas program.now ty.now }
+    requires accepted { IsAccepted program.now }
+    requires fit { ArgumentsFit program.now.params arguments.now }
+    ensures { IfOk result (λ answer. Concludes program.now ty.now arguments.now answer.status answer.text) }
 {
-    let params = one_parameter(alloc)?;
-    match read_arguments(alloc, &params, job) {
-        Ok(arguments) => Ok(Data::Numbers(numbers_from(alloc, arguments)?)),
-        Err(DataStop::Unfit(number, code)) => Ok(Data::Unfit(number, code)),
+    typed_programs_are_never_stuck();
+    match eval_plain(alloc, program, arguments) {
+        Ok(value) => done(alloc, &value, ty),
+        Err(Stop::Fault) => fault(alloc),
+        Err(Stop::Memory) => Err(AllocError),
+    }
+}
+
+/// What an accepted program is answered with on the data of the job.
+fn run_program(alloc: Global, program: &Program, ty: &Ty, job: &Job) -> Result<Answer, AllocError>
+    requires typed { ProgramHas program.now ty.now }
+    requires accepted { IsAccepted program.now }
+    ensures { IfOk result (λ answer. ProgramAnswers program.now ty.now job.now answer.status answer.text) }
+{
+    match read_arguments(alloc, &program.params, job) {
+        Ok(arguments) => run_on(alloc, program, ty, &arguments),
+        Err(DataStop::Unfit(number, code)) => unfit(alloc, number, code),
         Err(DataStop::Memory) => Err(AllocError),
     }
 }
 
-/// What a program's sum over the numbers is answered with.
-fn conclude(alloc: Global, body: Body, numbers: &I64s) -> Result<Answer, AllocError>
-    ensures { IfOk result (λ answer. Concludes (total body numbers.now) answer) }
+/// What `run` answers to a job that isn't too long.
+fn answer_run(alloc: Global, job: &Job) -> Result<Answer, AllocError>
+    ensures { IfOk result (λ answer. RunAnswers job.now answer.status answer.text) }
 {
-    match sum_rows(body, numbers.as_slice()) {
-        Some(value) => done(alloc, value),
-        None => fault(alloc),
+    notes_play_no_part();
+    meaning_looks_past_spelling();
+    match accept_text(alloc, job.text.as_slice()) {
+        Ok(checked) => run_program(alloc, checked.program.program(), &checked.ty, job),
+        Err(refusal) => refused(alloc, refusal),
+    }
+}
+
+/// What `check` answers to a job that isn't too long.
+fn answer_check(alloc: Global, job: &Job) -> Result<Answer, AllocError>
+    ensures { IfOk result (λ answer. CheckAnswers job.now answer.status answer.text) }
+{
+    match accept_text(alloc, job.text.as_slice()) {
+        Ok(checked) => told(alloc, &checked.ty),
+        Err(refusal) => refused(alloc, refusal),
     }
 }
 
 /// The answer to a job that isn't too long.
-fn answer_parts(alloc: Global, job: &Job) -> Result<Answer, AllocError>
-    ensures { IfOk result (λ answer. AnswersParts job.now answer.status answer.text) }
+fn answer_parts(alloc: Global, task: Task, job: &Job) -> Result<Answer, AllocError>
+    ensures { IfOk result (λ answer. AnswersParts task job.now answer.status answer.text) }
 {
-    let Some(body) = read_first_form(job.text.as_slice()) else {
-        return refusal(alloc, Code::X0);
-    };
-    match read_data(alloc, job)? {
-        Data::Numbers(numbers) => conclude(alloc, body, &numbers),
-        Data::Unfit(number, code) => unfit(alloc, number, code),
+    match task {
+        Task::Run => answer_run(alloc, job),
+        Task::Check => answer_check(alloc, job),
     }
 }
 
 /// Reads a job and finds its answer. Of a job that is too long it takes just one byte more than the limit;
 /// else it reads to the end, but where a read fails or memory is wanting.
 #[tactic(auto, using(crate::proofs::Answering::parts_answer, crate::proofs::Answering::parts_status, crate::proofs::Answering::within_extent, crate::proofs::Answering::over_extent))]
-pub fn read_answer<S: Source>(alloc: Global, input: &mut S) -> Result<Answer, NoAnswer>
-    ensures ok { IfOk result (λ answer. IfSome (S.left input.old) (λ bytes. Answers bytes answer.status answer.text)) }
+pub fn read_answer<S: Source>(alloc: Global, task: Task, input: &mut S) -> Result<Answer, NoAnswer>
+    ensures ok { IfOk result (λ answer. IfSome (S.left input.old) (λ bytes. Answers task bytes answer.status answer.text)) }
     ensures status { IfOk result (λ answer. IsOfJob answer.status) }
     ensures extent { OnOk result (Extent (S.left input.old) (S.left input.new)) }
     ensures read { result ≡ Err NoAnswer.Read → Rises (S.faults input.old) (S.faults input.new) }
@@ -144,11 +198,11 @@ pub fn read_answer<S: Source>(alloc: Global, input: &mut S) -> Result<Answer, No
     ensures never_falls { S.faults input.old ≤ S.faults input.new }
 {
     match read_job(alloc, input) {
-        Ok(job) => match answer_parts(alloc, &job) {
+        Ok(job) => match answer_parts(alloc, task, &job) {
             Ok(answer) => Ok(answer),
             Err(_) => Err(NoAnswer::Memory),
         },
-        Err(JobFault::TooLong) => match refusal(alloc, Code::M1) {
+        Err(JobFault::TooLong) => match refused(alloc, Refusal::Size(Code::M1)) {
             Ok(answer) => Ok(answer),
             Err(_) => Err(NoAnswer::Memory),
         },

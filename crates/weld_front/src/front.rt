@@ -2,12 +2,13 @@ ghost use Rattle.std.specs.Prelude.{◌≡◌, ◌≢◌, ◌≤◌, ◌⊎◌, 
 ghost use Rattle.std.specs.Io.KnownBytes.{Appends};
 ghost use Rattle.weld_ports.specs.Faults.{Rises, IsSettled};
 ghost use Rattle.weld_job.specs.Reading.{Takes};
-ghost use Rattle.weld_front.specs.Answer.{IsRun, Delivers, DeliversFront, AppendsFront, IsWritten, IsSilent, IsFound, IsOfJob, Extent, Completes, usage_text};
+ghost use Rattle.weld_front.specs.Answer.{AreServed, DeliversFor, DeliversFrontFor, AppendsFront, IsWritten, IsSilent, IsFound, IsOfJob, Extent, CompletesFor};
+ghost use Rattle.weld_front.specs.Texts.{usage_text};
 
 use crate::answer::{NoAnswer, read_answer};
 use crate::deliver::deliver;
 use crate::status::Status;
-use crate::words::{USAGE, is_run};
+use crate::words::{USAGE, read_task};
 use std::alloc::Global;
 use weld_ports::{Gate, Sink, Source};
 
@@ -24,42 +25,42 @@ pub fn weld_main<S: Source, K: Sink, G: Gate>(
     _gate: &G,
 ) -> Status
     // The answer of the job, where the source tells its bytes: its status, and its text in the sink.
-    ensures done { result ≡ Status.Done → Delivers (S.left input.old) (K.held output.old) (K.held output.new) Status.Done }
-    ensures fault { result ≡ Status.Fault → Delivers (S.left input.old) (K.held output.old) (K.held output.new) Status.Fault }
-    ensures refused { result ≡ Status.Refused → Delivers (S.left input.old) (K.held output.old) (K.held output.new) Status.Refused }
-    ensures unfit { result ≡ Status.Unfit → Delivers (S.left input.old) (K.held output.old) (K.held output.new) Status.Unfit }
+    ensures done { result ≡ Status.Done → DeliversFor (map string_bytes words.now) (S.left input.old) (K.held output.old) (K.held output.new) Status.Done }
+    ensures fault { result ≡ Status.Fault → DeliversFor (map string_bytes words.now) (S.left input.old) (K.held output.old) (K.held output.new) Status.Fault }
+    ensures refused { result ≡ Status.Refused → DeliversFor (map string_bytes words.now) (S.left input.old) (K.held output.old) (K.held output.new) Status.Refused }
+    ensures unfit { result ≡ Status.Unfit → DeliversFor (map string_bytes words.now) (S.left input.old) (K.held output.old) (K.held output.new) Status.Unfit }
 
-    // Where the words are in form and no call failed, the status is that of the job, or memory was wanting.
-    ensures complete { IsRun (map string_bytes words.now) → (Rises (S.faults input.old) (S.faults input.new) → ⊥)
-        → (Rises (K.faults output.old) (K.faults output.new) → ⊥) → Completes (S.left input.old) result }
+    // Where the words ask for what is built and no call failed, the status is that of the job, or memory was wanting.
+    ensures complete { AreServed (map string_bytes words.now) → (Rises (S.faults input.old) (S.faults input.new) → ⊥)
+        → (Rises (K.faults output.old) (K.faults output.new) → ⊥) → CompletesFor (map string_bytes words.now) (S.left input.old) result }
 
     // Words that aren't in form, or ask for what isn't built yet: nothing is read, and the usage line is written.
     ensures words { result ≡ Status.Words → Appends (K.held output.old) (K.held output.new) usage_text }
-    ensures words_only { result ≡ Status.Words → IsRun (map string_bytes words.now) → ⊥ }
-    ensures words_always { (IsRun (map string_bytes words.now) → ⊥) → (result ≡ Status.Words) ⊎ ((result ≡ Status.Write) ⊎ (result ≡ Status.Memory)) }
-    ensures unread { (IsRun (map string_bytes words.now) → ⊥) → (S.left input.new ≡ S.left input.old) × (S.faults input.new ≡ S.faults input.old) }
+    ensures words_only { result ≡ Status.Words → AreServed (map string_bytes words.now) → ⊥ }
+    ensures words_always { (AreServed (map string_bytes words.now) → ⊥) → (result ≡ Status.Words) ⊎ ((result ≡ Status.Write) ⊎ (result ≡ Status.Memory)) }
+    ensures unread { (AreServed (map string_bytes words.now) → ⊥) → (S.left input.new ≡ S.left input.old) × (S.faults input.new ≡ S.faults input.old) }
 
     // Failures have their cause in a count, and leave a front of the answer or nothing.
     ensures read { result ≡ Status.Read → Rises (S.faults input.old) (S.faults input.new) }
     ensures write { result ≡ Status.Write → Rises (K.faults output.old) (K.faults output.new) }
-    ensures write_front { result ≡ Status.Write → IsRun (map string_bytes words.now) → DeliversFront (S.left input.old) (K.held output.old) (K.held output.new) }
-    ensures usage_front { result ≡ Status.Write → (IsRun (map string_bytes words.now) → ⊥) → AppendsFront (K.held output.old) (K.held output.new) usage_text }
+    ensures write_front { result ≡ Status.Write → AreServed (map string_bytes words.now) → DeliversFrontFor (map string_bytes words.now) (S.left input.old) (K.held output.old) (K.held output.new) }
+    ensures usage_front { result ≡ Status.Write → (AreServed (map string_bytes words.now) → ⊥) → AppendsFront (K.held output.old) (K.held output.new) usage_text }
     ensures silent { IsSilent result → (K.held output.new ≡ K.held output.old) × (K.settled output.new ≡ K.settled output.old) × (K.faults output.new ≡ K.faults output.old) }
 
     // What a call leaves.
     ensures unsettled { result ≡ Status.Write → K.settled output.new ≡ K.settled output.old }
     ensures settled { IsWritten result → IsSettled (K.held output.new) (K.settled output.new) }
-    ensures extent { IsRun (map string_bytes words.now) → IsFound result → Extent (S.left input.old) (S.left input.new) }
+    ensures extent { AreServed (map string_bytes words.now) → IsFound result → Extent (S.left input.old) (S.left input.new) }
     ensures taken { Takes (S.left input.old) (S.left input.new) }
     ensures source_never_falls { S.faults input.old ≤ S.faults input.new }
     ensures sink_never_falls { K.faults output.old ≤ K.faults output.new }
 {
-    match is_run(alloc, words) {
-        Ok(true) => {}
-        Ok(false) => return conclude(output, Status::Words, USAGE),
+    let task = match read_task(alloc, words) {
+        Ok(Some(task)) => task,
+        Ok(None) => return conclude(output, Status::Words, USAGE),
         Err(_) => return Status::Memory,
-    }
-    match read_answer(alloc, input) {
+    };
+    match read_answer(alloc, task, input) {
         Ok(answer) => conclude(output, answer.status, answer.text.as_slice()),
         Err(NoAnswer::Read) => Status::Read,
         Err(NoAnswer::Memory) => Status::Memory,

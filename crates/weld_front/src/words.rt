@@ -1,5 +1,5 @@
-ghost use Rattle.std.specs.Prelude.{◌≡◌, ◌↔◌, false, IsTrue, IfOk, map, string_bytes};
-ghost use Rattle.weld_front.specs.Answer.{IsRun};
+ghost use Rattle.std.specs.Prelude.{◌≡◌, false, map, string_bytes, IfOk, IfSome, IfNone};
+ghost use Rattle.weld_front.specs.Answer.{command_of, Asks, AreServed};
 
 use std::alloc::{AllocError, Global};
 use weld_words::laws::one_reading;
@@ -9,25 +9,40 @@ use weld_words::{Command, Options, WordsFault, read_words};
 pub const USAGE: &[u8] =
     b"usage: weld run|check|show|session|soak [--workers N] [--cut N] [--report] [--seed N] [--rows N]\n";
 
-/// Whether the options ask for what is built: `run`, without a report.
-fn runs(options: &Options) -> bool
-    ensures { IsTrue result ↔ ((options.now.command ≡ Command.Run) × (options.now.report ≡ false)) }
+/// What the program is asked to do, of all that is built.
+#[derive(Clone, Copy, Debug, PartialEq, Eq)]
+pub enum Task {
+    /// Run a job's program on its data.
+    Run,
+    /// Tell the type of a job's program, or why it is refused.
+    Check,
+}
+
+/// What the options ask for, where it is built.
+fn task_of(options: &Options) -> Option<Task>
+    ensures found { IfSome result (λ task. (options.now.command ≡ command_of task) × (options.now.report ≡ false)) }
+    ensures none { IfNone result ((task : Task) → options.now.command ≡ command_of task → options.now.report ≡ false → ⊥) }
 {
+    if options.report {
+        return None;
+    }
     match options.command {
-        Command::Run => !options.report,
-        _ => false,
+        Command::Run => Some(Task::Run),
+        Command::Check => Some(Task::Check),
+        _ => None,
     }
 }
 
-/// Whether the words after the program's name are in form and ask for `run` without a report. It fails for want
-/// of memory alone.
-pub fn is_run(alloc: Global, words: &[String]) -> Result<bool, AllocError>
-    ensures { IfOk result (λ answer. IsTrue answer ↔ IsRun (map string_bytes words.now)) }
+/// What the words after the program's name ask for, where they are in form and it is built. It fails for want of
+/// memory alone.
+pub fn read_task(alloc: Global, words: &[String]) -> Result<Option<Task>, AllocError>
+    ensures found { IfOk result (λ asked. IfSome asked (Asks (map string_bytes words.now))) }
+    ensures none { IfOk result (λ asked. IfNone asked (AreServed (map string_bytes words.now) → ⊥)) }
 {
     one_reading();
     match read_words(alloc, words) {
-        Ok(options) => Ok(runs(&options)),
-        Err(WordsFault::Form) => Ok(false),
+        Ok(options) => Ok(task_of(&options)),
+        Err(WordsFault::Form) => Ok(None),
         Err(WordsFault::Memory) => Err(AllocError),
     }
 }

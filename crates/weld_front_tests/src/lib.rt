@@ -4,6 +4,5 @@
 //! case below cases/.
 #![tactic(auto)]
 
-pub mod plain;
 #[cfg(test)]
 mod tests;

@@ -1,9 +1,7 @@
 ghost use Rattle.std.specs.Prelude.{◌≤◌};
 
-use crate::plain::plain_total;
 use std::alloc::{AllocError, Global};
 use std::test::Fail;
-use weld_front::first_form::{Atom, Body, Operator};
 use weld_front::{Status, weld_main};
 use weld_ports::{MemorySink, MemorySource, NoGate};
 
@@ -47,14 +45,15 @@ const SQUARES: &str =
 /// A word, a job and the answer.
 type Case = (&'static str, &'static str, &'static str);
 
-static CASES: [Case; 4] = [
+static CASES: [Case; 5] = [
     ("run", SQUARES, "14\n"),
     (
         "run",
         "|v: vec[i64]| result(for(v, merger[i64,+], |b,i,x| merge(b, 1L / x)))\n%%\n%value\n[0]",
         "fault\n",
     ),
-    ("run", "y", "refused X0\n"),
+    ("run", "y", "refused N1 at 1:1\n"),
+    ("check", SQUARES, "ok i64\n"),
     (
         "walk",
         "",
@@ -117,50 +116,6 @@ fn failing_and_short_reads(rt: HostRuntime) -> Result<(), Fail> {
     for step in 1..10 {
         let outcome = call(rt.alloc(), "run", SQUARES, (step, step), (100, 0))?;
         assert_eq!(rt; outcome.held.as_slice(), b"14\n".as_slice(), "step {step}");
-    }
-    Ok(())
-}
-
-/// A job, its expression and its vector as they are to be read.
-type Meant = (&'static str, Body, &'static [i64]);
-
-static MEANT: [Meant; 4] = [
-    (
-        SQUARES,
-        Body::Two(Operator::Times, Atom::Element, Atom::Element),
-        &[1, 2, 3],
-    ),
-    (
-        "|v: vec[i64]| result(for(v, merger[i64,+], |b,i,x| merge(b, i - x)))\n%%\n%value\n[7,-7]",
-        Body::Two(Operator::Minus, Atom::Row, Atom::Element),
-        &[7, -7],
-    ),
-    (
-        "|v: vec[i64]| result(for(v, merger[i64,+], |b,i,x| merge(b, 10L / x)))\n%%\n%value\n[-3,4]",
-        Body::Two(Operator::Over, Atom::Literal(10), Atom::Element),
-        &[-3, 4],
-    ),
-    (
-        "|v: vec[i64]| result(for(v, merger[i64,+], |b,i,x| merge(b, x / i)))\n%%\n%value\n[5]",
-        Body::Two(Operator::Over, Atom::Element, Atom::Row),
-        &[5],
-    ),
-];
-
-/// Whether what is written is what the plain slow program finds, row after row.
-fn is_meant(alloc: Global, meant: &Meant) -> Result<bool, AllocError> {
-    let answer = match plain_total(meant.1, 0, 0, meant.2) {
-        Some(value) => format!(in alloc; "{value}\n")?,
-        None => String::from_str(alloc, "fault\n")?,
-    };
-    let outcome = call(alloc, "run", meant.0, (1000, 1000), (0, 0))?;
-    Ok(outcome.held.as_slice() == answer.as_bytes())
-}
-
-#[test]
-fn plain_meaning(rt: HostRuntime) -> Result<(), Fail> {
-    for meant in &MEANT {
-        assert!(rt; is_meant(rt.alloc(), meant)?, "{meant:?}");
     }
     Ok(())
 }

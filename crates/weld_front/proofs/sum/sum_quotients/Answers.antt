@@ -1,7 +1,0 @@
-use Rattle.std.proofs.Common.{arith}
-use Rattle.std.proofs.lemmas.Int.{to_z-of_z}
-use Rattle.weld_front.proofs.Sums.{step_from}
-use Rattle.weld_front.proofs.sum.sum_quotients.Goals as goal
-
-pub loop-number-preserved : goal.loop-number-preserved
-loop-number-preserved c = grind (arith, to_z-of_z, step_from)

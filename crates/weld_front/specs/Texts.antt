@@ -1,0 +1,38 @@
+-- The texts that the program writes (this project's profile).
+use Rattle.std.specs.Prelude.{ℕ, List, [], ◌∷◌, ◌++◌, codes}
+use Rattle.std.specs.Fmt.{decimal}
+use Rattle.weld_data.specs.Value.{Value}
+use Rattle.weld_tree.specs.TypeTree.{TypeTree}
+use Rattle.weld_tree.specs.Code.{code_text}
+use Rattle.weld_tree.specs.declared.code.Code.{Code}
+use Rattle.weld_tree.specs.declared.refusal.Refusal.{Refusal}
+use Rattle.weld_tree.specs.declared.refusal.Refusal.TheVariants.{At, Size, Memory}
+use Rattle.weld_values.specs.Showing.{show}
+use Rattle.weld_print_type.specs.TypeText.{type_text}
+
+abbrev pub line : List ℕ → List ℕ
+line text = text ++ 10 ∷ []
+
+-- the value text of a value of the type
+abbrev pub value_text : TypeTree → Value → List ℕ
+value_text t v = line (show t v)
+
+-- the type of a program that is accepted
+abbrev pub ok_text : TypeTree → List ℕ
+ok_text t = line (codes "ok " ++ type_text t)
+
+abbrev pub fault_text : List ℕ
+fault_text = line (codes "fault")
+
+-- the code of a refusal, and its place where it has one
+abbrev pub refusal_text : Refusal → List ℕ
+refusal_text (At code place) = line (codes "refused " ++ code_text code ++ codes " at " ++ decimal place.line ++ codes ":" ++ decimal place.column)
+refusal_text (Size code) = line (codes "refused " ++ code_text code)
+refusal_text Memory = []
+
+-- the parameter that data don't fit, and the code
+abbrev pub unfit_text : ℕ → Code → List ℕ
+unfit_text number code = line (codes "parameter " ++ decimal number ++ codes ": " ++ code_text code)
+
+abbrev pub usage_text : List ℕ
+usage_text = line (codes "usage: weld run|check|show|session|soak [--workers N] [--cut N] [--report] [--seed N] [--rows N]")
