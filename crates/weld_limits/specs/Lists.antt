@@ -2,25 +2,13 @@
 -- Weld). They are read of tokens that derive a program.
 use Rattle.std.specs.Prelude.{ℕ, ◌+◌, ◌-◌, Bool, true, false, ◌||◌, ◌&&◌, ◌==◌, nat_le, if◌then◌else◌, List, [], ◌∷◌, Option, Some, None}
 use Rattle.weld_tree.specs.declared.place.Place.{Place}
-use Rattle.weld_terminals.specs.declared.symbol.Symbol.TheVariants.{LeftParen, RightParen, LeftBracket, RightBracket, LeftBrace, RightBrace, Comma, Colon, Bar}
+use Rattle.weld_terminals.specs.declared.symbol.Symbol.TheVariants.{LeftParen, LeftBracket, LeftBrace, Comma, Colon, Bar}
 use Rattle.weld_terminals.specs.declared.reserved.Reserved.TheVariants.{Zip, Vec, Dict, Bool as BoolWord, I8, U8, I32, I64, Vecbuilder, Appender, Merger, Dictmerger, Vecmerger, Groupbuilder, Groupmerger}
 use Rattle.weld_terminals.specs.declared.class.Class.{Class}
 use Rattle.weld_terminals.specs.declared.class.Class.TheVariants as classes
 use Rattle.weld_terminals.specs.declared.token.Token.{Token}
+use Rattle.weld_tokens.specs.TokenLimits.{is_opening, is_closing}
 use Rattle.weld_limits.specs.Depth.{earlier}
-
--- a bracket that opens, or one that closes
-abbrev pub is_opening : Class → Bool
-is_opening (classes.Symbol LeftParen) = true
-is_opening (classes.Symbol LeftBracket) = true
-is_opening (classes.Symbol LeftBrace) = true
-is_opening _ = false
-
-abbrev pub is_closing : Class → Bool
-is_closing (classes.Symbol RightParen) = true
-is_closing (classes.Symbol RightBracket) = true
-is_closing (classes.Symbol RightBrace) = true
-is_closing _ = false
 
 -- `,`, `|`, `:`, `(`, `[` and `{`
 abbrev pub is_comma : Class → Bool

@@ -3,31 +3,8 @@ ghost use Rattle.weld_limits.specs.Lists as lists;
 
 use crate::depth::earlier;
 use weld_terminals::{Class, Reserved, Symbol, Token};
+use weld_tokens::{is_closing, is_opening};
 use weld_tree::Place;
-
-/// Whether the token is a bracket that opens.
-fn is_opening(class: Class) -> bool
-    ensures { result ≡ lists.is_opening class }
-{
-    match class {
-        Class::Symbol(Symbol::LeftParen) => true,
-        Class::Symbol(Symbol::LeftBracket) => true,
-        Class::Symbol(Symbol::LeftBrace) => true,
-        _ => false,
-    }
-}
-
-/// Whether the token is a bracket that closes.
-fn is_closing(class: Class) -> bool
-    ensures { result ≡ lists.is_closing class }
-{
-    match class {
-        Class::Symbol(Symbol::RightParen) => true,
-        Class::Symbol(Symbol::RightBracket) => true,
-        Class::Symbol(Symbol::RightBrace) => true,
-        _ => false,
-    }
-}
 
 /// Whether the token is `,`.
 fn is_comma(class: Class) -> bool

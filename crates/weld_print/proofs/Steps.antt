@@ -8,7 +8,7 @@ use Rattle.weld_tree.specs.ExprTree.{ExprTree, pack_exprs, pack_legs}
 use Rattle.weld_tree.specs.ExprFalls.{leg_nodes, legs_nodes}
 use Rattle.weld_tree.specs.ExprView.{view_leg}
 use Rattle.weld_tree.specs.Program.{bound, bound_in, bound_in_leg, bound_in_legs, syms_of}
-use Rattle.weld_values.specs.Showing.{shown_byte}
+use Rattle.weld_write_value.specs.Showing.{shown_byte}
 use Rattle.weld_print.specs.PrintText.{items_text, expr_text, exprs_text, leg_text, legs_text, rows_text, binder_text, binders_text}
 
 -- one part more

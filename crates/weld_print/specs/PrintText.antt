@@ -10,7 +10,7 @@ use Rattle.weld_tree.specs.TypeTree.{TypeTree}
 use Rattle.weld_tree.specs.ExprTree.{ExprTree, leaf, one, two, three, many, let_in, loop, iterate, ExprTrees, no_exprs, more_exprs, LegTree, whole, strided, LegTrees, no_legs, more_legs, Leaf, int, truth, chars, name, fresh, One, neg, not, cast, len, field, finish, started, Two, binary, and, or, look_up, key_exists, merge, Three, if_else, select, slice, Many, make_vec, make_struct}
 use Rattle.weld_tree.specs.Program.{ProgramTree, syms_of, bound}
 use Rattle.weld_tree.specs.Blank.{distance}
-use Rattle.weld_values.specs.Showing.{shown_byte}
+use Rattle.weld_write_value.specs.Showing.{shown_byte}
 use Rattle.weld_print_type.specs.TypeText.{kind_text, type_text, build_text}
 use Rattle.weld_print.specs.Operands.{part_in_parens, side_in_parens, value_in_parens}
 

@@ -3,7 +3,6 @@
 ghost use Rattle.std.specs.Prelude.{◌≡◌, ◌<◌, ◌++◌, codes, OnOk, if◌then◌else◌};
 ghost use Rattle.std.specs.Fmt.{decimal, signed_decimal};
 ghost use Rattle.weld_tree.specs.ExprView.{view_leaf, view_one, view_two, view_three, view_many};
-ghost use Rattle.weld_values.specs.Showing.{hex_of, shown_byte};
 ghost use Rattle.weld_print.specs.PrintText.{name_text, binder_text, kind_end, items_text, leaf_text, one_front, one_back, op_between, two_front, two_between, two_back, three_front};
 
 use crate::names::Names;
@@ -12,26 +11,7 @@ use std::alloc::AllocError;
 use weld_data::{BinOp, Kind, Text};
 use weld_print_type::{kind_word, write_build, write_type};
 use weld_tree::{Binder, LeafForm, OneForm, Sym, ThreeForm, TwoForm};
-
-/// A lower-case hexadecimal digit.
-fn hex_of(n: u8) -> u8
-    requires { n < 16 }
-    ensures { result ≡ hex_of n }
-{
-    if n < 10 { n + b'0' } else { n - 10 + b'a' }
-}
-
-/// Appends a byte of a string.
-fn write_byte(byte: u8, out: &mut Text) -> Result<(), AllocError>
-    ensures { OnOk result (out.new ≡ out.old ++ shown_byte byte) }
-{
-    match byte {
-        b'"' => out.push_all(b"\\\""),
-        b'\\' => out.push_all(b"\\\\"),
-        b' '..=b'~' => out.push(byte),
-        _ => out.push_all(&[b'\\', b'x', hex_of(byte / 16), hex_of(byte % 16)]),
-    }
-}
+use weld_write_value::write_byte;
 
 /// Appends the bytes of a string, with the escapes of value text.
 fn write_items(bytes: &[u8], out: &mut Text) -> Result<(), AllocError>

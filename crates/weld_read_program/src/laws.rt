@@ -1,6 +1,6 @@
 //! Laws of what is read: how the tree of a production stands at the front of the tokens, what it spells and which of
 //! its names is refused first, once that is known of its parts. Each function's contract is the law; its body does
-//! nothing. The cycle of readers of expressions stands on these, and comes next.
+//! nothing. The cycle of readers of expressions (weld_read_expression) stands on these.
 ghost use Rattle.std.specs.Prelude.{◌≡◌, true, List, [], ◌∷◌, ◌++◌, None, ◌+◌, false};
 ghost use Rattle.weld_grammar.specs.Derivation.{leaf};
 ghost use Rattle.weld_grammar.specs.declared.terminal.Terminal.TheVariants.{Sign, Fixed, Number};

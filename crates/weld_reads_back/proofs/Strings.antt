@@ -6,7 +6,7 @@ use Rattle.weld_terminals.specs.declared.class.Class.TheVariants as classes
 use Rattle.weld_tokens.specs.Bytes.{is_hex, is_plain}
 use Rattle.weld_tokens.specs.Words.{class_of, ends_string}
 use Rattle.weld_tokens.specs.Literals.{string_value, items_value, hex_value}
-use Rattle.weld_values.specs.Showing.{shown_byte, hex_of}
+use Rattle.weld_write_value.specs.Showing.{shown_byte, hex_of}
 use Rattle.weld_print.specs.PrintText.{items_text}
 use Rattle.weld_reads_back.specs.Spellable.{AreBytes}
 use Rattle.weld_reads_back.proofs.Longest.{Lexeme, NoneLonger, lexeme}

@@ -12,7 +12,9 @@ mod reserved;
 pub mod scan;
 mod token_at;
 
-pub use limits::{first_long_name, has_too_many_bytes, has_too_many_tokens};
+pub use limits::{
+    first_long_name, has_too_many_bytes, has_too_many_tokens, is_closing, is_opening,
+};
 pub use literals::{chars_of, field_of, literal_of};
 pub use order::{Findings, first_number_out_of_range, first_out_of_range, first_refusal};
 pub use place::end_of;

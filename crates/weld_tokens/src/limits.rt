@@ -11,8 +11,8 @@ pub fn has_too_many_bytes(text: &[u8]) -> bool
     text.len() > 262_144
 }
 
-/// Whether the token is a bracket that opens.
-fn is_opening(class: Class) -> bool
+/// Whether the token is a bracket that opens, of whatever shape.
+pub fn is_opening(class: Class) -> bool
     ensures { result ≡ limits.is_opening class }
 {
     match class {
@@ -23,8 +23,8 @@ fn is_opening(class: Class) -> bool
     }
 }
 
-/// Whether the token is a bracket that closes.
-fn is_closing(class: Class) -> bool
+/// Whether the token is a bracket that closes, of whatever shape.
+pub fn is_closing(class: Class) -> bool
     ensures { result ≡ limits.is_closing class }
 {
     match class {

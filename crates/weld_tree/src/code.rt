@@ -1,9 +1,8 @@
 /// The code of a refusal. Its letter says which rules refuse: X tokens, the grammar and the range of
-/// literals; M sizes; N names; Y types; L linear use of builders; S scripts; Q macros; Z what isn't
-/// built yet; a word a data block.
+/// literals; M sizes; N names; Y types; L linear use of builders; S scripts; Q macros; a word a data
+/// block.
 #[derive(Clone, Copy, Debug, PartialEq, Eq)]
 pub enum Code {
-    X0,
     X1,
     X2,
     X3,
@@ -68,7 +67,6 @@ pub enum Code {
     Q3,
     Q4,
     Q5,
-    Z0,
     Missing,
     Extra,
     Form,
@@ -87,7 +85,6 @@ impl Code {
         ensures { result.now ≡ code_text self.now }
     {
         match self {
-            Code::X0 => "X0",
             Code::X1 => "X1",
             Code::X2 => "X2",
             Code::X3 => "X3",
@@ -152,7 +149,6 @@ impl Code {
             Code::Q3 => "Q3",
             Code::Q4 => "Q4",
             Code::Q5 => "Q5",
-            Code::Z0 => "Z0",
             Code::Missing => "MISSING",
             Code::Extra => "EXTRA",
             Code::Form => "FORM",

@@ -4,4 +4,4 @@
 mod cell;
 mod write;
 
-pub use write::{is_i8, write_value};
+pub use write::{is_i8, write_byte, write_value};

@@ -40,8 +40,9 @@ fn hex_of(n: u8) -> u8
     if n < 10 { n + b'0' } else { n - 10 + b'a' }
 }
 
-/// Appends a byte of a string.
-fn write_byte(byte: u8, out: &mut Text) -> Result<(), AllocError>
+/// Appends a byte of a string as value text has it: `"` and `\` behind a `\`, a byte that isn't printed as `\x` and two
+/// hexadecimal digits, any other as it is. An error is want of memory; then a front of that may be appended.
+pub fn write_byte(byte: u8, out: &mut Text) -> Result<(), AllocError>
     ensures { OnOk result (out.new ≡ out.old ++ shown_byte byte) }
 {
     match byte {
