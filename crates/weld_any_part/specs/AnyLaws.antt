@@ -1,6 +1,6 @@
 -- A part without what it has merged is what it started as, field by field.
 use Rattle.std.proofs.Common.{◌≡◌, refl, ap, ap₂}
-use Rattle.weld_builders.specs.Builder.{Builder, Builders, parts, and_builder, bare_builder, bare_builders}
+use Rattle.weld_builders.specs.Builder.{parts, and_builder, bare_builder, bare_builders}
 use Rattle.weld_pieces.specs.Kept.{started, all_started}
 use Rattle.weld_any_part.specs.Any.{builder_of, builders_of, kept_of, kepts_of}
 use Rattle.weld_any_part.specs.OneLaws.{bare_of_one}

@@ -2,7 +2,6 @@
 #![tactic(auto)]
 
 pub mod any;
-mod fields;
 pub mod laws;
 pub mod one;
 

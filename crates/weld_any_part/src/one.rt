@@ -7,12 +7,12 @@ ghost use Rattle.weld_pieces.specs.Total.{part_of_cells};
 ghost use Rattle.weld_pieces.specs.Keyed.{part_of_keyed};
 ghost use Rattle.weld_groups.specs.Groups.{part_of_groups};
 
-use crate::fields::{as_number, two_fields};
 use std::alloc::{AllocError, Global};
 use weld_data::{Kind, Stop, Val};
 use weld_groups::GroupsPart;
 use weld_groups::groups::{GroupsItem, GroupsShape};
 use weld_pieces::cells::{CellItem, CellsShape};
+use weld_pieces::fields::{as_number, two_fields};
 use weld_pieces::keyed::{KeyedItem, KeyedShape};
 use weld_pieces::total::TotalShape;
 use weld_pieces::{CellsPart, KeyedPart, ListPart, Part, TotalPart};

@@ -1,3 +1,5 @@
+pub mod CellsState
 pub mod Logged
+pub mod Pair
 pub mod PartCode
 pub mod State

@@ -1,22 +1,10 @@
--- Builders as what was merged into them, one item after another.
-use Rattle.std.specs.Prelude.{Option, None, List, [], ◌∷◌, length}
+-- What can be merged into a builder, and when it has a result.
+use Rattle.std.specs.Prelude.{None, length}
 use Rattle.weld_data.specs.Value.{Value}
-use Rattle.weld_builders.specs.Outcome.{Outcome, done, fault, stuck}
 use Rattle.weld_builders.specs.Builder.{item}
-use Rattle.weld_builders.specs.Part.{Part, list_part, total_part, cells_part, keyed_part, groups_part, merge_part}
+use Rattle.weld_builders.specs.Part.{Part, list_part, total_part, cells_part, keyed_part, groups_part}
 use Rattle.weld_pieces.specs.Kept.{Kept, kept_list, kept_total, kept_cells, kept_keyed, kept_groups, Takes}
 use Rattle.weld_pieces.specs.Keyed.{KeysAreKept, HasOneKeyType}
-
--- what a merge is done with, or what was there before
-abbrev pub or_before : Part → Outcome Part → Part
-or_before p (done q) = q
-or_before p fault = p
-or_before p stuck = p
-
--- the builder after merges, the first item first; what can't be merged is left out
-abbrev pub logged : Part → List Value → Part
-logged p [] = p
-logged p (v ∷ vs) = logged (or_before p (merge_part p v)) vs
 
 -- how a builder is kept whose items and keys are kept as values
 abbrev pub plain_kept : Part → Kept
@@ -29,11 +17,6 @@ plain_kept (groups_part m) = kept_groups None None
 -- the value is an item of the builder: any value for a list, a number of its kind, with an index, or with a key; a value with a key
 abbrev pub IsItemOf : Part → Value → Type 0
 IsItemOf p v = Takes (plain_kept p) (item v)
-
--- each of them is an item that a builder takes that is kept so
-abbrev pub AreTaken : Kept → List Value → Type 0
-AreTaken k [] = Unit {0}
-AreTaken k (v ∷ vs) = Takes k (item v) × AreTaken k vs
 
 -- the keys are of one type, so that there is a dictionary of them
 abbrev pub HasResult : Part → Type 0

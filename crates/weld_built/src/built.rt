@@ -1,19 +1,25 @@
-ghost use Rattle.std.specs.Prelude.{◌≡◌, OnOk};
+ghost use Rattle.std.specs.Prelude.{◌≡◌, IfOk, OnOk};
+ghost use Rattle.weld_data.specs.Kind.{InRange};
+ghost use Rattle.weld_data.specs.Value.{number};
 ghost use Rattle.weld_data.specs.View.{view_val};
-ghost use Rattle.weld_builders.specs.Part.{shape_of, merge_part, after_part};
+ghost use Rattle.weld_builders.specs.Part.{shape_of, bare, merge_part, after_part, result_of};
 ghost use Rattle.weld_builders.specs.Range.{IsInRange};
-ghost use Rattle.weld_built.specs.Logged.{IsItemOf};
+ghost use Rattle.weld_built.specs.Logged.{IsItemOf, HasResult};
+ghost use Rattle.weld_built.specs.Pair.{pair};
 ghost use Rattle.weld_built.specs.State.{MergeAnswer, part_of_state, IsState};
 
-use crate::replay::{append, combined, log, replay};
+use crate::cells::{Cells, copy_of_cells, finish_cells, join_cells, merge_cell, shape_of_cells};
+use crate::fitting::number_of;
+use crate::groups::{join_groups, push_item};
+use crate::keyed::{join_keyed, merge_number, merge_value};
+use crate::list;
 use std::alloc::{AllocError, Global};
 use std::marker::Model;
-use weld_any_part::OneShape;
-use weld_data::{Kind, MergeOp, Num, Stop, Val, Vals, neutral};
-use weld_groups::groups::GroupsShape;
-use weld_pieces::Part;
+use weld_data::{Kind, MergeOp, Num, Stop, Val};
+use weld_groups::GroupsPart;
 use weld_pieces::cells::CellsShape;
-use weld_pieces::keyed::KeyedShape;
+use weld_pieces::fields::{as_number, two_fields};
+use weld_pieces::{KeyedPart, ListPart, Part, TotalPart};
 
 /// A builder of one of the five kinds with what was merged into it. Contracts see it as plain data.
 #[derive(Drop)]
@@ -21,11 +27,14 @@ pub struct Built {
     state: State,
 }
 
-/// A total is its number; the others are their items.
+/// What was merged. The memory that may be wanted lies beside it.
 #[derive(Drop)]
 enum State {
-    Total(MergeOp, Num),
-    Logged(OneShape, Vals),
+    Total(TotalPart),
+    List(Global, ListPart),
+    Cells(Cells),
+    Keyed(Global, KeyedPart),
+    Groups(Global, GroupsPart),
 }
 
 impl Model for Built {
@@ -45,11 +54,13 @@ impl Model for Built {
 
 impl Built {
     ghost use Rattle.std.specs.Prelude.{◌≡◌, IfOk, OnOk};
-    ghost use Rattle.weld_data.specs.Kind.{IsInteger};
+    ghost use Rattle.weld_data.specs.Kind.{IsInteger, InRange};
+    ghost use Rattle.weld_data.specs.Value.{number};
     ghost use Rattle.weld_data.specs.View.{view_val};
     ghost use Rattle.weld_builders.specs.Part.{total_part, list_shape, total_shape, cells_shape, keyed_shape, groups_shape, start_part, shape_of, bare, merge_part, after_part, result_of};
     ghost use Rattle.weld_builders.specs.Range.{IsInRange};
     ghost use Rattle.weld_built.specs.Logged.{IsItemOf, HasResult};
+    ghost use Rattle.weld_built.specs.Pair.{pair};
     ghost use Rattle.weld_built.specs.State.{MergeAnswer};
 
     /// A list without items. It takes no memory.
@@ -57,7 +68,7 @@ impl Built {
         ensures { result ≡ start_part list_shape }
     {
         Built {
-            state: State::Logged(OneShape::List(None), Vals::new(alloc)),
+            state: State::List(alloc, ListPart::empty(alloc, None)),
         }
     }
 
@@ -67,7 +78,7 @@ impl Built {
         ensures { result ≡ total_part op start.kind start.value }
     {
         Built {
-            state: State::Total(op, start),
+            state: State::Total(TotalPart::from_number(op, start.kind, start.value as i64)),
         }
     }
 
@@ -76,9 +87,8 @@ impl Built {
         requires { IsInteger kind }
         ensures { result ≡ start_part (total_shape op kind) }
     {
-        let value = neutral(op, kind);
         Built {
-            state: State::Total(op, Num { kind, value }),
+            state: State::Total(TotalPart::neutral(op, kind)),
         }
     }
 
@@ -88,10 +98,7 @@ impl Built {
         ensures { result ≡ start_part (cells_shape op kind count) }
     {
         Built {
-            state: State::Logged(
-                OneShape::Cells(CellsShape { op, kind, count }),
-                Vals::new(alloc),
-            ),
+            state: State::Cells(Cells::Bare(alloc, CellsShape { op, kind, count })),
         }
     }
 
@@ -100,13 +107,8 @@ impl Built {
         requires { IsInteger kind }
         ensures { result ≡ start_part (keyed_shape op kind) }
     {
-        let shape = KeyedShape {
-            key: None,
-            op,
-            kind,
-        };
         Built {
-            state: State::Logged(OneShape::Keyed(shape), Vals::new(alloc)),
+            state: State::Keyed(alloc, KeyedPart::empty(alloc, None, op, kind)),
         }
     }
 
@@ -114,12 +116,8 @@ impl Built {
     pub fn groups(alloc: Global) -> Built
         ensures { result ≡ start_part groups_shape }
     {
-        let shape = GroupsShape {
-            key: None,
-            items: None,
-        };
         Built {
-            state: State::Logged(OneShape::Groups(shape), Vals::new(alloc)),
+            state: State::Groups(alloc, GroupsPart::empty(alloc, None, None)),
         }
     }
 
@@ -127,11 +125,8 @@ impl Built {
     pub fn bare(&self, alloc: Global) -> Built
         ensures { result ≡ bare self.now }
     {
-        match &self.state {
-            State::Total(op, total) => Built::empty_total(*op, total.kind),
-            State::Logged(shape, _) => Built {
-                state: State::Logged(*shape, Vals::new(alloc)),
-            },
+        Built {
+            state: bare_state(&self.state, alloc),
         }
     }
 
@@ -139,11 +134,9 @@ impl Built {
     pub fn copy(&self, alloc: Global) -> Result<Built, AllocError>
         ensures { IfOk result (λ copy. copy ≡ self.now) }
     {
-        match &self.state {
-            State::Total(op, total) => Ok(Built::total(*op, *total)),
-            State::Logged(shape, items) => Ok(Built {
-                state: State::Logged(*shape, items.copy(alloc)?),
-            }),
+        match copied_state(&self.state, alloc) {
+            Ok(state) => Ok(Built { state }),
+            Err(e) => Err(e),
         }
     }
 
@@ -154,6 +147,49 @@ impl Built {
         ensures { MergeAnswer result (merge_part self.old (view_val item)) self.new }
     {
         merge_into(&mut self.state, item)
+    }
+
+    /// Merges an item that is a number of a kind. It makes no value where the builder keeps numbers
+    /// of that kind.
+    #[inline]
+    pub fn merge_number(&mut self, kind: Kind, x: i64) -> Result<(), Stop>
+        requires number { InRange kind x }
+        requires item { IsItemOf self.old (number kind x) }
+        ensures { MergeAnswer result (merge_part self.old (number kind x)) self.new }
+    {
+        number_into(&mut self.state, kind, x)
+    }
+
+    /// Merges an item that is a struct of two numbers, as a number at an index or at a key. It faults
+    /// exactly where the first is an index outside of the cells.
+    #[inline]
+    pub fn merge_pair(&mut self, key_kind: Kind, key: i64, kind: Kind, x: i64) -> Result<(), Stop>
+        requires key { InRange key_kind key }
+        requires number { InRange kind x }
+        requires item { IsItemOf self.old (pair (number key_kind key) (number kind x)) }
+        ensures { MergeAnswer result (merge_part self.old (pair (number key_kind key) (number kind x))) self.new }
+    {
+        pair_into(&mut self.state, key_kind, key, kind, x)
+    }
+
+    /// Merges an item that is a struct of a value and a number, as a number at a key. It faults
+    /// exactly where the first is an index outside of the cells.
+    pub fn merge_at(&mut self, key: Val, kind: Kind, x: i64) -> Result<(), Stop>
+        requires number { InRange kind x }
+        requires item { IsItemOf self.old (pair (view_val key) (number kind x)) }
+        ensures { MergeAnswer result (merge_part self.old (pair (view_val key) (number kind x))) self.new }
+    {
+        values_into(&mut self.state, key, number_of(kind, x))
+    }
+
+    /// Merges an item that is a struct of a number and a value, as a value at a key. It faults exactly
+    /// where the first is an index outside of the cells.
+    pub fn merge_under(&mut self, key_kind: Kind, key: i64, item: Val) -> Result<(), Stop>
+        requires key { InRange key_kind key }
+        requires item { IsItemOf self.old (pair (number key_kind key) (view_val item)) }
+        ensures { MergeAnswer result (merge_part self.old (pair (number key_kind key) (view_val item))) self.new }
+    {
+        values_into(&mut self.state, number_of(key_kind, key), item)
     }
 
     /// Appends what a later builder of the same shape has merged. After want of memory it is only
@@ -174,9 +210,130 @@ impl Built {
     {
         let Built { state } = self;
         match state {
-            State::Total(_, total) => Ok(Val::Num(total)),
-            State::Logged(shape, items) => replay(alloc, &shape, items)?.finish(alloc),
+            State::Total(total) => Ok(Val::Num(total.number())),
+            State::List(_, list) => list.finish(alloc),
+            State::Cells(cells) => finish_cells(cells, alloc),
+            State::Keyed(_, part) => part.finish(alloc),
+            State::Groups(_, part) => part.finish(alloc),
         }
+    }
+}
+
+/// The state that has nothing merged. It keeps items and keys alike.
+fn bare_state(state: &State, alloc: Global) -> State
+    requires { IsState state.now }
+    ensures bare { part_of_state result ≡ bare (part_of_state state.now) }
+    ensures state { IsState result }
+{
+    match state {
+        State::Total(total) => State::Total(TotalPart::neutral(total.op(), total.number().kind)),
+        State::List(_, list) => State::List(alloc, ListPart::empty(alloc, list.kind())),
+        State::Cells(cells) => State::Cells(Cells::Bare(alloc, shape_of_cells(cells))),
+        State::Keyed(_, part) => {
+            let shape = part.shape();
+            let empty = KeyedPart::empty(alloc, shape.key, shape.op, shape.kind);
+            State::Keyed(alloc, empty)
+        }
+        State::Groups(_, part) => {
+            State::Groups(alloc, GroupsPart::empty(alloc, part.key(), part.items()))
+        }
+    }
+}
+
+/// A state that equals this one.
+#[tactic(auto, using(crate::proofs::KeyLemmas::keeps_alike))]
+fn copied_state(state: &State, alloc: Global) -> Result<State, AllocError>
+    requires { IsState state.now }
+    ensures copy { IfOk result (λ copy. part_of_state copy ≡ part_of_state state.now) }
+    ensures state { IfOk result IsState }
+{
+    match state {
+        State::Total(total) => {
+            let number = total.number();
+            let copy = TotalPart::from_number(total.op(), number.kind, number.value as i64);
+            Ok(State::Total(copy))
+        }
+        State::List(_, list) => Ok(State::List(alloc, list.copy(alloc)?)),
+        State::Cells(cells) => Ok(State::Cells(copy_of_cells(cells, alloc)?)),
+        State::Keyed(_, part) => Ok(State::Keyed(alloc, part.copy_as(alloc, part.key())?)),
+        State::Groups(_, part) => Ok(State::Groups(
+            alloc,
+            part.copy_as(alloc, part.key(), part.items())?,
+        )),
+    }
+}
+
+/// Merges a number.
+#[inline(always)]
+fn number_into(state: &mut State, kind: Kind, x: i64) -> Result<(), Stop>
+    requires state { IsState state.old }
+    requires number { InRange kind x }
+    requires item { IsItemOf (part_of_state state.old) (number kind x) }
+    ensures answer { MergeAnswer result (merge_part (part_of_state state.old) (number kind x)) (part_of_state state.new) }
+    ensures state { IsState state.new }
+{
+    match state {
+        State::Total(total) => {
+            total.merge_number(x);
+            return Ok(());
+        }
+        State::List(alloc, items) => match list::push_number(*alloc, items, kind, x) {
+            Ok(()) => return Ok(()),
+            Err(_) => return Err(Stop::Memory),
+        },
+        _ => unreachable!(),
+    }
+}
+
+/// Merges a struct of two numbers.
+#[inline(always)]
+fn pair_into(state: &mut State, key_kind: Kind, key: i64, kind: Kind, x: i64) -> Result<(), Stop>
+    requires state { IsState state.old }
+    requires key { InRange key_kind key }
+    requires number { InRange kind x }
+    requires item { IsItemOf (part_of_state state.old) (pair (number key_kind key) (number kind x)) }
+    ensures answer { MergeAnswer result (merge_part (part_of_state state.old) (pair (number key_kind key) (number kind x))) (part_of_state state.new) }
+    ensures state { IsState state.new }
+{
+    match state {
+        State::Cells(cells) => return merge_cell(cells, key, x),
+        State::Keyed(alloc, part) => match merge_number(*alloc, part, key_kind, key, x) {
+            Ok(()) => return Ok(()),
+            Err(_) => return Err(Stop::Memory),
+        },
+        _ => return values_into(state, number_of(key_kind, key), number_of(kind, x)),
+    }
+}
+
+/// Merges a struct of two values.
+fn values_into(state: &mut State, first: Val, second: Val) -> Result<(), Stop>
+    requires state { IsState state.old }
+    requires item { IsItemOf (part_of_state state.old) (pair (view_val first) (view_val second)) }
+    ensures answer { MergeAnswer result (merge_part (part_of_state state.old) (pair (view_val first) (view_val second))) (part_of_state state.new) }
+    ensures state { IsState state.new }
+{
+    match state {
+        State::Total(_) => unreachable!(),
+        State::List(alloc, items) => match list::push_pair(*alloc, items, first, second) {
+            Ok(()) => return Ok(()),
+            Err(_) => return Err(Stop::Memory),
+        },
+        State::Cells(cells) => {
+            let index = as_number(first);
+            let number = as_number(second);
+            return merge_cell(cells, index.value as i64, number.value as i64);
+        }
+        State::Keyed(alloc, part) => {
+            let number = as_number(second);
+            match merge_value(*alloc, part, first, number.value as i64) {
+                Ok(()) => return Ok(()),
+                Err(_) => return Err(Stop::Memory),
+            }
+        }
+        State::Groups(alloc, part) => match push_item(*alloc, part, first, second) {
+            Ok(()) => return Ok(()),
+            Err(_) => return Err(Stop::Memory),
+        },
     }
 }
 
@@ -188,14 +345,18 @@ fn merge_into(state: &mut State, item: Val) -> Result<(), Stop>
     ensures state { IsState state.new }
 {
     match state {
-        State::Total(op, total) => {
-            *total = combined(*op, *total, item);
+        State::Total(total) => {
+            total.merge_number(as_number(item).value as i64);
             return Ok(());
         }
-        State::Logged(shape, items) => match log(shape, items, item) {
+        State::List(alloc, items) => match list::push_item(*alloc, items, item) {
             Ok(()) => return Ok(()),
-            Err(stop) => return Err(stop),
+            Err(_) => return Err(Stop::Memory),
         },
+        _ => {
+            let (first, second) = two_fields(item);
+            return values_into(state, first, second);
+        }
     }
 }
 
@@ -209,15 +370,21 @@ fn join_into(state: &mut State, later: State) -> Result<(), AllocError>
     ensures state { IsState state.new }
 {
     match (state, later) {
-        (State::Total(op, total), State::Total(_, more)) => {
-            *total = combined(*op, *total, Val::Num(more));
+        (State::Total(total), State::Total(more)) => {
+            total.append(&more);
             return Ok(());
         }
-        (State::Logged(shape, items), State::Logged(_, more)) => match append(shape, items, more) {
-            Ok(()) => return Ok(()),
-            Err(e) => return Err(e),
-        },
-        (State::Total(_, _), State::Logged(_, _)) => unreachable!(),
-        (State::Logged(_, _), State::Total(_, _)) => unreachable!(),
+        (State::List(alloc, items), State::List(_, more)) => {
+            return list::join_lists(*alloc, items, more);
+        }
+        (State::Cells(cells), State::Cells(more)) => {
+            join_cells(cells, more);
+            return Ok(());
+        }
+        (State::Keyed(alloc, part), State::Keyed(_, more)) => return join_keyed(*alloc, part, more),
+        (State::Groups(alloc, part), State::Groups(_, more)) => {
+            return join_groups(*alloc, part, more);
+        }
+        _ => unreachable!(),
     }
 }

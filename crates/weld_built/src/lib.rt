@@ -1,9 +1,14 @@
-//! The five builders while a program is evaluated one element after another. A total keeps its
-//! number; each other builder keeps the items that were merged into it, and puts them together when
-//! its result is asked for. So a builder is copied, and one without items made, whatever its size.
+//! The five builders, each with what was merged into it. Numbers of one kind lie in an array of that
+//! kind and under keys of one kind, so that a merge of a number makes no value. How items and keys are
+//! kept is chosen at the first merge; where a later one doesn't fit, they are kept as values from then
+//! on. Contracts see none of this.
 #![tactic(auto)]
 
 pub mod built;
-mod replay;
+mod cells;
+mod fitting;
+mod groups;
+mod keyed;
+mod list;
 
 pub use built::Built;

@@ -1,12 +1,12 @@
 -- Parameters and their arguments, one after another.
-use Rattle.std.proofs.Common.{◌≡◌, ℕ, zero, suc, ◌+◌, ◌<◌, ◌≤◌, min, ◌==◌, ◌≢◌, Bool, true, false, if◌then◌else◌, List, [], ◌∷◌, drop, length, get_or, slice_get, Option, Some, None, refl, ap, sym, subst, ◌∙◌, arith}
+use Rattle.std.proofs.Common.{◌≡◌, ℕ, zero, suc, ◌+◌, ◌<◌, ◌≤◌, min, ◌==◌, ◌≢◌, Bool, true, false, if◌then◌else◌, List, [], ◌∷◌, drop, length, get_or, slice_get, Some, None, refl, ap, sym, ◌∙◌, arith}
 use Rattle.std.proofs.lemmas.Bool.{eq-eqb, eqb-true}
 use Rattle.std.proofs.lemmas.List.{drop_more}
 use Rattle.weld_data.specs.Value.{Value}
 use Rattle.weld_tree.specs.declared.binder.Binder.{Binder}
 use Rattle.weld_meaning.specs.Environment.{look_for}
 use Rattle.weld_meaning.specs.Meaning.{with_arguments}
-use Rattle.weld_meaning.specs.Thing.{Thing, plain}
+use Rattle.weld_meaning.specs.Thing.{plain}
 
 drop_value : (vs : List Value) (i : ℕ) → i < length vs → (v : Value) × (slice_get vs i ≡ Some v) × (drop i vs ≡ v ∷ drop (i + 1) vs)
 drop_value [] i h = absurd (omega arith)

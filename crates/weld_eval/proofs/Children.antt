@@ -4,23 +4,22 @@ use Rattle.weld_data.specs.Value.{Value}
 use Rattle.weld_tree.specs.declared.binder.Binder.{Binder}
 use Rattle.weld_tree.specs.TypeTree.{TypeTree, TypeTrees, no_types, more_types}
 use Rattle.weld_tree.specs.Types.{IsBuilderFree, AreBuilderFree, IsWellFormed}
-use Rattle.weld_tree.specs.ExprTree.{ExprTree, At, leaf, one, two, three, many, let_in, loop, iterate, ExprTrees, no_exprs, more_exprs, LegTree, whole, strided, LegTrees, no_legs, more_legs, Leaf, One, Two, Three, Many}
+use Rattle.weld_tree.specs.ExprTree.{ExprTree, At, one, two, three, many, let_in, loop, iterate, ExprTrees, more_exprs, LegTree, LegTrees, more_legs, One, Two, Three, Many}
 use Rattle.weld_fits.specs.HasValue.{HasValue}
-use Rattle.weld_builders.specs.Outcome.{Outcome, done}
+use Rattle.weld_builders.specs.Outcome.{done}
 use Rattle.weld_builders.proofs.Order.{value_cmp_total}
 use Rattle.weld_builders.proofs.Steps.{keys_stand}
 use Rattle.weld_meaning.specs.Environment.{Named}
 use Rattle.weld_meaning.specs.Thing.{Thing, plain}
-use Rattle.weld_meaning.specs.Typing.{Types, HasType, HaveTypes, LegsHave, RowHas, body_types}
+use Rattle.weld_meaning.specs.Typing.{Types, HasType, HaveTypes, LegsHave, RowHas}
 use Rattle.weld_meaning.specs.ThingType.{HasThing}
 use Rattle.weld_meaning.specs.Meaning.{GivesOrFaults}
-use Rattle.weld_meaning.specs.Evaluation.{Env, whole_number, with_row, eval}
-use Rattle.weld_meaning.specs.Origin.{Origin, value, origin, outside, in_body, in_turn}
-use Rattle.weld_meaning.specs.Linear.{Keeps}
-use Rattle.weld_meaning.proofs.WellFormed.{formed_bind, formed_body, type_formed, legs_formed, row_formed}
+use Rattle.weld_meaning.specs.Evaluation.{Env, eval}
+use Rattle.weld_meaning.specs.Origin.{Origin, value, origin, outside, in_turn}
+use Rattle.weld_meaning.proofs.WellFormed.{formed_bind, type_formed}
 use Rattle.weld_meaning.proofs.PartsGood.{KeyLaws}
-use Rattle.weld_meaning.proofs.NeverStuck.{never_stuck, fits_bind, fits_body}
-use Rattle.weld_meaning.proofs.OriginTypes.{forms_bind, forms_outside, forms_in_body, origin_forms}
+use Rattle.weld_meaning.proofs.NeverStuck.{never_stuck, fits_bind}
+use Rattle.weld_meaning.proofs.OriginTypes.{forms_bind, forms_outside, origin_forms}
 use Rattle.weld_eval.specs.Fit.{AreNamed, IsFit, AreFit, LegIsFit, LegsAreFit}
 use Rattle.weld_eval.specs.Takes.{OneTakes, TwoTakes, ThreeTakes}
 

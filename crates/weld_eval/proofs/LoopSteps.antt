@@ -1,23 +1,22 @@
 -- One row of a loop: the builder joined with what the row makes of the one that has nothing merged.
-use Rattle.std.proofs.Common.{◌≡◌, ℕ, List, [], ◌∷◌, inl, refl, ap, sym, subst, ◌∙◌}
+use Rattle.std.proofs.Common.{◌≡◌, ℕ, [], ◌∷◌, inl, refl, ap, sym, subst, ◌∙◌}
 use Rattle.weld_data.specs.Value.{Value}
 use Rattle.weld_tree.specs.declared.binder.Binder.{Binder}
 use Rattle.weld_tree.specs.TypeTree.{TypeTree, TypeTrees, BuildTree, scalar, vec, struct as tuple, dict, build, list, total, keyed, cells, groups, no_types, more_types}
-use Rattle.weld_tree.specs.Types.{IsBuilderFree, IsBuilder, AreBuilders, IsWellFormed, AreWellFormed}
+use Rattle.weld_tree.specs.Types.{IsBuilder, AreBuilders, IsWellFormed, AreWellFormed}
 use Rattle.weld_tree.specs.ExprTree.{ExprTree, At, LegTrees, loop}
 use Rattle.weld_fits.specs.HasValue.{HasValue}
 use Rattle.weld_builders.specs.Outcome.{Outcome, done, fault, stuck, and_then, map_out}
-use Rattle.weld_builders.specs.Part.{Part, list_part, total_part, cells_part, keyed_part, groups_part, shape_of}
+use Rattle.weld_builders.specs.Part.{Part, list_part, total_part, cells_part, keyed_part, groups_part}
 use Rattle.weld_builders.specs.Range.{IsInRange}
 use Rattle.weld_builders.proofs.Joins.{bare_behind, merge_part-after_part}
 use Rattle.weld_builders.proofs.Shapes.{shape_of-bare}
-use Rattle.weld_meaning.specs.Environment.{Named}
 use Rattle.weld_meaning.specs.Thing.{Thing, plain, building, several, Things, no_things, more_things, bare_thing, bare_things, after_thing}
-use Rattle.weld_meaning.specs.Typing.{Types, body_types}
+use Rattle.weld_meaning.specs.Typing.{body_types}
 use Rattle.weld_meaning.specs.ThingType.{HasPart, HasThing, HaveBuilders}
-use Rattle.weld_meaning.specs.Evaluation.{Env, Row, whole_number, with_row, run, eval}
-use Rattle.weld_meaning.specs.Origin.{Origin, origin, own_paths, in_body}
-use Rattle.weld_meaning.specs.Loops.{Site, body_of, LawOfLoop, IsSite}
+use Rattle.weld_meaning.specs.Evaluation.{Env, Row, whole_number, with_row}
+use Rattle.weld_meaning.specs.Origin.{origin, own_paths, in_body}
+use Rattle.weld_meaning.specs.Loops.{Site, LawOfLoop}
 use Rattle.weld_meaning.proofs.Before.{before}
 use Rattle.weld_meaning.proofs.WellFormed.{formed_body, type_formed, legs_formed, row_formed}
 use Rattle.weld_meaning.proofs.PartsGood.{bare_has}

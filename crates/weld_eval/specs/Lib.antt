@@ -1,4 +1,11 @@
 pub mod Fit
 pub mod FrameView
+pub mod LegsView
+pub mod NamesView
+pub mod NumberAnswers
+pub mod RowLists
+pub mod RowView
+pub mod ShortView
+pub mod SlotView
 pub mod Takes
 pub mod ThingView

@@ -1,14 +1,14 @@
 -- The legs of a loop in the code.
-use Rattle.std.specs.Prelude.{◌≡◌, ℕ, ◌<◌, ◌==◌, Bool, true, ◌&&◌, List, [], ◌∷◌, ◌++◌, length, map, slice_get, option_to_list, Result, Ok, Err}
-use Rattle.weld_data.specs.declared.stop.Stop.{Stop}
-use Rattle.weld_data.specs.declared.stop.Stop.TheVariants.{Fault, Memory}
+use Rattle.std.specs.Prelude.{List, [], ◌∷◌, map}
 use Rattle.weld_data.specs.Value.{Value, number, list, struct, dict, list_of_values}
-use Rattle.weld_builders.specs.Outcome.{Outcome, done, fault, stuck, and_then}
+use Rattle.weld_builders.specs.Outcome.{Outcome, and_then}
 use Rattle.weld_meaning.specs.Thing.{Thing, plain, building, several, as_value}
-use Rattle.weld_meaning.specs.Evaluation.{rows_of, strided_of}
+use Rattle.weld_meaning.specs.Evaluation.{strided_of}
 use Rattle.weld_eval_values.specs.Fits.{IsList, IsPlaceNumber}
 use Rattle.weld_eval.specs.declared.thing.Held.{Held}
 use Rattle.weld_eval.specs.ThingView.{held_of}
+-- the rows of such legs
+pub use Rattle.weld_eval.specs.RowLists.{or_none, rows_in, RowsAnswer, all_long, AllReach, elements_at}
 
 -- the elements of a vector
 abbrev pub elements_of_value : Value → List Value
@@ -48,34 +48,3 @@ IsPlace (several ts) = ⊥
 -- the elements that a leg with bounds and a stride runs over
 abbrev pub strided_elements : Thing → Thing → Thing → Thing → Outcome (List Value)
 strided_elements v s e d = and_then (as_value v) (λ a. and_then (as_value s) (λ x. and_then (as_value e) (λ y. and_then (as_value d) (λ z. strided_of a x y z))))
-
--- what is there, or nothing
-abbrev pub or_none : Outcome (List Value) → List Value
-or_none (done vs) = vs
-or_none fault = []
-or_none stuck = []
-
--- the rows of such legs
-abbrev pub rows_in : List (List Value) → List Value
-rows_in ls = or_none (rows_of ls)
-
--- how many rows there are, or a fault
-abbrev pub RowsAnswer : Result ℕ Stop → List (List Value) → Type 0
-RowsAnswer (Ok n) ls = (rows_of ls ≡ done (rows_in ls)) × (length (rows_in ls) ≡ n)
-RowsAnswer (Err Fault) ls = rows_of ls ≡ fault
-RowsAnswer (Err Memory) ls = ⊥
-
--- each leg has so many elements
-abbrev pub all_long : ℕ → List (List Value) → Bool
-all_long n [] = true
-all_long n (l ∷ ls) = (length l == n) && all_long n ls
-
--- each leg has an element of that number, from 0
-abbrev pub AllReach : ℕ → List (List Value) → Type 0
-AllReach i [] = Unit {0}
-AllReach i (l ∷ ls) = (i < length l) × AllReach i ls
-
--- the elements of that number
-abbrev pub elements_at : ℕ → List (List Value) → List Value
-elements_at i [] = []
-elements_at i (l ∷ ls) = option_to_list (slice_get l i) ++ elements_at i ls

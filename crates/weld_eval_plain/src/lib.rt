@@ -2,6 +2,6 @@
 #![tactic(auto)]
 
 mod plain;
-mod walk;
+pub mod walk;
 
 pub use plain::eval_plain;

@@ -5,7 +5,7 @@ ghost use Rattle.weld_data.specs.View.{view_val};
 ghost use Rattle.weld_tree.specs.ExprTree.{pack_exprs, pack_legs};
 ghost use Rattle.weld_tree.specs.ExprView.{view_leg};
 ghost use Rattle.weld_builders.specs.Outcome.{done};
-ghost use Rattle.weld_meaning.specs.Evaluation.{eval as eval_of, eval_all, eval_leg as eval_leg_of, eval_legs as eval_legs_of};
+ghost use Rattle.weld_meaning.specs.Evaluation.{eval as eval_of, eval_all, eval_leg as eval_leg_of, eval_legs as eval_legs_of, turn_limit};
 ghost use Rattle.weld_eval_values.specs.Answers.{Answers};
 ghost use Rattle.weld_eval.specs.Fit.{IsFit, AreFit, LegIsFit, LegsAreFit};
 ghost use Rattle.weld_eval.specs.FrameView.{env_of};
@@ -14,7 +14,7 @@ ghost use Rattle.weld_eval_forms.specs.FormTakes.{all_of, pack_things};
 ghost use Rattle.weld_eval_forms.specs.Legs.{elements_in, leg_lists, IsVector, AreVectors};
 ghost use Rattle.weld_eval_plain.specs.Nodes.{decided, IsOne, IsEither, IsBoth, IsIf, IsThree, IsMany, IsLet, IsLoop, IsIterate, IsStrided};
 ghost use Rattle.weld_eval_plain.specs.Rows.{BodyAnswer, Joins, HoldsRow, HoldsRows, LegsAre, RowAnswer, loop_over};
-ghost use Rattle.weld_eval_plain.specs.Turns.{HoldsState, StateAnswers, TurnAnswers};
+ghost use Rattle.weld_eval_plain.specs.Turns.{HoldsState, StateAnswers, TurnAnswers, turns_from};
 
 use std::alloc::Global;
 use weld_data::{Num, Stop, Val};
@@ -265,18 +265,33 @@ fn made<'a, 'b>(held: Held<'b>, alloc: Global) -> Result<Held<'a>, Stop>
 /// How many turns an `iterate` may take.
 const TURN_LIMIT: u32 = 1_000_000;
 
-/// An `iterate`: turns until one says that it is the last; the millionth may be the last, and one more
-/// is a fault.
+/// An `iterate`: its turns, from the state that it starts with.
 #[cycle(eval)]
 fn eval_iterate<'a>(e: &Expr, frame: &'a Frame<'a>, alloc: Global) -> Result<Held<'a>, Stop>
     requires fit { IsFit e.now (env_of frame.now) }
     requires form { IsIterate e.now }
     ensures { Answers held_of result (eval_of e.now (env_of frame.now)) }
 {
-    let mut state = match eval_state(e, &*frame, alloc) {
-        Ok(state) => state,
-        Err(stop) => return Err(stop),
-    };
+    match eval_state(e, &*frame, alloc) {
+        Ok(state) => eval_turns(e, frame, state, alloc),
+        Err(stop) => Err(stop),
+    }
+}
+
+/// The turns of an `iterate` from a state, until one says that it is the last; the millionth may be the
+/// last, and one more is a fault.
+#[cycle(eval)]
+pub fn eval_turns<'a>(
+    e: &Expr,
+    frame: &'a Frame<'a>,
+    start: Val,
+    alloc: Global,
+) -> Result<Held<'a>, Stop>
+    requires state { HoldsState e.now (env_of frame.now) (view_val start) }
+    requires form { IsIterate e.now }
+    ensures { Answers held_of result (turns_from e.now (env_of frame.now) turn_limit (view_val start)) }
+{
+    let mut state = start;
     for _turn in 0..TURN_LIMIT {
         match eval_turn(e, &*frame, state, alloc) {
             Ok((next, true)) => state = next,
@@ -376,7 +391,11 @@ fn eval_over<'a>(
 /// The vectors of the legs.
 #[cycle(eval)]
 #[tactic(auto, using(crate::proofs::Parts::leg_fits, crate::proofs::Parts::legs_rest_fit, crate::proofs::Parts::leg_done, crate::proofs::Parts::leg_faults, crate::proofs::Parts::no_leg_left, crate::proofs::Parts::one_vector_more))]
-fn eval_legs<'a>(legs: &Legs, frame: &'a Frame<'a>, alloc: Global) -> Result<Vec<Held<'a>>, Stop>
+pub fn eval_legs<'a>(
+    legs: &Legs,
+    frame: &'a Frame<'a>,
+    alloc: Global,
+) -> Result<Vec<Held<'a>>, Stop>
     requires { LegsAreFit (pack_legs legs.now) (env_of frame.now) }
     ensures lists { Answers (λ vectors. leg_lists vectors.items) result (eval_legs_of (pack_legs legs.now) (env_of frame.now)) }
     ensures vectors { IfOk result (λ vectors. AreVectors vectors.items) }
@@ -496,7 +515,7 @@ fn run_rows<'a>(
 /// One row of a loop: what the body makes of the builder that has nothing merged is appended. So a
 /// row costs what it merges, and not what was merged before.
 #[cycle(eval)]
-fn run_row(
+pub fn run_row(
     e: &Expr,
     frame: &Frame,
     builder: &mut Owned,

@@ -1,5 +1,5 @@
 -- Lists by keys, in the map in the code.
-use Rattle.std.proofs.Common.{◌≡◌, ℤ, Option, Some, List, int_cmp, ap, sym, ◌∙◌}
+use Rattle.std.proofs.Common.{◌≡◌, ℤ, Some, List, int_cmp, ap, sym, ◌∙◌}
 use Rattle.std.specs.List.Sorted.{IsStrictlySortedBy}
 use Rattle.std.specs.BTreeMap.{BTreeMap}
 use Rattle.std.specs.Map.{keys_of}

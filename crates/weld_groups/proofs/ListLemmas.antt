@@ -1,5 +1,5 @@
 -- Lists by keys in std's ordered map.
-use Rattle.std.proofs.Common.{ℤ, int_cmp, Result, Ok, Err, OnOk, OnErr, ◌≡◌, Option, Some, None, List, [], ◌∷◌, ◌++◌, map, Bool, true, false, true≢false, cond, is_some, Ordering, Less, Equal, Greater, ap, sym, subst, refl, ◌∙◌}
+use Rattle.std.proofs.Common.{ℤ, int_cmp, Result, Ok, Err, OnOk, OnErr, ◌≡◌, Option, Some, None, List, [], ◌∷◌, ◌++◌, Bool, true, false, true≢false, cond, is_some, Ordering, Less, Equal, Greater, ap, sym, subst, refl, ◌∙◌}
 use Rattle.std.specs.Ordering.{is_eq, match_ordering}
 use Rattle.std.specs.Cmp.{IsTotalOrder}
 use Rattle.std.specs.List.{AllByRecursion}

@@ -1,5 +1,5 @@
 -- Lists in the order of their keys, as a dictionary.
-use Rattle.std.proofs.Common.{◌≡◌, ℕ, zero, suc, ◌<◌, ℤ, ◌<ℤ◌, Some, None, List, [], ◌∷◌, ◌++◌, map, length, slice_index_or, AllPairs, Less, int_cmp, append_assoc, append-nil, ap, sym, subst, refl, ◌∙◌, arith}
+use Rattle.std.proofs.Common.{◌≡◌, ℕ, zero, suc, ◌<◌, ℤ, ◌<ℤ◌, Some, None, List, [], ◌∷◌, map, length, slice_index_or, AllPairs, Less, int_cmp, ap, sym, subst, refl, ◌∙◌, arith}
 use Rattle.std.specs.Ordering.{MatchOrdering}
 use Rattle.std.specs.Cmp.{int_ranks}
 use Rattle.std.specs.List.{All, AllByRecursion}
@@ -16,8 +16,6 @@ use Rattle.weld_builders.proofs.Steps.{keys_stand}
 use Rattle.weld_pieces.specs.Keyed.{map_of, itself, KeysAreKept, HasOneKeyType, shown}
 use Rattle.weld_pieces.specs.Kept.{IsKeptKey}
 use Rattle.weld_pieces.proofs.MapLemmas.{entries-map_of, numbers_agree, values_agree}
-use Rattle.weld_groups.specs.Groups.{lists_in, list_value}
-use Rattle.weld_groups.proofs.ListLemmas.{keys_of-lists_in}
 
 -- ---- rising keys, entry by entry
 

@@ -10,7 +10,7 @@ use Rattle.weld_builders.specs.ValueOrder.{ValueMap}
 use Rattle.weld_builders.specs.Part.{Part, groups_part}
 use Rattle.weld_pieces.specs.declared.list.ListPart.{ListPart}
 use Rattle.weld_pieces.specs.Items.{items_of_list, kind_of_items}
-use Rattle.weld_pieces.specs.Keyed.{coded_kind}
+use Rattle.weld_pieces.specs.Keyed.{coded_kind, CanKeep}
 
 -- how its keys are kept, how the items of its lists are, and the lists
 pub record Groups : Type 0 where
@@ -37,3 +37,7 @@ AreListsOf kind ls = AllByRecursion (λ (l : ListPart). kind_of_items l ≡ kind
 -- the items of a list as a value
 abbrev pub list_value : List Value → Value
 list_value vs = list (values vs)
+
+-- the items of each list may be kept so
+abbrev pub CanKeepEach : Option Kind → List ListPart → Type 0
+CanKeepEach items ls = AllByRecursion (λ (l : ListPart). CanKeep items (kind_of_items l)) ls

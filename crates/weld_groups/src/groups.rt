@@ -1,14 +1,19 @@
-ghost use Rattle.std.specs.Prelude.{◌≡◌, ◌∷◌, [], Some, None, OnOk, OnErr};
+ghost use Rattle.std.specs.Prelude.{◌≡◌, ◌∷◌, [], Some, None, IfOk, OnOk, OnErr};
+ghost use Rattle.std.specs.Map.{keys_of, values_of};
 ghost use Rattle.weld_data.specs.Kind.{InRange};
 ghost use Rattle.weld_data.specs.Order.{IsKey};
 ghost use Rattle.weld_data.specs.Value.{number};
 ghost use Rattle.weld_data.specs.View.{view_val};
 ghost use Rattle.weld_builders.specs.Part.{appended, merge_key, join_maps};
+ghost use Rattle.weld_builders.specs.Range.{AllInRange};
+ghost use Rattle.weld_pieces.specs.Items.{items_of_list, kind_of_items};
 ghost use Rattle.weld_pieces.specs.Kept.{IsKeptAs};
-ghost use Rattle.weld_groups.specs.GroupsView.{kind_of_keys, groups_in, AreGroupsOf};
+ghost use Rattle.weld_pieces.specs.Keyed.{map_of, itself, by_value, merged_from, CanKeep, KeysAreKept};
+ghost use Rattle.weld_groups.specs.Groups.{lists_in, CanKeepEach};
+ghost use Rattle.weld_groups.specs.GroupsView.{kind_of_keys, groups_in, all_lists, AreGroupsOf};
 
-use crate::lists::{append_all, push_at};
-use crate::pairs::{kept_pairs, plain_pairs};
+use crate::lists::{append_all, append_at, push_at};
+use crate::pairs::{kept_pairs, number_of, plain_pairs};
 use std::alloc::{AllocError, Global};
 use std::collections::BTreeMap;
 use std::marker::Model;
@@ -46,7 +51,7 @@ impl Model for GroupsPart {
 }
 
 impl GroupsPart {
-    ghost use Rattle.std.specs.Prelude.{◌≡◌, ◌∷◌, [], Some, None, IfOk, OnOk, OnErr};
+    ghost use Rattle.std.specs.Prelude.{◌≡◌, ◌∷◌, [], Some, None, IsTrue, IfOk, OnOk, OnErr};
     ghost use Rattle.std.specs.FinMap as finite;
     ghost use Rattle.weld_data.specs.Kind.{InRange};
     ghost use Rattle.weld_data.specs.Order.{IsKey};
@@ -54,7 +59,8 @@ impl GroupsPart {
     ghost use Rattle.weld_data.specs.View.{view_val};
     ghost use Rattle.weld_builders.specs.Part.{appended, merge_key, join_maps};
     ghost use Rattle.weld_pieces.specs.Kept.{IsKeptAs, IsKeptKey};
-    ghost use Rattle.weld_pieces.specs.Keyed.{KeysAreKept, HasOneKeyType, itself, shown};
+    ghost use Rattle.weld_pieces.specs.Items.{items_of_list, kind_of_items};
+    ghost use Rattle.weld_pieces.specs.Keyed.{KeysAreKept, HasOneKeyType, itself, shown, CanKeep};
     ghost use Rattle.weld_groups.specs.Groups.{list_value};
 
     /// The map without keys, which are to be numbers of a kind, or other values; the items of the
@@ -78,6 +84,69 @@ impl GroupsPart {
         match &self.map {
             GroupsMap::Numbers(kind, _) => Some(*kind),
             GroupsMap::Values(_) => None,
+        }
+    }
+
+    /// How the items of each list are kept: as numbers of a kind, or as values. It takes no memory.
+    pub fn items(&self) -> Option<Kind>
+        ensures { result ≡ self.now.items }
+    {
+        self.items
+    }
+
+    /// Whether there are no keys. It takes no memory.
+    pub fn is_empty(&self) -> bool
+        ensures none { IsTrue result → self.now.groups ≡ finite.empty }
+    {
+        match &self.map {
+            GroupsMap::Numbers(_, lists) => lists.is_empty(),
+            GroupsMap::Values(lists) => lists.is_empty(),
+        }
+    }
+
+    /// A part that has the same lists. Its keys and items are to be kept as they are here, or as
+    /// values.
+    pub fn copy_as(
+        &self,
+        alloc: Global,
+        key: Option<Kind>,
+        items: Option<Kind>,
+    ) -> Result<GroupsPart, AllocError>
+        requires kept { KeysAreKept self.now.key self.now.groups }
+        requires key { CanKeep key self.now.key }
+        requires items { CanKeep items self.now.items }
+        ensures key { IfOk result (λ copy. copy.key ≡ key) }
+        ensures items { IfOk result (λ copy. copy.items ≡ items) }
+        ensures groups { IfOk result (λ copy. copy.groups ≡ self.now.groups) }
+    {
+        let mut copy = GroupsPart::empty(alloc, key, items);
+        match add_map(&mut copy, alloc, &self.map) {
+            Ok(()) => Ok(copy),
+            Err(e) => Err(e),
+        }
+    }
+
+    /// Appends items to the list of a key, however the keys are kept. Where memory is wanting, the
+    /// part stays as it was.
+    fn append_at_value(&mut self, key: Val, list: ListPart) -> Result<(), AllocError>
+        requires key { IsKeptKey self.old.key (view_val key) }
+        requires items { kind_of_items list ≡ self.old.items }
+        ensures ok { OnOk result (self.new.groups ≡ merge_key appended self.old.groups (view_val key) (items_of_list list)) }
+        ensures key { self.new.key ≡ self.old.key }
+        ensures items { self.new.items ≡ self.old.items }
+    {
+        match self.key() {
+            Some(kind) => match key {
+                Val::Num(n) => list_in_numbers(
+                    &mut self.map,
+                    self.items,
+                    kind,
+                    n.value as i64,
+                    list,
+                ),
+                _ => unreachable!(),
+            },
+            None => list_in_values(&mut self.map, self.items, key, list),
         }
     }
 
@@ -202,6 +271,54 @@ fn value_in(
     }
 }
 
+/// Appends items at a key that is a number.
+fn list_in_numbers(
+    map: &mut GroupsMap,
+    items: Option<Kind>,
+    key_kind: Kind,
+    key: i64,
+    list: ListPart,
+) -> Result<(), AllocError>
+    requires kept { kind_of_keys map.old ≡ Some key_kind }
+    requires lists { AreGroupsOf items map.old }
+    requires items { kind_of_items list ≡ items }
+    ensures ok { OnOk result (groups_in map.new ≡ merge_key appended (groups_in map.old) (number key_kind key) (items_of_list list)) }
+    ensures lists { AreGroupsOf items map.new }
+    ensures kept { kind_of_keys map.new ≡ kind_of_keys map.old }
+{
+    match map {
+        GroupsMap::Numbers(_, lists) => match append_at(lists, items, key, list) {
+            Ok(()) => return Ok(()),
+            Err(e) => return Err(e),
+        },
+        GroupsMap::Values(_) => unreachable!(),
+    }
+}
+
+/// Appends items at a key that is kept as a value.
+fn list_in_values(
+    map: &mut GroupsMap,
+    items: Option<Kind>,
+    key: Val,
+    list: ListPart,
+) -> Result<(), AllocError>
+    requires kept { kind_of_keys map.old ≡ None }
+    requires lists { AreGroupsOf items map.old }
+    requires key { IsKey (view_val key) }
+    requires items { kind_of_items list ≡ items }
+    ensures ok { OnOk result (groups_in map.new ≡ merge_key appended (groups_in map.old) (view_val key) (items_of_list list)) }
+    ensures lists { AreGroupsOf items map.new }
+    ensures kept { kind_of_keys map.new ≡ kind_of_keys map.old }
+{
+    match map {
+        GroupsMap::Numbers(_, _) => unreachable!(),
+        GroupsMap::Values(lists) => match append_at(lists, items, Key::new(key), list) {
+            Ok(()) => return Ok(()),
+            Err(e) => return Err(e),
+        },
+    }
+}
+
 /// Appends the lists of a later map at their keys.
 fn all_in(map: &mut GroupsMap, items: Option<Kind>, later: GroupsMap) -> Result<(), AllocError>
     requires kept { kind_of_keys map.old ≡ kind_of_keys later }
@@ -225,6 +342,130 @@ fn all_in(map: &mut GroupsMap, items: Option<Kind>, later: GroupsMap) -> Result<
             Err(e) => return Err(e),
         },
         _ => unreachable!(),
+    }
+}
+
+/// Appends the lists of a map at their keys.
+fn add_map(part: &mut GroupsPart, alloc: Global, map: &GroupsMap) -> Result<(), AllocError>
+    requires kept { KeysAreKept (kind_of_keys map.now) (groups_in map.now) }
+    requires lists { CanKeepEach part.old.items (all_lists map.now) }
+    requires key { CanKeep part.old.key (kind_of_keys map.now) }
+    ensures ok { OnOk result (part.new.groups ≡ join_maps appended part.old.groups (groups_in map.now)) }
+    ensures key { part.new.key ≡ part.old.key }
+    ensures items { part.new.items ≡ part.old.items }
+{
+    match map {
+        GroupsMap::Numbers(key_kind, lists) => add_sorted_numbers(part, alloc, *key_kind, lists),
+        GroupsMap::Values(lists) => add_sorted_values(part, alloc, lists),
+    }
+}
+
+/// The same of keys that are numbers, which lie in the range of their kind.
+fn add_sorted_numbers(
+    part: &mut GroupsPart,
+    alloc: Global,
+    key_kind: Kind,
+    map: &BTreeMap<i64, ListPart>,
+) -> Result<(), AllocError>
+    requires kept { KeysAreKept (Some key_kind) (map_of (number key_kind) (lists_in map.now.entries)) }
+    requires lists { CanKeepEach part.old.items (values_of map.now.entries) }
+    requires key { CanKeep part.old.key (Some key_kind) }
+    ensures ok { OnOk result (part.new.groups ≡ join_maps appended part.old.groups (map_of (number key_kind) (lists_in map.now.entries))) }
+    ensures key { part.new.key ≡ part.old.key }
+    ensures items { part.new.items ≡ part.old.items }
+{
+    let _count = map.len();
+    add_numbers(part, alloc, key_kind, map)
+}
+
+/// The same of keys that are kept as values.
+fn add_sorted_values(
+    part: &mut GroupsPart,
+    alloc: Global,
+    map: &BTreeMap<Key, ListPart>,
+) -> Result<(), AllocError>
+    requires lists { CanKeepEach part.old.items (values_of map.now.entries) }
+    requires key { part.old.key ≡ None }
+    ensures ok { OnOk result (part.new.groups ≡ join_maps appended part.old.groups (map_of itself (lists_in map.now.entries))) }
+    ensures key { part.new.key ≡ part.old.key }
+    ensures items { part.new.items ≡ part.old.items }
+{
+    let _count = map.len();
+    add_values(part, alloc, map)
+}
+
+/// Appends lists at keys that are numbers, one after another.
+fn add_numbers(
+    part: &mut GroupsPart,
+    alloc: Global,
+    key_kind: Kind,
+    map: &BTreeMap<i64, ListPart>,
+) -> Result<(), AllocError>
+    requires keys { AllInRange key_kind (keys_of map.now.entries) }
+    requires lists { CanKeepEach part.old.items (values_of map.now.entries) }
+    requires key { CanKeep part.old.key (Some key_kind) }
+    ensures ok { OnOk result (part.new.groups ≡ merged_from appended part.old.groups (by_value (number key_kind) (lists_in map.now.entries))) }
+    ensures key { part.new.key ≡ part.old.key }
+    ensures items { part.new.items ≡ part.old.items }
+{
+    for (key, list) in map {
+        let copy = copy_of(alloc, list, part.items())?;
+        match part.append_at_value(number_of(key_kind, *key), copy) {
+            Ok(()) => {}
+            Err(e) => return Err(e),
+        }
+    }
+    Ok(())
+}
+
+/// Appends lists at keys that are values, one after another.
+fn add_values(
+    part: &mut GroupsPart,
+    alloc: Global,
+    map: &BTreeMap<Key, ListPart>,
+) -> Result<(), AllocError>
+    requires lists { CanKeepEach part.old.items (values_of map.now.entries) }
+    requires key { part.old.key ≡ None }
+    ensures ok { OnOk result (part.new.groups ≡ merged_from appended part.old.groups (by_value itself (lists_in map.now.entries))) }
+    ensures key { part.new.key ≡ part.old.key }
+    ensures items { part.new.items ≡ part.old.items }
+{
+    for (key, list) in map {
+        match add_copy(part, alloc, key, list) {
+            Ok(()) => {}
+            Err(e) => return Err(e),
+        }
+    }
+    Ok(())
+}
+
+/// Appends a list at a key that is a value.
+fn add_copy(
+    part: &mut GroupsPart,
+    alloc: Global,
+    key: &Key,
+    list: &ListPart,
+) -> Result<(), AllocError>
+    requires list { CanKeep part.old.items (kind_of_items list.now) }
+    requires key { part.old.key ≡ None }
+    ensures ok { OnOk result (part.new.groups ≡ merge_key appended part.old.groups key.now (items_of_list list.now)) }
+    ensures key { part.new.key ≡ part.old.key }
+    ensures items { part.new.items ≡ part.old.items }
+{
+    let copy = copy_of(alloc, list, part.items())?;
+    let value = key.to_value(alloc)?;
+    part.append_at_value(value, copy)
+}
+
+/// A list of the same items, which are to be kept so.
+fn copy_of(alloc: Global, list: &ListPart, items: Option<Kind>) -> Result<ListPart, AllocError>
+    requires { CanKeep items (kind_of_items list.now) }
+    ensures items { IfOk result (λ copy. items_of_list copy ≡ items_of_list list.now) }
+    ensures kind { IfOk result (λ copy. kind_of_items copy ≡ items) }
+{
+    match items {
+        Some(_) => list.copy(alloc),
+        None => list.to_values(alloc),
     }
 }
 

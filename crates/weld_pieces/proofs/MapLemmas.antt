@@ -1,11 +1,11 @@
 -- Entries in the order of their keys, as a map from values.
-use Rattle.std.proofs.Common.{◌≡◌, ℕ, zero, suc, ◌<◌, ℤ, Option, Some, None, List, [], ◌∷◌, map, length, slice_index_or, Bool, true, false, cond, T, ◌&&◌, Ordering, Less, Equal, Greater, int_cmp, ap, ap₂, sym, subst, refl, ◌∙◌, arith}
+use Rattle.std.proofs.Common.{◌≡◌, ℕ, zero, suc, ◌<◌, ℤ, Option, Some, None, List, [], ◌∷◌, map, length, slice_index_or, Bool, true, false, true≢false, is_some, cond, T, ◌&&◌, Ordering, Less, Equal, Greater, int_cmp, ap, ap₂, sym, subst, refl, ◌∙◌, arith}
 use Rattle.std.specs.Ordering.{eq_by_cmp, is_eq, is_lt, match_ordering, ordering_then}
-use Rattle.std.specs.Cmp.{Equal-is, int_cmp_total, tied_itself}
+use Rattle.std.specs.Cmp.{Equal-is, IsTotalOrder, int_cmp_total, tied_itself}
 use Rattle.std.specs.List.{AllByRecursion}
 use Rattle.std.specs.List.Sorted.{IsStrictlySortedBy}
 use Rattle.std.specs.BTreeMap.{insert_entry, is_at}
-use Rattle.std.specs.Map.{lookup, keys_of, values_of}
+use Rattle.std.specs.Map.{lookup, set_value, keys_of, values_of}
 use Rattle.std.specs.Option.{IfSome}
 use Rattle.weld_data.specs.Kind.{InRange}
 use Rattle.weld_builders.specs.Range.{AllInRange}
@@ -19,7 +19,7 @@ use Rattle.weld_builders.specs.Part.{merge_key, join_maps}
 use Rattle.weld_builders.proofs.Order.{value_cmp_total}
 use Rattle.weld_builders.proofs.Maps.{over, get-join_maps, get-merge_key, same_maps}
 use Rattle.weld_builders.proofs.Steps.{value_cmp-numbers}
-use Rattle.weld_pieces.specs.Keyed.{entry_with, entries_with, map_of, itself}
+use Rattle.weld_pieces.specs.Keyed.{entry_with, entries_with, map_of, itself, by_value, merged_from}
 
 -- ---- maps from values
 
@@ -92,6 +92,13 @@ module _ {K X : Type 0} (key : K → Value) (cmp : K → K → Ordering) (agree 
       ∙ ap (λ s. join_maps f s (map_of key ds)) (map_of-entry_with f es d.0 d.1)
       ∙ first_merged f (map_of key es) (map_of key ds) (key d.0) d.1 (get-map_of ds (key d.0) ∙ missing d.0 ds (sorted_head cmp d.0 (keys_of ds) h))
 
+  -- entries in order, merged one after another, are joined
+  pub merged_from-by_value : (f : Option X → X → X) (m : ValueMap X) (ds : List (K × X)) → IsStrictlySortedBy cmp (keys_of ds) → merged_from f m (by_value key ds) ≡ join_maps f m (map_of key ds)
+  merged_from-by_value f m [] h = same_maps _ _ (λ q. sym (get-join_maps f m (map_of key []) q ∙ ap (over f (finite.get m q)) (get-map_of [] q)))
+  merged_from-by_value f m (d ∷ ds) h =
+      merged_from-by_value f (merge_key f m (key d.0) d.1) ds (sorted_tail cmp d.0 (keys_of ds) h)
+      ∙ first_merged f m (map_of key ds) (key d.0) d.1 (get-map_of ds (key d.0) ∙ missing d.0 ds (sorted_head cmp d.0 (keys_of ds) h))
+
   -- ---- in order
 
   below : (k : K) (es : List (K × X)) → AllByRecursion (λ y. cmp k y ≡ Less) (keys_of es) → entries_module.below_all value_cmp (key k) (shown es) ≡ true
@@ -127,7 +134,45 @@ numbers_agree k a b =
 pub values_agree : (a b : Value) → value_cmp a b ≡ value_cmp a b
 values_agree a b = refl
 
+-- ---- a value written at a key that is there
+
+module _ {K : Type 0} (cmp : K → K → Ordering) where
+  none_below : {X : Type 0} (k : K) (es : List (K × X)) → AllByRecursion (λ y. cmp k y ≡ Less) (keys_of es) → lookup (is_at (cmp k)) es ≡ None
+  none_below k [] h = refl
+  none_below k (e ∷ es) h = ap (λ o. cond (is_eq o) (Some e.1) (lookup (is_at (cmp k)) es)) h.0 ∙ none_below k es h.1
+
+  below_too : IsTotalOrder cmp → (k j : K) (ks : List K) → cmp k j ≡ Less → AllByRecursion (λ y. cmp j y ≡ Less) ks → AllByRecursion (λ y. cmp k y ≡ Less) ks
+  below_too total k j [] l h = tt
+  below_too total k j (i ∷ ks) l h = (total.trans k j i l h.0, below_too total k j ks l h.1)
+
+  -- it stands where an insert puts it
+  pub set_is_insert : IsTotalOrder cmp → {X : Type 0} (es : List (K × X)) (k : K) (l w : X) → IsStrictlySortedBy cmp (keys_of es) → lookup (is_at (cmp k)) es ≡ Some l → set_value (is_at (cmp k)) es w ≡ insert_entry cmp es k w
+  set_is_insert total [] k l w h found = absurd (true≢false (sym (ap is_some found)))
+  set_is_insert total {X} (e ∷ es) k l w h found = by (set_is_insert total es k l w (sorted_tail cmp e.0 (keys_of es) h)) (cmp k e.0) refl found
+    where
+      by : (lookup (is_at (cmp k)) es ≡ Some l → set_value (is_at (cmp k)) es w ≡ insert_entry cmp es k w) → (o : Ordering) → cmp k e.0 ≡ o → cond (is_eq o) (Some e.1) (lookup (is_at (cmp k)) es) ≡ Some l
+          → cond (is_eq o) ((e.0, w) ∷ es) (e ∷ set_value (is_at (cmp k)) es w) ≡ match_ordering o ((k, w) ∷ e ∷ es) ((e.0, w) ∷ es) (e ∷ insert_entry cmp es k w)
+      by rest Less q f = absurd (true≢false (sym (ap is_some (sym (none_below k es (below_too total k e.0 (keys_of es) q (sorted_head cmp e.0 (keys_of es) h))) ∙ f))))
+      by rest Equal q f = refl
+      by rest Greater q f = ap (λ ds. e ∷ ds) (rest f)
+
+  pub found_merged : IsTotalOrder cmp → {X : Type 0} (f : Option X → X → X) (es ds : List (K × X)) (k : K) (l w x : X) → IsStrictlySortedBy cmp (keys_of es) → Some l ≡ lookup (is_at (cmp k)) es → ds ≡ set_value (is_at (cmp k)) es w → w ≡ f (Some l) x
+      → ds ≡ entry_with cmp f es k x
+  found_merged total f es ds k l w x h found is so =
+      is ∙ set_is_insert total es k l w h (sym found) ∙ ap (insert_entry cmp es k) so ∙ ap (λ (o : Option _). insert_entry cmp es k (f o x)) found
+
 -- ---- ranges of the values
+
+pub set_in_range : {K : Type 0} (kind : Kind) (test : K → Bool) (es ds : List (K × ℤ)) (w : ℤ) → AllInRange kind (values_of es) → InRange kind w → ds ≡ set_value test es w → AllInRange kind (values_of ds)
+set_in_range {K} kind test es ds w h l is = subst (λ xs. AllInRange kind (values_of xs)) (sym is) (set es h)
+  where
+    set : (es : List (K × ℤ)) → AllInRange kind (values_of es) → AllInRange kind (values_of (set_value test es w))
+    set [] h = tt
+    set (e ∷ es) h = by (test e.0) (set es h.1)
+      where
+        by : (b : Bool) → AllInRange kind (values_of (set_value test es w)) → AllInRange kind (values_of (cond b ((e.0, w) ∷ es) (e ∷ set_value test es w)))
+        by true r = (l, h.1)
+        by false r = (h.0, r)
 
 pub lookup_in_range : {K : Type 0} (kind : Kind) (test : K → Bool) (es : List (K × ℤ)) → AllInRange kind (values_of es) → IfSome (lookup test es) (InRange kind)
 lookup_in_range kind test [] h = tt

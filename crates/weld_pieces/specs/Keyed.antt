@@ -1,5 +1,5 @@
 -- Numbers by keys in the code.
-use Rattle.std.specs.Prelude.{ℤ, Option, List, [], ◌∷◌, map, AllPairs, refl}
+use Rattle.std.specs.Prelude.{◌≡◌, ℤ, Option, Some, None, List, [], ◌∷◌, map, AllPairs, refl}
 use Rattle.std.specs.declared.cmp.Ordering.{Ordering}
 use Rattle.std.specs.BTreeMap.{insert_entry, is_at}
 use Rattle.std.specs.Map.{lookup, keys_of}
@@ -15,7 +15,7 @@ use Rattle.weld_data.specs.Value.{Value}
 use Rattle.weld_data.specs.ValueCode.{coded_value}
 use Rattle.weld_data.specs.Order.{SameKeyType, KeyType, HasKeyType}
 use Rattle.weld_builders.specs.ValueOrder.{ValueMap}
-use Rattle.weld_builders.specs.Part.{Part, keyed_part}
+use Rattle.weld_builders.specs.Part.{Part, keyed_part, merge_key}
 
 -- how its keys are kept, its operator and kind, and the numbers
 pub record Keyed : Type 0 where
@@ -57,9 +57,23 @@ entries_with cmp f es (d ∷ ds) = entries_with cmp f (entry_with cmp f es d.0 d
 abbrev pub map_of : {K X : Type 0} → (K → Value) → List (K × X) → ValueMap X
 map_of key es = finite.from_entries (map (λ (e : _ × _). (key e.0, e.1)) es)
 
+-- entries with their keys as values
+abbrev pub by_value : {K X : Type 0} → (K → Value) → List (K × X) → List (Value × X)
+by_value key es = map (λ (e : _ × _). (key e.0, e.1)) es
+
+-- entries merged into a map, one after another
+abbrev pub merged_from : {X : Type 0} → (Option X → X → X) → ValueMap X → List (Value × X) → ValueMap X
+merged_from f m [] = m
+merged_from f m (e ∷ es) = merged_from f (merge_key f m e.0 e.1) es
+
 -- a key that is a value shows as it is
 abbrev pub itself : Value → Value
 itself v = v
+
+-- keys that are kept as the second says may be kept as the first says: alike, or as values
+abbrev pub CanKeep : Option Kind → Option Kind → Type 0
+CanKeep None kind = Unit {0}
+CanKeep (Some k) kind = kind ≡ Some k
 
 -- each key is one that a part takes whose keys are kept so
 abbrev pub KeysAreKept : {X : Type 0} → Option Kind → ValueMap X → Type 0

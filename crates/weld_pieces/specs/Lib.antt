@@ -1,4 +1,5 @@
 pub mod Answer
+pub mod Fields
 pub mod Items
 pub mod Kept
 pub mod KeyLaws

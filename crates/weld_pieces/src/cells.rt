@@ -129,6 +129,32 @@ impl CellsPart {
         Ok(list_of(alloc, kind, &cells)?.into_column())
     }
 
+    /// The operator, the kind and the number of cells. It takes no memory.
+    pub fn shape(&self) -> CellsShape
+        ensures op { result.op ≡ self.now.op }
+        ensures kind { result.kind ≡ self.now.kind }
+        ensures count { result.count ≡ length self.now.cells }
+        ensures integer { IsInteger self.now.kind }
+        ensures in_range { AllInRange self.now.kind self.now.cells }
+    {
+        CellsShape {
+            op: self.op,
+            kind: self.kind,
+            count: self.cells.len(),
+        }
+    }
+
+    /// Cells that equal these.
+    pub fn copy(&self, alloc: Global) -> Result<CellsPart, AllocError>
+        ensures { IfOk result (λ c. c ≡ self.now) }
+    {
+        Ok(CellsPart {
+            op: self.op,
+            kind: self.kind,
+            cells: Vec::from_slice(alloc, &self.cells)?,
+        })
+    }
+
     /// How many cells there are. It takes no memory.
     pub fn count(&self) -> usize
         ensures { result ≡ length self.now.cells }

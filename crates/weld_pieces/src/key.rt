@@ -1,5 +1,6 @@
 //! Keys that are kept in order as values.
 
+use std::alloc::{AllocError, Global};
 use std::cmp::Ordering;
 use std::marker::Model;
 use weld_data::Val;
@@ -28,7 +29,7 @@ impl Model for Key {
 }
 
 impl Key {
-    ghost use Rattle.std.specs.Prelude.{◌≡◌};
+    ghost use Rattle.std.specs.Prelude.{◌≡◌, IfOk};
     ghost use Rattle.weld_data.specs.View.{view_val};
     ghost use Rattle.weld_builders.specs.ValueOrder.{value_cmp};
     ghost use Rattle.weld_data.specs.Order.{IsKey};
@@ -48,6 +49,14 @@ impl Key {
     {
         let Key { value } = self;
         value
+    }
+
+    /// A value that equals the key.
+    pub fn to_value(&self, alloc: Global) -> Result<Val, AllocError>
+        ensures value { IfOk result (λ v. view_val v ≡ self.now) }
+        ensures key { IsKey self.now }
+    {
+        self.value.copy(alloc)
     }
 
     /// How this key stands to another.

@@ -4,12 +4,15 @@ ghost use Rattle.weld_data.specs.View.{view_val};
 ghost use Rattle.weld_data.specs.Kind.{InRange};
 ghost use Rattle.weld_builders.specs.Part.{combined, merge_key, join_maps};
 ghost use Rattle.weld_data.specs.Order.{IsKey};
+ghost use Rattle.std.specs.Map.{keys_of, values_of};
+ghost use Rattle.weld_builders.specs.Range.{AllInRange};
+ghost use Rattle.weld_pieces.specs.Keyed.{map_of, itself, by_value, merged_from, CanKeep, KeysAreKept};
 ghost use Rattle.weld_pieces.specs.KeyedView.{kind_of_keys, numbers_in, IsKeyed};
 
 use crate::key::Key;
 use crate::number::narrow;
 use crate::ordered::{merge_all, merge_at};
-use crate::pairs::{kept_pairs, plain_pairs};
+use crate::pairs::{kept_pairs, number_of, plain_pairs};
 use crate::part::Part;
 use std::alloc::{AllocError, Global};
 use std::collections::BTreeMap;
@@ -46,13 +49,13 @@ impl Model for KeyedPart {
 }
 
 impl KeyedPart {
-    ghost use Rattle.std.specs.Prelude.{◌≡◌, Some, None, IfOk, OnOk, OnErr};
+    ghost use Rattle.std.specs.Prelude.{◌≡◌, Some, None, IsTrue, IfOk, OnOk, OnErr};
     ghost use Rattle.std.specs.FinMap as finite;
     ghost use Rattle.weld_data.specs.Value.{number};
     ghost use Rattle.weld_data.specs.View.{view_val};
     ghost use Rattle.weld_data.specs.Kind.{IsInteger, InRange};
     ghost use Rattle.weld_builders.specs.Part.{combined, merge_key, join_maps};
-    ghost use Rattle.weld_pieces.specs.Keyed.{Keyed, KeysAreKept, HasOneKeyType, itself, shown};
+    ghost use Rattle.weld_pieces.specs.Keyed.{Keyed, KeysAreKept, HasOneKeyType, itself, shown, CanKeep};
     ghost use Rattle.weld_data.specs.Order.{IsKey};
     ghost use Rattle.weld_pieces.specs.Kept.{IsKeptKey};
 
@@ -78,6 +81,46 @@ impl KeyedPart {
         match &self.map {
             KeyedMap::Numbers(kind, _) => Some(*kind),
             KeyedMap::Values(_) => None,
+        }
+    }
+
+    /// How it is kept. It takes no memory.
+    pub fn shape(&self) -> KeyedShape
+        ensures key { result.key ≡ self.now.key }
+        ensures op { result.op ≡ self.now.op }
+        ensures kind { result.kind ≡ self.now.kind }
+        ensures integer { IsInteger self.now.kind }
+    {
+        KeyedShape {
+            key: self.key(),
+            op: self.op,
+            kind: self.kind,
+        }
+    }
+
+    /// Whether there are no keys. It takes no memory.
+    pub fn is_empty(&self) -> bool
+        ensures none { IsTrue result → self.now.numbers ≡ finite.empty }
+    {
+        match &self.map {
+            KeyedMap::Numbers(_, numbers) => numbers.is_empty(),
+            KeyedMap::Values(values) => values.is_empty(),
+        }
+    }
+
+    /// A part that has the same numbers. Its keys are to be kept as they are here, or as values.
+    pub fn copy_as(&self, alloc: Global, key: Option<Kind>) -> Result<KeyedPart, AllocError>
+        requires kept { KeysAreKept self.now.key self.now.numbers }
+        requires key { CanKeep key self.now.key }
+        ensures key { IfOk result (λ copy. copy.key ≡ key) }
+        ensures op { IfOk result (λ copy. copy.op ≡ self.now.op) }
+        ensures kind { IfOk result (λ copy. copy.kind ≡ self.now.kind) }
+        ensures numbers { IfOk result (λ copy. copy.numbers ≡ self.now.numbers) }
+    {
+        let mut copy = KeyedPart::empty(alloc, key, self.op, self.kind);
+        match add_map(&mut copy, alloc, &self.map) {
+            Ok(()) => Ok(copy),
+            Err(e) => Err(e),
         }
     }
 
@@ -233,6 +276,103 @@ fn all_in(map: &mut KeyedMap, op: MergeOp, kind: Kind, later: KeyedMap) -> Resul
         },
         _ => unreachable!(),
     }
+}
+
+/// Merges the numbers of a map at their keys.
+fn add_map(part: &mut KeyedPart, alloc: Global, map: &KeyedMap) -> Result<(), AllocError>
+    requires kept { KeysAreKept (kind_of_keys map.now) (numbers_in map.now) }
+    requires keyed { IsKeyed part.old.kind map.now }
+    requires key { CanKeep part.old.key (kind_of_keys map.now) }
+    ensures ok { OnOk result (part.new.numbers ≡ join_maps (combined part.old.op part.old.kind) part.old.numbers (numbers_in map.now)) }
+    ensures key { part.new.key ≡ part.old.key }
+    ensures op { part.new.op ≡ part.old.op }
+    ensures kind { part.new.kind ≡ part.old.kind }
+{
+    match map {
+        KeyedMap::Numbers(key_kind, numbers) => add_sorted_numbers(part, *key_kind, numbers),
+        KeyedMap::Values(values) => add_sorted_values(part, alloc, values),
+    }
+}
+
+/// The same of keys that are numbers, which lie in the range of their kind.
+fn add_sorted_numbers(
+    part: &mut KeyedPart,
+    key_kind: Kind,
+    map: &BTreeMap<i64, i64>,
+) -> Result<(), AllocError>
+    requires kept { KeysAreKept (Some key_kind) (map_of (number key_kind) map.now.entries) }
+    requires values { AllInRange part.old.kind (values_of map.now.entries) }
+    requires key { CanKeep part.old.key (Some key_kind) }
+    ensures ok { OnOk result (part.new.numbers ≡ join_maps (combined part.old.op part.old.kind) part.old.numbers (map_of (number key_kind) map.now.entries)) }
+    ensures key { part.new.key ≡ part.old.key }
+    ensures op { part.new.op ≡ part.old.op }
+    ensures kind { part.new.kind ≡ part.old.kind }
+{
+    let _count = map.len();
+    add_numbers(part, key_kind, map)
+}
+
+/// The same of keys that are kept as values.
+fn add_sorted_values(
+    part: &mut KeyedPart,
+    alloc: Global,
+    map: &BTreeMap<Key, i64>,
+) -> Result<(), AllocError>
+    requires values { AllInRange part.old.kind (values_of map.now.entries) }
+    requires key { part.old.key ≡ None }
+    ensures ok { OnOk result (part.new.numbers ≡ join_maps (combined part.old.op part.old.kind) part.old.numbers (map_of itself map.now.entries)) }
+    ensures key { part.new.key ≡ part.old.key }
+    ensures op { part.new.op ≡ part.old.op }
+    ensures kind { part.new.kind ≡ part.old.kind }
+{
+    let _count = map.len();
+    add_values(part, alloc, map)
+}
+
+/// Merges numbers at keys that are numbers, one after another.
+fn add_numbers(
+    part: &mut KeyedPart,
+    key_kind: Kind,
+    map: &BTreeMap<i64, i64>,
+) -> Result<(), AllocError>
+    requires keys { AllInRange key_kind (keys_of map.now.entries) }
+    requires values { AllInRange part.old.kind (values_of map.now.entries) }
+    requires key { CanKeep part.old.key (Some key_kind) }
+    ensures ok { OnOk result (part.new.numbers ≡ merged_from (combined part.old.op part.old.kind) part.old.numbers (by_value (number key_kind) map.now.entries)) }
+    ensures key { part.new.key ≡ part.old.key }
+    ensures op { part.new.op ≡ part.old.op }
+    ensures kind { part.new.kind ≡ part.old.kind }
+{
+    for (key, x) in map {
+        match part.merge_at_value(number_of(key_kind, *key), *x) {
+            Ok(()) => {}
+            Err(e) => return Err(e),
+        }
+    }
+    Ok(())
+}
+
+/// Merges numbers at keys that are values, one after another.
+fn add_values(
+    part: &mut KeyedPart,
+    alloc: Global,
+    map: &BTreeMap<Key, i64>,
+) -> Result<(), AllocError>
+    requires values { AllInRange part.old.kind (values_of map.now.entries) }
+    requires key { part.old.key ≡ None }
+    ensures ok { OnOk result (part.new.numbers ≡ merged_from (combined part.old.op part.old.kind) part.old.numbers (by_value itself map.now.entries)) }
+    ensures key { part.new.key ≡ part.old.key }
+    ensures op { part.new.op ≡ part.old.op }
+    ensures kind { part.new.kind ≡ part.old.kind }
+{
+    for (key, x) in map {
+        let value = key.to_value(alloc)?;
+        match part.merge_value(value, *x) {
+            Ok(()) => {}
+            Err(e) => return Err(e),
+        }
+    }
+    Ok(())
 }
 
 /// How a keyed part is kept.

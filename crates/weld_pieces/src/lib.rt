@@ -2,6 +2,7 @@
 #![tactic(auto)]
 
 pub mod cells;
+pub mod fields;
 mod grow;
 pub mod key;
 pub mod keyed;

@@ -1,3 +1,6 @@
+ghost use Rattle.std.specs.Prelude.{◌≡◌, map, IfOk};
+ghost use Rattle.weld_data.specs.View.{view_val, view_column};
+
 use crate::grow::append_item;
 use crate::part::Part;
 use std::alloc::{AllocError, Global};
@@ -16,7 +19,7 @@ pub enum ListPart {
 }
 
 impl ListPart {
-    ghost use Rattle.std.specs.Prelude.{◌≡◌, ◌<◌, ◌≤◌, ◌+◌, [], Some, None, IsOk, OnOk, OnErr, ◌∷◌, ◌++◌};
+    ghost use Rattle.std.specs.Prelude.{◌≡◌, ◌<◌, ◌≤◌, ◌+◌, [], Some, None, IsTrue, IsOk, IfOk, OnOk, OnErr, ◌∷◌, ◌++◌};
     ghost use Rattle.weld_data.specs.Value.{number};
     ghost use Rattle.weld_data.specs.Kind.{InRange};
     ghost use Rattle.weld_data.specs.View.{view_val, view_column};
@@ -36,6 +39,35 @@ impl ListPart {
             Some(Kind::I32) => ListPart::I32(Vec::new(alloc)),
             Some(Kind::I64) => ListPart::I64(Vec::new(alloc)),
             None => ListPart::Nest(Vec::new(alloc)),
+        }
+    }
+
+    /// How the items are kept: as numbers of a kind, or as values. It takes no memory.
+    #[inline(always)]
+    pub fn kind(&self) -> Option<Kind>
+        ensures { result ≡ kind_of_items self.now }
+    {
+        match self {
+            ListPart::Bool(_) => Some(Kind::Bool),
+            ListPart::I8(_) => Some(Kind::I8),
+            ListPart::U8(_) => Some(Kind::U8),
+            ListPart::I32(_) => Some(Kind::I32),
+            ListPart::I64(_) => Some(Kind::I64),
+            ListPart::Nest(_) => None,
+        }
+    }
+
+    /// Whether there are no items. It takes no memory.
+    pub fn is_empty(&self) -> bool
+        ensures none { IsTrue result → items_of_list self.now ≡ [] }
+    {
+        match self {
+            ListPart::Bool(items) => items.is_empty(),
+            ListPart::I8(items) => items.is_empty(),
+            ListPart::U8(items) => items.is_empty(),
+            ListPart::I32(items) => items.is_empty(),
+            ListPart::I64(items) => items.is_empty(),
+            ListPart::Nest(items) => items.is_empty(),
         }
     }
 
@@ -99,6 +131,30 @@ impl ListPart {
         }
     }
 
+    /// A list of the same items, kept as they are kept here.
+    pub fn copy(&self, alloc: Global) -> Result<ListPart, AllocError>
+        ensures items { IfOk result (λ list. items_of_list list ≡ items_of_list self.now) }
+        ensures kind { IfOk result (λ list. kind_of_items list ≡ kind_of_items self.now) }
+    {
+        match self {
+            ListPart::Bool(items) => Ok(ListPart::Bool(Vec::from_slice(alloc, items)?)),
+            ListPart::I8(items) => Ok(ListPart::I8(Vec::from_slice(alloc, items)?)),
+            ListPart::U8(items) => Ok(ListPart::U8(Vec::from_slice(alloc, items)?)),
+            ListPart::I32(items) => Ok(ListPart::I32(Vec::from_slice(alloc, items)?)),
+            ListPart::I64(items) => Ok(ListPart::I64(Vec::from_slice(alloc, items)?)),
+            ListPart::Nest(items) => Ok(ListPart::Nest(copies_of(alloc, items)?)),
+        }
+    }
+
+    /// A list of the same items, kept as values.
+    pub fn to_values(&self, alloc: Global) -> Result<ListPart, AllocError>
+        ensures items { IfOk result (λ list. items_of_list list ≡ items_of_list self.now) }
+        ensures kind { IfOk result (λ list. kind_of_items list ≡ None) }
+    {
+        let column = self.copy(alloc)?.into_column();
+        Ok(ListPart::Nest(elements_of(alloc, &column)?))
+    }
+
     /// The items as a column, which keeps their memory. It takes none.
     pub fn into_column(self) -> Column
         ensures { view_column result ≡ items_of_list self }
@@ -143,6 +199,29 @@ impl ListPart {
             ListPart::Nest(items) => items.reserve(more),
         }
     }
+}
+
+/// Values that equal these.
+fn copies_of(alloc: Global, values: &[Val]) -> Result<Vec<Val>, AllocError>
+    ensures { IfOk result (λ copies. copies.items ≡ values.now) }
+{
+    let mut copies = Vec::with_capacity(alloc, values.len())?;
+    for value in values {
+        copies.push(value.copy(alloc)?)?;
+    }
+    Ok(copies)
+}
+
+/// The elements of a column, each as a value.
+fn elements_of(alloc: Global, column: &Column) -> Result<Vec<Val>, AllocError>
+    ensures { IfOk result (λ values. map view_val values.items ≡ view_column column.now) }
+{
+    let count = column.len();
+    let mut values = Vec::with_capacity(alloc, count)?;
+    for place in 0..count {
+        values.push(column.copy_at(alloc, place)?)?;
+    }
+    Ok(values)
 }
 
 impl Part for ListPart {

@@ -1,6 +1,6 @@
 //! Numbers by keys in std's ordered map.
 
-ghost use Rattle.std.specs.Prelude.{◌≡◌, IfSome, OnOk, OnErr};
+ghost use Rattle.std.specs.Prelude.{◌≡◌, OnOk, OnErr};
 ghost use Rattle.std.specs.Map.{values_of};
 ghost use Rattle.std.specs.BTreeMap.{IsOrdered};
 ghost use Rattle.weld_data.specs.Kind.{IsInteger, InRange};
@@ -29,24 +29,16 @@ pub(crate) fn merge_at<K: Ord + Drop>(
     ensures err { OnErr result (map.new.entries ≡ map.old.entries) }
     ensures values { AllInRange kind (values_of map.new.entries) }
 {
-    let old = map.get(&key).copied();
-    let merged = combine_onto(op, kind, old, x);
-    map.insert(key, merged)?;
-    Ok(())
-}
-
-/// A number after what may be there.
-#[inline(always)]
-fn combine_onto(op: MergeOp, kind: Kind, old: Option<i64>, x: i64) -> i64
-    requires integer { IsInteger kind }
-    requires old { IfSome old (InRange kind) }
-    requires number { InRange kind x }
-    ensures value { result ≡ combined op kind old x }
-    ensures in_range { InRange kind result }
-{
-    match old {
-        Some(before) => combine_kept(op, kind, before, x),
-        None => x,
+    match map.get_mut(&key) {
+        Some(number) => {
+            let before = *number;
+            *number = combine_kept(op, kind, before, x);
+            Ok(())
+        }
+        None => {
+            map.insert(key, x)?;
+            Ok(())
+        }
     }
 }
 

@@ -83,7 +83,7 @@ pub(crate) fn plain_pairs(
 }
 
 /// A number of a kind as a value.
-fn number_of(kind: Kind, x: i64) -> Val
+pub(crate) fn number_of(kind: Kind, x: i64) -> Val
     requires { InRange kind x }
     ensures { view_val result ≡ number kind x }
 {

@@ -78,10 +78,18 @@ impl TotalPart {
         self.value = combine_kept(self.op, self.kind, self.value, later.value);
     }
 
+    /// The operator. It takes no memory.
+    pub fn op(&self) -> MergeOp
+        ensures { result ≡ self.now.op }
+    {
+        self.op
+    }
+
     /// The number. It takes no memory.
     pub fn number(&self) -> Num
         ensures kind { result.kind ≡ self.now.kind }
         ensures value { result.value ≡ self.now.value }
+        ensures integer { IsInteger self.now.kind }
     {
         Num {
             kind: self.kind,

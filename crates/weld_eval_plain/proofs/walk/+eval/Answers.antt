@@ -100,16 +100,16 @@ eval_turn-returns-in-Ok t c =
     let q : eval c.deref.result.now ((c.in-Iterate.binder.sym.0, plain (view_val c.args.state)) ∷ env_of c.args.frame.now) ≡ done (held_of c.in-Ok.pair) = sym (ap (λ (g : Env). eval c.deref.result.now g) c.bind-inner.ensures) ∙ c.in-Ok.ensures in
     turn_answers _ _ _ c.deref.result.now (env_of c.args.frame.now) c.args.e.now (view_val c.args.state) (held_of c.in-Ok.pair) c.pair_of.result is c.requires.state q c.pair_of.ensures
 
-pub eval_iterate-loop-turn-preserved : goal.eval_iterate-loop-turn-preserved
-eval_iterate-loop-turn-preserved t c =
+pub eval_turns-loop-turn-preserved : goal.eval_turns-loop-turn-preserved
+eval_turns-loop-turn-preserved t c =
     (c.in-Ok-default-true.ensures.0, c.loop-turn.invariant.1 ∙ turns_go_on c.args.e.now (env_of c.args.frame.now) c.loop-turn._turn (view_val c.loop-turn.state) (c.in-Ok-default-true.next, c.in-Ok-default-true.field-0-1) (omega arith) c.in-Ok-default-true.field-0-1-test c.in-Ok-default-true.ensures)
 
-pub eval_iterate-returns-in-Ok-default-false : goal.eval_iterate-returns-in-Ok-default-false
-eval_iterate-returns-in-Ok-default-false t c =
+pub eval_turns-returns-in-Ok-default-false : goal.eval_turns-returns-in-Ok-default-false
+eval_turns-returns-in-Ok-default-false t c =
     c.loop-turn.invariant.1 ∙ turns_end c.args.e.now (env_of c.args.frame.now) c.loop-turn._turn (view_val c.loop-turn.state) (c.in-Ok-default-false.last, c.in-Ok-default-false.field-0-1) (omega arith) c.in-Ok-default-false.field-0-1-test c.in-Ok-default-false.ensures
 
-pub eval_iterate-returns : goal.eval_iterate-returns
-eval_iterate-returns t c =
+pub eval_turns-returns : goal.eval_turns-returns
+eval_turns-returns t c =
     c.loop-turn.invariant.1 ∙ turns_exceeded c.args.e.now (env_of c.args.frame.now) c.loop-turn._turn (view_val c.loop-turn.state) (omega arith)
 
 pub eval_leg-whole-requires : goal.eval_leg-whole-requires

@@ -46,8 +46,11 @@ decreases-eval_iterate l = 8 * expr_nodes l.e.now + 6
 abbrev pub decreases-eval_state : goal.decreases-eval_state
 decreases-eval_state l = 8 * expr_nodes l.e.now + 5
 
+abbrev pub decreases-eval_turns : goal.decreases-eval_turns
+decreases-eval_turns l = 8 * expr_nodes l.e.now + 5
+
 abbrev pub decreases-eval_turn : goal.decreases-eval_turn
-decreases-eval_turn l = 8 * expr_nodes l.e.now + 5
+decreases-eval_turn l = 8 * expr_nodes l.e.now + 4
 
 abbrev pub decreases-eval_loop : goal.decreases-eval_loop
 decreases-eval_loop l = 8 * expr_nodes l.e.now + 6
@@ -78,8 +81,8 @@ decreases-eval_strided l = 8 * leg_nodes (view_leg l.leg.now) + 8
 
 -- the turns that are left from the state make the whole
 
-abbrev pub invariant-eval_iterate-loop-turn : goal.invariant-eval_iterate-loop-turn
-invariant-eval_iterate-loop-turn l = HoldsState l.e (env_of l.frame) (view_val l.state) × (eval l.e (env_of l.frame) ≡ turns_from l.e (env_of l.frame) (turn_limit - l._turn) (view_val l.state))
+abbrev pub invariant-eval_turns-loop-turn : goal.invariant-eval_turns-loop-turn
+invariant-eval_turns-loop-turn l = HoldsState l.e (env_of l.frame) (view_val l.state) × (turns_from l.e (env_of l.frame) turn_limit (view_val l.fn.start) ≡ turns_from l.e (env_of l.frame) (turn_limit - l._turn) (view_val l.state))
 
 -- what was gathered so far and what is left make the whole
 

@@ -1,4 +1,4 @@
-use Rattle.std.proofs.Common.{◌∷◌, ◌++◌, [], ap, sym, ◌∙◌}
+use Rattle.std.proofs.Common.{◌∷◌, ◌++◌, [], ap, ◌∙◌}
 use Rattle.std.specs.BTreeMap.{is_at, insert_entry}
 use Rattle.weld_data.specs.View.{view_val}
 use Rattle.weld_groups.proofs.ListLemmas.{found_appended, new_appended, same_written, written_lists, inserted_lists, found_list, on_ok, on_err}

@@ -1,0 +1,36 @@
+-- Merges into cells, and joins of cells.
+use Rattle.std.proofs.Common.{◌≡◌, ℤ, List, Result, Ok, Err, ap, sym, ◌∙◌}
+use Rattle.weld_data.specs.declared.kind.Kind.{Kind}
+use Rattle.weld_data.specs.declared.op.MergeOp.{MergeOp}
+use Rattle.weld_data.specs.declared.stop.Stop.{Stop}
+use Rattle.weld_data.specs.declared.stop.Stop.TheVariants.{Fault, Memory}
+use Rattle.weld_builders.specs.Outcome.{Outcome, done, map_out}
+use Rattle.weld_builders.specs.Part.{Part, cells_part, cells_shape, shape_of, start_part, after_part}
+use Rattle.weld_builders.specs.Range.{IsInRange}
+use Rattle.weld_builders.proofs.Joins.{bare_before, bare_behind}
+use Rattle.weld_builders.proofs.Shapes.{shape_of-start_part}
+use Rattle.weld_pieces.specs.Answer.{CellAnswer}
+use Rattle.weld_pieces.specs.declared.cells.CellsShape.{CellsShape}
+use Rattle.weld_built.specs.CellsState.{part_of_cells_state}
+use Rattle.weld_built.specs.State.{MergeAnswer}
+use Rattle.weld_built.specs.declared.cells.Cells.{Cells}
+use Rattle.weld_built.specs.declared.cells.Cells.TheVariants as cells
+
+pub cell_merged : {T : Type 0} (r : Result T Stop) (op new_op : MergeOp) (kind new_kind : Kind) (o : Outcome (List ℤ)) (old new : List ℤ) → CellAnswer r o old new → new_op ≡ op → new_kind ≡ kind
+    → MergeAnswer r (map_out (cells_part op kind) o) (cells_part new_op new_kind new)
+cell_merged (Ok t) op new_op kind new_kind o old new h p k = ap (map_out (cells_part op kind)) h ∙ (λ i. done (cells_part (sym p i) (sym k i) new))
+cell_merged (Err Fault) op new_op kind new_kind o old new h p k = ap (map_out (cells_part op kind)) h.0
+cell_merged (Err Memory) op new_op kind new_kind o old new h p k = tt
+
+pub bare_shape : (c : Cells) (alloc : _) (s : CellsShape) → c ≡ cells.Bare alloc s → shape_of (part_of_cells_state c) ≡ cells_shape s.op s.kind s.count
+bare_shape c alloc s e = ap (λ d. shape_of (part_of_cells_state d)) e ∙ shape_of-start_part (cells_shape s.op s.kind s.count)
+
+bare_part : (c : Cells) (alloc : _) (s : CellsShape) → c ≡ cells.Bare alloc s → start_part (shape_of (part_of_cells_state c)) ≡ part_of_cells_state c
+bare_part c alloc s e = ap start_part (bare_shape c alloc s e) ∙ sym (ap part_of_cells_state e)
+
+-- cells that have nothing merged, after others and before others
+pub bare_later : (p : Part) (c : Cells) (alloc : _) (s : CellsShape) → c ≡ cells.Bare alloc s → shape_of p ≡ shape_of (part_of_cells_state c) → IsInRange p → p ≡ after_part p (part_of_cells_state c)
+bare_later p c alloc s is e h = sym (ap (after_part p) (sym (bare_part c alloc s is) ∙ ap start_part (sym e)) ∙ bare_behind p h)
+
+pub bare_earlier : (p : Part) (c : Cells) (alloc : _) (s : CellsShape) → c ≡ cells.Bare alloc s → shape_of (part_of_cells_state c) ≡ shape_of p → IsInRange p → p ≡ after_part (part_of_cells_state c) p
+bare_earlier p c alloc s is e h = sym (ap (λ q. after_part q p) (sym (bare_part c alloc s is) ∙ ap start_part e) ∙ bare_before p h)

@@ -1,0 +1,118 @@
+//! The items of a list.
+
+ghost use Rattle.std.specs.Prelude.{◌≡◌, ◌∷◌, ◌++◌, [], None, OnOk};
+ghost use Rattle.weld_data.specs.Kind.{InRange};
+ghost use Rattle.weld_data.specs.Value.{number};
+ghost use Rattle.weld_data.specs.View.{view_val};
+ghost use Rattle.weld_pieces.specs.Items.{items_of_list, kind_of_items};
+ghost use Rattle.weld_pieces.specs.Kept.{IsKeptAs};
+ghost use Rattle.weld_built.specs.Pair.{pair};
+
+use crate::fitting::{are_alike, best_for, keeps, keeps_item, number_of};
+use std::alloc::{AllocError, Global};
+use weld_data::{Kind, Val, Vals};
+use weld_pieces::ListPart;
+
+/// Appends a number.
+#[inline]
+pub(crate) fn push_number(
+    alloc: Global,
+    list: &mut ListPart,
+    kind: Kind,
+    x: i64,
+) -> Result<(), AllocError>
+    requires { InRange kind x }
+    ensures { OnOk result (items_of_list list.new ≡ items_of_list list.old ++ number kind x ∷ []) }
+{
+    if keeps(list.kind(), kind) {
+        return list.push_number(kind, x);
+    }
+    push_item(alloc, list, number_of(kind, x))
+}
+
+/// Appends an item.
+pub(crate) fn push_item(alloc: Global, list: &mut ListPart, item: Val) -> Result<(), AllocError>
+    ensures { OnOk result (items_of_list list.new ≡ items_of_list list.old ++ view_val item ∷ []) }
+{
+    match make_ready(alloc, list, &item) {
+        Ok(()) => list.push(item),
+        Err(e) => Err(e),
+    }
+}
+
+/// Appends a struct of two fields.
+pub(crate) fn push_pair(
+    alloc: Global,
+    list: &mut ListPart,
+    first: Val,
+    second: Val,
+) -> Result<(), AllocError>
+    ensures { OnOk result (items_of_list list.new ≡ items_of_list list.old ++ pair (view_val first) (view_val second) ∷ []) }
+{
+    let mut fields = Vals::new(alloc);
+    fields.push(first)?;
+    fields.push(second)?;
+    push_item(alloc, list, Val::Struct(fields))
+}
+
+/// Chooses how items are kept such that the item can be one of them.
+fn make_ready(alloc: Global, list: &mut ListPart, item: &Val) -> Result<(), AllocError>
+    ensures items { OnOk result (items_of_list list.new ≡ items_of_list list.old) }
+    ensures kept { OnOk result (IsKeptAs (kind_of_items list.new) (view_val item.now)) }
+{
+    if list.is_empty() {
+        *list = ListPart::empty(alloc, best_for(item));
+        return Ok(());
+    }
+    if keeps_item(list.kind(), item) {
+        return Ok(());
+    }
+    make_values(alloc, list)
+}
+
+/// Keeps the items as values.
+fn make_values(alloc: Global, list: &mut ListPart) -> Result<(), AllocError>
+    ensures items { OnOk result (items_of_list list.new ≡ items_of_list list.old) }
+    ensures kind { OnOk result (kind_of_items list.new ≡ None) }
+{
+    if list.kind().is_none() {
+        return Ok(());
+    }
+    match list.to_values(alloc) {
+        Ok(values) => {
+            *list = values;
+            Ok(())
+        }
+        Err(e) => Err(e),
+    }
+}
+
+/// Appends the items of a later list.
+pub(crate) fn join_lists(
+    alloc: Global,
+    list: &mut ListPart,
+    later: ListPart,
+) -> Result<(), AllocError>
+    ensures { OnOk result (items_of_list list.new ≡ items_of_list list.old ++ items_of_list later) }
+{
+    if are_alike(list.kind(), later.kind()) {
+        return list.append(later);
+    }
+    if list.is_empty() {
+        *list = later;
+        return Ok(());
+    }
+    append_copy(alloc, list, &later)
+}
+
+/// Appends the items of a list that is kept otherwise.
+fn append_copy(alloc: Global, list: &mut ListPart, later: &ListPart) -> Result<(), AllocError>
+    ensures { OnOk result (items_of_list list.new ≡ items_of_list list.old ++ items_of_list later.now) }
+{
+    if later.is_empty() {
+        return Ok(());
+    }
+    make_values(alloc, list)?;
+    let more = later.to_values(alloc)?;
+    list.append(more)
+}
