@@ -1,0 +1,9 @@
+pub mod Outcomes
+pub mod InPlace
+pub mod Keeps
+pub mod Direct
+pub mod RowActs
+pub mod RangeSteps
+pub mod Children
+pub mod RangeLaw
+pub mod Decided

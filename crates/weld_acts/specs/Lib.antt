@@ -1,0 +1,5 @@
+pub mod Act
+pub mod ActFits
+pub mod PathView
+pub mod Ranges
+pub mod Test

@@ -1,0 +1,320 @@
+-- What is done in place, step by step.
+use Rattle.std.proofs.Common.{◌≡◌, ℕ, zero, suc, ◌+◌, ◌<◌, ◌≤◌, ◌∷◌, Bool, true, false, List, [], length, get_or, drop, Result, Ok, Err, Option, Some, None, refl, sym, ap, ◌∙◌, subst, arith}
+use Rattle.weld_data.specs.declared.stop.Stop.{Stop}
+use Rattle.weld_data.specs.declared.stop.Stop.TheVariants.{Fault, Memory}
+use Rattle.weld_data.specs.Value.{Value, values}
+use Rattle.weld_tree.specs.declared.binder.Binder.{Binder}
+use Rattle.weld_tree.specs.TypeTree.{TypeTree, TypeTrees, build, no_types, more_types}
+use Rattle.weld_tree.specs.Types.{IsBuilder}
+use Rattle.weld_tree.specs.ExprTree.{ExprTree, ExprTrees, At, LegTrees, one, two, three, many, let_in, loop, iterate, Two, binary, and, or, look_up, key_exists, merge, Three, if_else, select, slice, Many, make_vec, make_struct, no_exprs, more_exprs, pack_exprs}
+use Rattle.weld_builders.specs.Outcome.{Outcome, done, fault, stuck, and_then, map_out}
+use Rattle.weld_builders.specs.Part.{Part}
+use Rattle.weld_meaning.specs.Thing.{Thing, plain, building, several, Things, no_things, more_things}
+use Rattle.weld_meaning.specs.ThingType.{HasThing, HaveBuilders}
+use Rattle.weld_meaning.specs.Typing.{TwoHas, Types, HaveTypes}
+use Rattle.weld_meaning.specs.Evaluation.{Env, eval, eval_all, many_thing, merged, truth_of, eval_legs, rows_of}
+use Rattle.weld_meaning.specs.Meaning.{GivesOrFaults}
+use Rattle.weld_meaning.proofs.NeverStuck.{never_stuck}
+use Rattle.weld_eval_values.specs.Fits.{IsTruth}
+use Rattle.weld_eval.specs.declared.thing.Owned.{Owned}
+use Rattle.weld_eval.specs.declared.thing.Owned as owned
+use Rattle.weld_eval.specs.declared.thing.Fields.{Fields}
+use Rattle.weld_eval.specs.ThingView.{thing_of}
+use Rattle.weld_eval.specs.Fit.{IsFit}
+use Rattle.weld_eval.specs.ShortView.{view_short}
+use Rattle.weld_eval.specs.declared.short.Short.{Short}
+use Rattle.weld_eval.specs.Takes.{TwoTakes, IsPlain}
+use Rattle.weld_eval.proofs.Children.{key_laws, fit_many, fit_first_of_all, fit_rest_of_all}
+use Rattle.weld_eval_forms.proofs.TwoShapes.{item_plain, item_fits, no_value_merges, no_struct_merges}
+use Rattle.weld_eval_plain.specs.Nodes.{IsIf, IsLoop, IsLet}
+use Rattle.weld_eval_plain.specs.Rows.{LegsAre}
+use Rattle.weld_acts.specs.Act.{IsMerge, IsChoice, IsStruct, AreDirect, act, act_all, Acts}
+use Rattle.weld_eval_forms.specs.Legs.{RowsAnswer}
+use Rattle.weld_eval_forms.specs.Legs.{rows_in as forms_rows}
+use Rattle.std.proofs.lemmas.List.{at_drop_more}
+use Rattle.std.proofs.Math.Seq.{drop-nil}
+use Rattle.weld_tree.specs.ExprFalls.{expr_nodes, exprs_nodes}
+use Rattle.weld_acts.specs.ActFits.{ActFits, ActsFit}
+use Rattle.weld_acts.specs.Ranges.{HoldsRange, range_over}
+use Rattle.weld_acts.proofs.Direct.{direct_value, direct_parts}
+use Rattle.weld_acts.proofs.Children.{act_gives, merge_part_acts, merge_item_fits, merge_item_direct, merge_takes, merge_is, then_acts, otherwise_acts, choice_then, choice_otherwise, choice_faults, let_acts, let_is, loop_holds, loop_is}
+use Rattle.weld_eval_plain.proofs.Nodes.{let_value_fits}
+use Rattle.weld_eval_plain.proofs.Rows.{legs_there}
+use Rattle.weld_eval_forms.specs.Legs.{leg_lists}
+use Rattle.weld_eval.specs.declared.thing.Held.{Held}
+use Rattle.weld_eval_values.specs.Answers.{Answers}
+use Rattle.weld_rows.specs.Numbers.{TriesNumber, ReadsNumber}
+use Rattle.weld_built.specs.Pair.{pair}
+use Rattle.weld_rows.specs.Puts.{IsPut, PutsThing, PutFits, IsStructForm, AreTwo, IsWrittenPair, IsTwo, IsTriple}
+use Rattle.weld_rows.specs.Runs.{Runs, RunsNumber}
+use Rattle.weld_rows.proofs.Numbers.{condition_runs, if_is_truth}
+
+-- ---- a merge
+
+pub item_runs : (a : At) (o : Two) (e f : ExprTree) (env : Env) (n : ExprTree) (s : Thing) → n ≡ two a o e f → ActFits n env s → Runs f env
+item_runs a o e f env n s is h = record { fit = merge_item_fits a o e f env n s is h; direct = merge_item_direct a o e f env n s is h }
+
+puts_thing : (t y : Thing) → TwoTakes merge t y → PutsThing t y
+puts_thing (plain w) y h = absurd (no_value_merges w y h)
+puts_thing (several ts) y h = absurd (no_struct_merges ts y h)
+puts_thing (building p) (plain v) h = item_fits p (plain v) v h refl
+puts_thing (building p) (building q) h = absurd (item_plain (building p) (building q) h)
+puts_thing (building p) (several ts) h = absurd (item_plain (building p) (several ts) h)
+
+part_of_merge : (u v w : TypeTree) (t : Thing) → TwoHas merge u v w → HasThing t u → (p : Part) × (t ≡ building p)
+part_of_merge u v w (plain x) h k = absurd (subst (HasThing (plain x)) h.1 k)
+part_of_merge u v w (building p) h k = (p, refl)
+part_of_merge u v w (several ts) h k = absurd (subst (HasThing (several ts)) h.1 k)
+
+part_acts : (a : At) (e f : ExprTree) (env : Env) (s : Thing) → ActFits (two a merge e f) env s → ActFits e env s
+part_acts a e f env s h = record {
+  fit = record { names = h.fit.names; origins = h.fit.origins; named = h.fit.named; answer = h.fit.typed.0; typed = h.fit.typed.2; keeps = h.fit.keeps.0 };
+  direct = h.direct.0;
+  name = h.name;
+  path = h.path;
+  acts = h.acts.1;
+  builder = subst (λ t. IsBuilder t) h.fit.typed.4.3 h.builder;
+  has = subst (HasThing s) h.fit.typed.4.3 h.has;
+}
+
+puts_merge : (a : At) (e f : ExprTree) (env : Env) (s t : Thing) → ActFits (two a merge e f) env s → act e env s ≡ done t → PutFits f env t
+unfolding part_acts
+puts_merge a e f env s t h q =
+    let p = part_of_merge h.fit.typed.0 h.fit.typed.1 h.fit.answer t h.fit.typed.4 (act_gives e env s t (part_acts a e f env s h) q) in record {
+      part = p.0;
+      is_part = p.1;
+      puts = λ y r. puts_thing t y (merge_takes a merge e f env (two a merge e f) s t y refl h q r);
+    }
+
+item_puts_of : (a : At) (o : Two) (e f : ExprTree) (env : Env) (s t : Thing) → ActFits (two a o e f) env s → act e env s ≡ done t → PutFits f env t
+item_puts_of a (binary op) e f env s t h q = absurd h.acts.0
+item_puts_of a and e f env s t h q = absurd h.acts.0
+item_puts_of a or e f env s t h q = absurd h.acts.0
+item_puts_of a look_up e f env s t h q = absurd h.acts.0
+item_puts_of a key_exists e f env s t h q = absurd h.acts.0
+item_puts_of a merge e f env s t h q = puts_merge a e f env s t h q
+
+pub item_puts : (a : At) (o : Two) (e f : ExprTree) (env : Env) (n : ExprTree) (s t : Thing) → n ≡ two a o e f → ActFits n env s → act e env s ≡ done t → PutFits f env t
+item_puts a o e f env n s t is h q = item_puts_of a o e f env s t (subst (λ m. ActFits m env s) is h) q
+
+pub merge_by_item : {T : Type 0} (r : Result T Stop) (a : At) (o : Two) (e f : ExprTree) (env : Env) (n : ExprTree) (s t u : Thing) → n ≡ two a o e f → act e env s ≡ done t → Acts r (merged t (eval f env)) u → Acts r (act n env s) u
+merge_by_item r a o e f env n s t u is q h =
+    subst (λ (x : Outcome Thing). Acts r x u) (sym (ap (λ m. act m env s) is ∙ ap (λ x. and_then x (λ w. merged w (eval f env))) q)) h
+
+-- ---- an item
+
+pub put_is : {T : Type 0} (r : Result T Stop) (e : ExprTree) (env : Env) (s t y : Thing) → eval e env ≡ done y → Acts r (merged s (done y)) t → Acts r (merged s (eval e env)) t
+put_is r e env s t y q h = subst (λ (o : Outcome Thing). Acts r (merged s o) t) (sym q) h
+
+merged_fault : (p : Part) → merged (building p) fault ≡ fault
+merged_fault p = refl
+
+put_fault : (e : ExprTree) (env : Env) (s : Thing) → PutFits e env s → eval e env ≡ fault → merged s (eval e env) ≡ fault
+put_fault e env s h q = ap (merged s) q ∙ ap (λ x. merged x fault) h.is_part
+
+pub put_stops : (U : Type 0) (stop : Stop) (e : ExprTree) (env : Env) (s t : Thing) → PutFits e env s → TriesNumber (Err stop) (eval e env) → Acts {T = U} (Err stop) (merged s (eval e env)) t
+put_stops U Fault e env s t h q = put_fault e env s h q
+put_stops U Memory e env s t h q = tt
+
+pub put_number_item : (e : ExprTree) (env : Env) (s : Thing) (v : Value) → PutFits e env s → eval e env ≡ done (plain v) → IsPut s v
+put_number_item e env s v h q = h.puts (plain v) q
+
+puts_plain : (s y : Thing) → PutsThing s y → IsPlain y
+puts_plain s (plain v) h = tt
+puts_plain s (building p) h = absurd h
+puts_plain s (several ts) h = absurd h
+
+pub put_thing : (e : ExprTree) (env : Env) (s y : Thing) → PutFits e env s → eval e env ≡ done y → PutsThing s y
+put_thing e env s y h q = h.puts y q
+
+pub put_plain : (e : ExprTree) (env : Env) (s y : Thing) → PutFits e env s → eval e env ≡ done y → IsPlain y
+put_plain e env s y h q = puts_plain s y (h.puts y q)
+
+pub put_of_plain : (s y : Thing) (v : Value) → PutsThing s y → y ≡ plain v → IsPut s v
+put_of_plain s y v h same = subst (PutsThing s) same h
+
+-- ---- an `if`
+
+choice_form : (a : At) (o : Three) (c e f : ExprTree) (env : Env) (s : Thing) → ActFits (three a o c e f) env s → IsIf (three a o c e f)
+choice_form a if_else c e f env s h = tt
+choice_form a select c e f env s h = absurd h.acts.0
+choice_form a slice c e f env s h = absurd h.acts.0
+
+choice_if : (a : At) (o : Three) (c e f : ExprTree) (env : Env) (n : ExprTree) (s : Thing) → n ≡ three a o c e f → ActFits n env s → IsIf n
+choice_if a o c e f env n s is h = subst (λ m. IsIf m) (sym is) (choice_form a o c e f env s (subst (λ m. ActFits m env s) is h))
+
+pub choice_runs : (a : At) (o : Three) (c e f : ExprTree) (env : Env) (n : ExprTree) (s : Thing) → n ≡ three a o c e f → ActFits n env s → RunsNumber c env
+choice_runs a o c e f env n s is h = condition_runs a o c e f env n is (choice_if a o c e f env n s is h) h.fit h.direct
+
+pub choice_truth : (a : At) (o : Three) (c e f : ExprTree) (env : Env) (n : ExprTree) (s : Thing) (v : Value) → n ≡ three a o c e f → ActFits n env s → eval c env ≡ done (plain v) → IsTruth v
+choice_truth a o c e f env n s v is h q = if_is_truth a o c e f env n v is (choice_if a o c e f env n s is h) h.fit q
+
+pub acts_then : {T : Type 0} (r : Result T Stop) (a : At) (o : Three) (c e f : ExprTree) (env : Env) (n : ExprTree) (s t : Thing) (v : Value) → n ≡ three a o c e f → eval c env ≡ done (plain v) → truth_of v ≡ done true → Acts r (act e env s) t → Acts r (act n env s) t
+acts_then r a o c e f env n s t v is q d h = subst (λ (x : Outcome Thing). Acts r x t) (sym (choice_then a o c e f env n s (plain v) v is q refl d)) h
+
+pub acts_otherwise : {T : Type 0} (r : Result T Stop) (a : At) (o : Three) (c e f : ExprTree) (env : Env) (n : ExprTree) (s t : Thing) (v : Value) → n ≡ three a o c e f → eval c env ≡ done (plain v) → truth_of v ≡ done false → Acts r (act f env s) t → Acts r (act n env s) t
+acts_otherwise r a o c e f env n s t v is q d h = subst (λ (x : Outcome Thing). Acts r x t) (sym (choice_otherwise a o c e f env n s (plain v) v is q refl d)) h
+
+-- ---- a `let`
+
+pub let_first_runs : (a : At) (b : Binder) (e f : ExprTree) (env : Env) (n : ExprTree) (s : Thing) → n ≡ let_in a b e f → ActFits n env s → Runs e env
+let_first_runs a b e f env n s is h = record { fit = let_value_fits a b e f env n is h.fit; direct = direct_value a b e f n is h.direct }
+
+pub acts_let : {T : Type 0} (r : Result T Stop) (a : At) (b : Binder) (e f : ExprTree) (env : Env) (n : ExprTree) (s t x : Thing) → n ≡ let_in a b e f → eval e env ≡ done x → Acts r (act f ((b.sym.0, x) ∷ env) s) t → Acts r (act n env s) t
+acts_let r a b e f env n s t x is q h = subst (λ (o : Outcome Thing). Acts r o t) (sym (let_is a b e f env n s x is q)) h
+
+-- ---- a pair that is written
+
+two_parts : (es : List ExprTree) → AreTwo (pack_exprs es) → (k : ExprTree) × (v : ExprTree) × (es ≡ k ∷ v ∷ [])
+two_parts [] h = absurd h
+two_parts (e ∷ []) h = absurd h
+two_parts (e ∷ f ∷ []) h = (e, f, refl)
+two_parts (e ∷ f ∷ g ∷ es) h = absurd h
+
+written : (a : At) (o : Many) (es : List ExprTree) (n : ExprTree) → n ≡ many a o (pack_exprs es) → IsWrittenPair n → IsStructForm o × AreTwo (pack_exprs es)
+written a o es n is h = subst (λ m. IsWrittenPair m) is h
+
+pub written_length : (a : At) (o : Many) (es : List ExprTree) (n : ExprTree) → n ≡ many a o (pack_exprs es) → IsWrittenPair n → length es ≡ 2
+written_length a o es n is h = let t = two_parts es (written a o es n is h).1 in ap (λ (l : List ExprTree). length l) t.2
+
+pair_runs : (a : At) (o : Many) (k v : ExprTree) (env : Env) → Runs (many a o (more_exprs k (more_exprs v no_exprs))) env → Runs k env × Runs v env
+pair_runs a o k v env h =
+    let fit = fit_many a o (more_exprs k (more_exprs v no_exprs)) env h.fit in (
+      record { fit = fit_first_of_all k (more_exprs v no_exprs) env fit; direct = h.direct.0 },
+      record { fit = fit_first_of_all v no_exprs env (fit_rest_of_all k (more_exprs v no_exprs) env fit); direct = h.direct.1.0 },
+    )
+
+pair_value : (a : At) (k v : ExprTree) (env : Env) (x y : Value) → eval k env ≡ done (plain x) → eval v env ≡ done (plain y) → eval (many a make_struct (more_exprs k (more_exprs v no_exprs))) env ≡ done (plain (pair x y))
+pair_value a k v env x y p q =
+    ap (λ o. and_then (and_then o (λ t. map_out (more_things t) (and_then (eval v env) (λ u. map_out (more_things u) (done no_things))))) (many_thing make_struct)) p
+    ∙ ap (λ o. and_then (map_out (more_things (plain x)) (and_then o (λ u. map_out (more_things u) (done no_things)))) (many_thing make_struct)) q
+
+as_pair : (a : At) (o : Many) (es : List ExprTree) (n : ExprTree) → n ≡ many a o (pack_exprs es) → IsWrittenPair n → (k : ExprTree) × (v : ExprTree) × (es ≡ k ∷ v ∷ []) × (n ≡ many a make_struct (more_exprs k (more_exprs v no_exprs)))
+as_pair a make_vec es n is h = absurd (written a make_vec es n is h).0
+as_pair a make_struct es n is h =
+    let t = two_parts es (written a make_struct es n is h).1 in
+    (t.0, t.1, t.2, is ∙ ap (λ (l : List ExprTree). many a make_struct (pack_exprs l)) t.2)
+
+key_is : (es : List ExprTree) (k v e : ExprTree) → es ≡ k ∷ v ∷ [] → e ≡ get_or es 0 e → e ≡ k
+key_is es k v e same at = at ∙ ap (λ (l : List ExprTree). get_or l 0 e) same
+
+item_is : (es : List ExprTree) (k v e : ExprTree) → es ≡ k ∷ v ∷ [] → e ≡ get_or es 1 e → e ≡ v
+item_is es k v e same at = at ∙ ap (λ (l : List ExprTree). get_or l 1 e) same
+
+pub pair_key_runs : (a : At) (o : Many) (es : List ExprTree) (env : Env) (n e : ExprTree) → n ≡ many a o (pack_exprs es) → IsWrittenPair n → Runs n env → e ≡ get_or es 0 e → Runs e env
+pair_key_runs a o es env n e is form h at =
+    let p = as_pair a o es n is form in
+    subst (λ m. Runs m env) (sym (key_is es p.0 p.1 e p.2 at)) (pair_runs a make_struct p.0 p.1 env (subst (λ m. Runs m env) p.3 h)).0
+
+pub pair_item_runs : (a : At) (o : Many) (es : List ExprTree) (env : Env) (n e : ExprTree) → n ≡ many a o (pack_exprs es) → IsWrittenPair n → Runs n env → e ≡ get_or es 1 e → Runs e env
+pair_item_runs a o es env n e is form h at =
+    let p = as_pair a o es n is form in
+    subst (λ m. Runs m env) (sym (item_is es p.0 p.1 e p.2 at)) (pair_runs a make_struct p.0 p.1 env (subst (λ m. Runs m env) p.3 h)).1
+
+pub pair_is : (a : At) (o : Many) (es : List ExprTree) (env : Env) (n e f : ExprTree) (x y : Value) → n ≡ many a o (pack_exprs es) → IsWrittenPair n → e ≡ get_or es 0 e → f ≡ get_or es 1 f
+    → eval e env ≡ done (plain x) → eval f env ≡ done (plain y) → eval n env ≡ done (plain (pair x y))
+pair_is a o es env n e f x y is form at also q r =
+    let p = as_pair a o es n is form in
+    ap (λ m. eval m env) p.3
+    ∙ pair_value a p.0 p.1 env x y (ap (λ m. eval m env) (sym (key_is es p.0 p.1 e p.2 at)) ∙ q) (ap (λ m. eval m env) (sym (item_is es p.0 p.1 f p.2 also)) ∙ r)
+
+key_fault : (a : At) (k v : ExprTree) (env : Env) → eval k env ≡ fault → eval (many a make_struct (more_exprs k (more_exprs v no_exprs))) env ≡ fault
+key_fault a k v env q = ap (λ o. and_then (and_then o (λ t. map_out (more_things t) (and_then (eval v env) (λ u. map_out (more_things u) (done no_things))))) (many_thing make_struct)) q
+
+not_stuck : (o : Outcome Thing) (P : Thing → Type 0) → GivesOrFaults P o → and_then o (λ t. map_out (more_things t) fault) ≡ fault
+not_stuck (done x) P h = refl
+not_stuck fault P h = refl
+not_stuck stuck P h = absurd h
+
+item_fault : (a : At) (k v : ExprTree) (env : Env) → IsFit k env → eval v env ≡ fault → eval (many a make_struct (more_exprs k (more_exprs v no_exprs))) env ≡ fault
+item_fault a k v env h q =
+    ap (λ o. and_then (and_then (eval k env) (λ t. map_out (more_things t) (and_then o (λ u. map_out (more_things u) (done no_things))))) (many_thing make_struct)) q
+    ∙ ap (λ o. and_then o (many_thing make_struct)) (not_stuck (eval k env) (λ x. HasThing x h.answer) (never_stuck key_laws k h.names h.answer env h.typed h.named.formed h.named.fits).fits)
+
+pub pair_key_stops : (U : Type 0) (stop : Stop) (a : At) (o : Many) (es : List ExprTree) (env : Env) (n e : ExprTree) (s t : Thing) → n ≡ many a o (pack_exprs es) → IsWrittenPair n → e ≡ get_or es 0 e → PutFits n env s
+    → TriesNumber (Err stop) (eval e env) → Acts {T = U} (Err stop) (merged s (eval n env)) t
+pair_key_stops U Fault a o es env n e s t is form at h q =
+    let p = as_pair a o es n is form in
+    put_fault n env s h (ap (λ m. eval m env) p.3 ∙ key_fault a p.0 p.1 env (ap (λ m. eval m env) (sym (key_is es p.0 p.1 e p.2 at)) ∙ q))
+pair_key_stops U Memory a o es env n e s t is form at h q = tt
+
+pub pair_item_stops : (U : Type 0) (stop : Stop) (a : At) (o : Many) (es : List ExprTree) (env : Env) (n e : ExprTree) (s t : Thing) → n ≡ many a o (pack_exprs es) → IsWrittenPair n → Runs n env → e ≡ get_or es 1 e → PutFits n env s
+    → TriesNumber (Err stop) (eval e env) → Acts {T = U} (Err stop) (merged s (eval n env)) t
+pair_item_stops U Fault a o es env n e s t is form r at h q =
+    let p = as_pair a o es n is form in
+    put_fault n env s h
+    (ap (λ m. eval m env) p.3 ∙ item_fault a p.0 p.1 env (pair_runs a make_struct p.0 p.1 env (subst (λ m. Runs m env) p.3 r)).0.fit (ap (λ m. eval m env) (sym (item_is es p.0 p.1 e p.2 at)) ∙ q))
+pair_item_stops U Memory a o es env n e s t is form r at h q = tt
+
+-- ---- a loop that goes on
+
+pub act_over_holds : (a : At) (ls : LegTrees) (e : ExprTree) (b n x : Binder) (f : ExprTree) (env : Env) (m : ExprTree) (s t : Thing) (lists : List (List Value)) (rows : List Value) (count : ℕ) → m ≡ loop a ls e b n x f → ActFits m env s
+    → eval_legs ls env ≡ done lists → rows_of lists ≡ done rows → length rows ≡ count → act e env s ≡ done t → HoldsRange m env lists 0 count t
+act_over_holds a ls e b n x f env m s t lists rows count is h q r len u = subst (λ k. HoldsRange m env lists 0 k t) len (loop_holds a ls e b n x f env m s t lists rows is h q r u)
+
+pub act_over_is : {T : Type 0} (r : Result T Stop) (a : At) (ls : LegTrees) (e : ExprTree) (b n x : Binder) (f : ExprTree) (env : Env) (m : ExprTree) (s t u : Thing) (lists : List (List Value)) (rows : List Value) (count : ℕ) → m ≡ loop a ls e b n x f → ActFits m env s
+    → eval_legs ls env ≡ done lists → rows_of lists ≡ done rows → length rows ≡ count → act e env s ≡ done t → Acts r (range_over m env lists 0 count t) u → Acts r (act m env s) u
+act_over_is r a ls e b n x f env m s t u lists rows count is h q p len v k =
+    subst (λ (o : Outcome Thing). Acts r o u) (sym (loop_is a ls e b n x f env m s t lists rows is h q p v ∙ ap (λ i. range_over m env lists 0 i t) len)) k
+
+pub act_over_count : (a : At) (ls : LegTrees) (e : ExprTree) (b n x : Binder) (f : ExprTree) (env : Env) (m : ExprTree) (s : Thing) (hs : List Held) → m ≡ loop a ls e b n x f → ActFits m env s → LegsAre m env (leg_lists hs) → 0 < length hs
+act_over_count a ls e b n x f env m s hs is h q = legs_there a ls e b n x f env m hs is h.fit q
+
+pub no_turns : (a : At) (e : ExprTree) (b : Binder) (f : ExprTree) (env : Env) (n : ExprTree) (s : Thing) → n ≡ iterate a e b f → ActFits n env s → ⊥
+no_turns a e b f env n s is h = let k = subst (λ m. ActFits m env s) is h in k.acts
+
+pub put_made_stops : {T : Type 0} (U : Type 0) (stop : Stop) (view : T → Thing) (e : ExprTree) (env : Env) (s t : Thing) → PutFits e env s → Answers view (Err stop) (eval e env) → Acts {T = U} (Err stop) (merged s (eval e env)) t
+put_made_stops U Fault view e env s t h q = put_fault e env s h q
+put_made_stops U Memory view e env s t h q = tt
+
+pub act_over_ready : (a : At) (ls : LegTrees) (e : ExprTree) (b n x : Binder) (f : ExprTree) (env : Env) (m : ExprTree) (s t : Thing) (lists : List (List Value)) (count : ℕ) → m ≡ loop a ls e b n x f → ActFits m env s
+    → LegsAre m env lists → RowsAnswer (Ok count) lists → act e env s ≡ done t → HoldsRange m env lists 0 count t
+act_over_ready a ls e b n x f env m s t lists count is h q r u =
+    act_over_holds a ls e b n x f env m s t lists (forms_rows lists) count is h (subst (λ k. LegsAre k env lists) is q) r.0 r.1 u
+
+pub act_over_gives : {T : Type 0} (r : Result T Stop) (a : At) (ls : LegTrees) (e : ExprTree) (b n x : Binder) (f : ExprTree) (env : Env) (m : ExprTree) (s t u : Thing) (lists : List (List Value)) (count : ℕ) → m ≡ loop a ls e b n x f → ActFits m env s
+    → LegsAre m env lists → RowsAnswer (Ok count) lists → act e env s ≡ done t → Acts r (range_over m env lists 0 count t) u → Acts r (act m env s) u
+act_over_gives r a ls e b n x f env m s t u lists count is h q p v k =
+    act_over_is r a ls e b n x f env m s t u lists (forms_rows lists) count is h (subst (λ l. LegsAre l env lists) is q) p.0 p.1 v k
+
+-- ---- fields
+
+part_more : (es : List ExprTree) (i : ℕ) (e : ExprTree) → i < length es → e ≡ get_or es i e → pack_exprs (drop i es) ≡ more_exprs e (pack_exprs (drop (i + 1) es))
+part_more es i e less is = at_drop_more (λ l. pack_exprs l) es i e less ∙ ap (λ d. more_exprs d (pack_exprs (drop (i + 1) es))) (sym is)
+
+pub fields_fewer : (es : List ExprTree) (i : ℕ) (e : ExprTree) → i < length es → e ≡ get_or es i e → expr_nodes e + exprs_nodes (pack_exprs (drop (i + 1) es)) ≡ exprs_nodes (pack_exprs (drop i es))
+fields_fewer es i e less is = sym (ap exprs_nodes (part_more es i e less is))
+
+pub fields_are : (es : List ExprTree) (env : Env) (i : ℕ) (e : ExprTree) (x : Thing) (xs : Things) → i < length es → e ≡ get_or es i e
+    → act_all (pack_exprs (drop i es)) env (more_things x xs) ≡ and_then (act e env x) (λ t. map_out (more_things t) (act_all (pack_exprs (drop (i + 1) es)) env xs))
+fields_are es env i e x xs less is = ap (λ l. act_all l env (more_things x xs)) (part_more es i e less is)
+
+ended : (es : ExprTrees) (names : Types) (us : TypeTrees) → HaveTypes es names us → HaveBuilders no_things us → es ≡ no_exprs
+ended no_exprs names us h k = refl
+ended (more_exprs e es) names no_types h k = absurd h
+ended (more_exprs e es) names (more_types u us) h k = absurd k
+
+pub fields_end : (es : ExprTrees) (env : Env) → ActsFit es env no_things → act_all es env no_things ≡ done no_things
+fields_end es env h = ap (λ l. act_all l env no_things) (ended es h.fit.names h.fit.answers h.fit.typed h.have)
+
+pub some_left : (es : List ExprTree) (i : ℕ) (env : Env) (x : Thing) (xs : Things) → ActsFit (pack_exprs (drop i es)) env (more_things x xs) → i < length es
+some_left [] i env x xs h = absurd (no_fields h.fit.answers (subst (λ (l : List ExprTree). HaveTypes (pack_exprs l) h.fit.names h.fit.answers) (drop-nil i) h.fit.typed) h.have)
+  where
+    no_fields : (us : TypeTrees) → HaveTypes no_exprs h.fit.names us → HaveBuilders (more_things x xs) us → ⊥
+    no_fields no_types p q = by x q
+      where
+        by : (y : Thing) → HaveBuilders (more_things y xs) no_types → ⊥
+        by (plain v) k = k
+        by (building b) k = k
+        by (several ts) k = k
+    no_fields (more_types u us) p q = p
+some_left (e ∷ es) zero env x xs h = omega arith
+some_left (e ∷ es) (suc i) env x xs h = let less = some_left es i env x xs h in omega arith
+
+pub several_there : (b : Owned) (ts : Things) → thing_of b ≡ several ts → ((fs : Fields) → b ≡ owned.Several fs → ⊥) → ⊥
+several_there (owned.Value v) ts e other = let n : ⊥ = cc in n
+several_there (owned.Built p) ts e other = let n : ⊥ = cc in n
+several_there (owned.Several fs) ts e other = other fs refl
+
+pub reads_some : (o : Option Short) (n : Short) (x : Outcome Thing) → o ≡ Some n → ReadsNumber o x → x ≡ done (plain (view_short n))
+reads_some o n x e h = subst (λ (p : Option Short). ReadsNumber p x) e h

@@ -1,0 +1,248 @@
+-- What is known of a node that is a number is known of its parts.
+use Rattle.std.proofs.Common.{◌≡◌, ◌∷◌, ℕ, Bool, true, false, Result, Ok, Err, Option, Some, None, if◌then◌else◌, refl, sym, ap, ◌∙◌, subst}
+use Rattle.weld_data.specs.declared.stop.Stop.{Stop}
+use Rattle.weld_data.specs.declared.stop.Stop.TheVariants.{Fault, Memory}
+use Rattle.weld_data.specs.declared.kind.Kind.{Kind}
+use Rattle.weld_data.specs.declared.kind.Kind.TheVariants as kinds
+use Rattle.weld_data.specs.declared.op.BinOp.{BinOp}
+use Rattle.weld_data.specs.Order.{IsNumber}
+use Rattle.weld_data.specs.Value.{Value, number, list, struct, dict}
+use Rattle.weld_tree.specs.declared.binder.Binder.{Binder}
+use Rattle.weld_tree.specs.declared.expr.TwoForm.{TwoForm}
+use Rattle.weld_tree.specs.ExprView.{view_two}
+use Rattle.weld_tree.specs.TypeTree.{TypeTree, scalar, vec, struct as tuple, dict as mapping, build}
+use Rattle.weld_tree.specs.ExprTree.{ExprTree, At, leaf, one, two, three, many, let_in, loop, iterate, Leaf, int, truth, chars, name, fresh, One, neg, not as not_of, cast, len, field, finish, started, Two, binary, and, or, look_up, key_exists, merge, Three, if_else, select, slice}
+use Rattle.weld_fits.specs.HasValue.{HasValue}
+use Rattle.weld_builders.specs.Outcome.{Outcome, done, fault, and_then, map_out}
+use Rattle.weld_meaning.specs.Environment.{look_for}
+use Rattle.weld_meaning.specs.Thing.{Thing, plain, building, several}
+use Rattle.weld_meaning.specs.ThingType.{HasThing}
+use Rattle.weld_meaning.specs.Typing.{Types, HasType, TwoHas, ThreeHas, truth_type}
+use Rattle.weld_meaning.specs.Evaluation.{Env, eval, operated, one_thing, two_thing, three_thing, truth_of, truth_value, chosen}
+use Rattle.weld_eval_values.specs.Answers.{Answers}
+use Rattle.weld_eval_values.specs.Fits.{AreOperands, IsTruth}
+use Rattle.weld_eval.specs.Fit.{IsFit}
+use Rattle.weld_eval.specs.ShortView.{view_short}
+use Rattle.weld_eval.specs.declared.short.Short.{Short}
+use Rattle.weld_eval.specs.Takes.{IsScalar, OneTakes, TwoTakes, IsPlain}
+use Rattle.weld_eval.proofs.Children.{gives, fit_first_of_two, fit_second_of_two, fit_first_of_three, fit_second_of_three, fit_third_of_three, fit_one}
+use Rattle.weld_eval_forms.proofs.TwoShapes.{operands}
+use Rattle.weld_eval_plain.specs.Nodes.{IsEither, IsEitherForm, IsIf, IsOne, decided}
+use Rattle.weld_eval_plain.proofs.Nodes.{both_take, part_takes, second_decides, first_decides, first_of_either_is_truth, condition_is_truth}
+use Rattle.weld_acts.specs.Act.{AreDirect}
+use Rattle.weld_rows.specs.Numbers.{number_thing, ReadsNumber, numeric, numeric_leaf, numeric_one, numeric_two, IsBinaryForm, IsBinary, IsNumberForm, IsOnNumber, IsNumberThing}
+use Rattle.weld_rows.specs.Runs.{Runs, RunsNumber}
+
+scalar_is : (t : TypeTree) (k : Kind) → t ≡ scalar k → IsScalar t
+scalar_is t k e = subst IsScalar (sym e) tt
+
+-- ---- an operator
+
+first_runs : (a : At) (o : Two) (e f : ExprTree) (env : Env) → IsBinary (two a o e f) → RunsNumber (two a o e f) env → RunsNumber e env
+first_runs a (binary op) e f env k h = record { fit = record { names = h.fit.names; origins = h.fit.origins; named = h.fit.named; answer = h.fit.typed.0; typed = h.fit.typed.2; keeps = h.fit.keeps.0 }; direct = h.direct.0; scalar = scalar_is h.fit.typed.0 h.fit.typed.4.0 h.fit.typed.4.2 }
+first_runs a and e f env k h = absurd k
+first_runs a or e f env k h = absurd k
+first_runs a look_up e f env k h = absurd k
+first_runs a key_exists e f env k h = absurd k
+first_runs a merge e f env k h = absurd k
+
+second_runs : (a : At) (o : Two) (e f : ExprTree) (env : Env) → IsBinary (two a o e f) → RunsNumber (two a o e f) env → RunsNumber f env
+second_runs a (binary op) e f env k h = record { fit = record { names = h.fit.names; origins = h.fit.origins; named = h.fit.named; answer = h.fit.typed.1; typed = h.fit.typed.3; keeps = h.fit.keeps.1 }; direct = h.direct.1; scalar = scalar_is h.fit.typed.1 h.fit.typed.4.0 h.fit.typed.4.3 }
+second_runs a and e f env k h = absurd k
+second_runs a or e f env k h = absurd k
+second_runs a look_up e f env k h = absurd k
+second_runs a key_exists e f env k h = absurd k
+second_runs a merge e f env k h = absurd k
+
+pub left_runs : (a : At) (o : Two) (e f : ExprTree) (env : Env) (n : ExprTree) → n ≡ two a o e f → IsBinary n → RunsNumber n env → RunsNumber e env
+left_runs a o e f env n is k h = first_runs a o e f env (subst (λ m. IsBinary m) is k) (subst (λ m. RunsNumber m env) is h)
+
+pub right_runs : (a : At) (o : Two) (e f : ExprTree) (env : Env) (n : ExprTree) → n ≡ two a o e f → IsBinary n → RunsNumber n env → RunsNumber f env
+right_runs a o e f env n is k h = second_runs a o e f env (subst (λ m. IsBinary m) is k) (subst (λ m. RunsNumber m env) is h)
+
+pub binary_form : (a : At) (o : Two) (e f : ExprTree) (n : ExprTree) → n ≡ two a o e f → IsBinary n → IsBinaryForm o
+binary_form a o e f n is k = subst (λ m. IsBinary m) is k
+
+pub are_operands : (a : At) (op : BinOp) (e f : ExprTree) (env : Env) (n : ExprTree) (v w : Value) → n ≡ two a (binary op) e f → RunsNumber n env → eval e env ≡ done (plain v) → eval f env ≡ done (plain w) → AreOperands op v w
+are_operands a op e f env n v w is h p q = operands op (plain v) (plain w) v w (both_take a (binary op) e f env n (plain v) (plain w) is h.fit p q) refl refl
+
+binary_is : (a : At) (op : BinOp) (e f : ExprTree) (env : Env) (n : ExprTree) (v w : Value) → n ≡ two a (binary op) e f → eval e env ≡ done (plain v) → eval f env ≡ done (plain w) → eval n env ≡ map_out plain (operated op v w)
+binary_is a op e f env n v w is p q =
+    ap (λ m. eval m env) is ∙ ap (λ o. and_then o (λ t. two_thing (binary op) t (eval f env))) p ∙ ap (two_thing (binary op) (plain v)) q
+
+-- an answer as a value is one as a thing
+answer_thing : (r : Result Short Stop) (o : Outcome Value) → Answers view_short r o → Answers number_thing r (map_out plain o)
+answer_thing (Ok n) o h = ap (map_out plain) h
+answer_thing (Err Fault) o h = ap (map_out plain) h
+answer_thing (Err Memory) o h = tt
+
+pub binary_answers : (r : Result Short Stop) (a : At) (op : BinOp) (e f : ExprTree) (env : Env) (n : ExprTree) (v w : Value) → n ≡ two a (binary op) e f → eval e env ≡ done (plain v) → eval f env ≡ done (plain w) → Answers view_short r (operated op v w) → Answers number_thing r (eval n env)
+binary_answers r a op e f env n v w is p q h = subst (Answers number_thing r) (sym (binary_is a op e f env n v w is p q)) (answer_thing r (operated op v w) h)
+
+-- ---- `&&` and `||`
+
+either_types : (a : At) (o : Two) (e f : ExprTree) (env : Env) → IsEither (two a o e f) → (h : IsFit (two a o e f) env) → (h.typed.0 ≡ truth_type) × (h.typed.1 ≡ truth_type)
+either_types a (binary op) e f env k h = absurd k
+either_types a and e f env k h = (h.typed.4.0, h.typed.4.1)
+either_types a or e f env k h = (h.typed.4.0, h.typed.4.1)
+either_types a look_up e f env k h = absurd k
+either_types a key_exists e f env k h = absurd k
+either_types a merge e f env k h = absurd k
+
+either_left : (a : At) (o : Two) (e f : ExprTree) (env : Env) → IsEither (two a o e f) → RunsNumber (two a o e f) env → RunsNumber e env
+either_left a o e f env k h = record { fit = record { names = h.fit.names; origins = h.fit.origins; named = h.fit.named; answer = h.fit.typed.0; typed = h.fit.typed.2; keeps = h.fit.keeps.0 }; direct = h.direct.0; scalar = scalar_is h.fit.typed.0 kinds.Bool (either_types a o e f env k h.fit).0 }
+
+either_right : (a : At) (o : Two) (e f : ExprTree) (env : Env) → IsEither (two a o e f) → RunsNumber (two a o e f) env → RunsNumber f env
+either_right a o e f env k h = record { fit = record { names = h.fit.names; origins = h.fit.origins; named = h.fit.named; answer = h.fit.typed.1; typed = h.fit.typed.3; keeps = h.fit.keeps.1 }; direct = h.direct.1; scalar = scalar_is h.fit.typed.1 kinds.Bool (either_types a o e f env k h.fit).1 }
+
+pub either_first : (a : At) (o : Two) (e f : ExprTree) (env : Env) (n : ExprTree) → n ≡ two a o e f → IsEither n → RunsNumber n env → RunsNumber e env
+either_first a o e f env n is k h = either_left a o e f env (subst (λ m. IsEither m) is k) (subst (λ m. RunsNumber m env) is h)
+
+pub either_second : (a : At) (o : Two) (e f : ExprTree) (env : Env) (n : ExprTree) → n ≡ two a o e f → IsEither n → RunsNumber n env → RunsNumber f env
+either_second a o e f env n is k h = either_right a o e f env (subst (λ m. IsEither m) is k) (subst (λ m. RunsNumber m env) is h)
+
+pub either_truth : (a : At) (o : Two) (e f : ExprTree) (env : Env) (n : ExprTree) (v : Value) → n ≡ two a o e f → IsEither n → RunsNumber n env → eval e env ≡ done (plain v) → IsTruth v
+either_truth a o e f env n v is k h q = first_of_either_is_truth a o e f env n (plain v) v is (subst (λ m. IsEither m) is k) h.fit q refl
+
+pub either_goes_on : (a : At) (o : TwoForm) (e f : ExprTree) (env : Env) (n : ExprTree) (v : Value) (c : Bool) → n ≡ two a (view_two o) e f → IsEither n → RunsNumber n env → eval e env ≡ done (plain v) → truth_of v ≡ done c → decided o c ≡ false → eval n env ≡ eval f env
+either_goes_on a o e f env n v c is k h q t d = second_decides a o e f env n (plain v) v c is (subst (λ m. IsEither m) is k) h.fit q refl t d
+
+pub either_ends : (a : At) (o : TwoForm) (e f : ExprTree) (env : Env) (n : ExprTree) (v : Value) (c : Bool) → n ≡ two a (view_two o) e f → IsEither n → eval e env ≡ done (plain v) → truth_of v ≡ done c → decided o c ≡ true → eval n env ≡ done (plain (truth_value c))
+either_ends a o e f env n v c is k q t d = first_decides a o e f env n (plain v) v c is (subst (λ m. IsEither m) is k) q refl t d
+
+-- ---- a form of one part
+
+pub on_part_runs : (a : At) (o : One) (e : ExprTree) (env : Env) (n : ExprTree) → n ≡ one a o e → IsNumberForm n → RunsNumber n env → RunsNumber e env
+on_part_runs a o e env n is k h = by o (subst (λ m. IsNumberForm m) is k) (subst (λ m. RunsNumber m env) is h)
+  where
+    by : (p : One) → IsOnNumber p → RunsNumber (one a p e) env → RunsNumber e env
+    by neg j r = record { fit = record { names = r.fit.names; origins = r.fit.origins; named = r.fit.named; answer = r.fit.typed.0; typed = r.fit.typed.1; keeps = r.fit.keeps.0 }; direct = r.direct; scalar = scalar_is r.fit.typed.0 r.fit.typed.2.0 r.fit.typed.2.2 }
+    by not_of j r = record { fit = record { names = r.fit.names; origins = r.fit.origins; named = r.fit.named; answer = r.fit.typed.0; typed = r.fit.typed.1; keeps = r.fit.keeps.0 }; direct = r.direct; scalar = scalar_is r.fit.typed.0 kinds.Bool r.fit.typed.2.0 }
+    by (cast k) j r = record { fit = record { names = r.fit.names; origins = r.fit.origins; named = r.fit.named; answer = r.fit.typed.0; typed = r.fit.typed.1; keeps = r.fit.keeps.0 }; direct = r.direct; scalar = scalar_is r.fit.typed.0 r.fit.typed.2.0 r.fit.typed.2.2 }
+    by len j r = absurd j
+    by (field m) j r = absurd j
+    by finish j r = absurd j
+    by (started b) j r = absurd j
+
+pub on_form : (a : At) (o : One) (e : ExprTree) (n : ExprTree) → n ≡ one a o e → IsNumberForm n → IsOnNumber o
+on_form a o e n is k = subst (λ m. IsNumberForm m) is k
+
+pub on_takes : (a : At) (o : One) (e : ExprTree) (env : Env) (n : ExprTree) (x : Thing) → n ≡ one a o e → RunsNumber n env → eval e env ≡ done x → OneTakes o x
+on_takes a o e env n x is h q = part_takes a o e env n x is h.fit q
+
+pub on_is : (a : At) (o : One) (e : ExprTree) (env : Env) (n : ExprTree) (x y : Thing) → n ≡ one a o e → eval e env ≡ done x → one_thing o x ≡ done y → eval n env ≡ done y
+on_is a o e env n x y is q r = ap (λ m. eval m env) is ∙ ap (λ u. and_then u (one_thing o)) q ∙ r
+
+-- ---- an `if`
+
+if_parts : (a : At) (o : Three) (c e f : ExprTree) (env : Env) → IsIf (three a o c e f) → (h : IsFit (three a o c e f) env) → (h.typed.0 ≡ truth_type) × (h.typed.1 ≡ h.answer) × (h.typed.2 ≡ h.answer)
+if_parts a if_else c e f env k h = (h.typed.6.0, h.typed.6.1, h.typed.6.2)
+if_parts a select c e f env k h = absurd k
+if_parts a slice c e f env k h = absurd k
+
+if_condition : (a : At) (o : Three) (c e f : ExprTree) (env : Env) → IsIf (three a o c e f) → Runs (three a o c e f) env → RunsNumber c env
+if_condition a o c e f env k h = record { fit = record { names = h.fit.names; origins = h.fit.origins; named = h.fit.named; answer = h.fit.typed.0; typed = h.fit.typed.3; keeps = h.fit.keeps.0 }; direct = h.direct.0; scalar = scalar_is h.fit.typed.0 kinds.Bool (if_parts a o c e f env k h.fit).0 }
+
+if_then : (a : At) (o : Three) (c e f : ExprTree) (env : Env) → IsIf (three a o c e f) → RunsNumber (three a o c e f) env → RunsNumber e env
+if_then a o c e f env k h = record { fit = record { names = h.fit.names; origins = h.fit.origins; named = h.fit.named; answer = h.fit.typed.1; typed = h.fit.typed.4; keeps = h.fit.keeps.1 }; direct = h.direct.1; scalar = subst IsScalar (sym (if_parts a o c e f env k h.fit).1) h.scalar }
+
+if_otherwise : (a : At) (o : Three) (c e f : ExprTree) (env : Env) → IsIf (three a o c e f) → RunsNumber (three a o c e f) env → RunsNumber f env
+if_otherwise a o c e f env k h = record { fit = record { names = h.fit.names; origins = h.fit.origins; named = h.fit.named; answer = h.fit.typed.2; typed = h.fit.typed.5; keeps = h.fit.keeps.2 }; direct = h.direct.2; scalar = subst IsScalar (sym (if_parts a o c e f env k h.fit).2) h.scalar }
+
+pub condition_runs : (a : At) (o : Three) (c e f : ExprTree) (env : Env) (n : ExprTree) → n ≡ three a o c e f → IsIf n → IsFit n env → AreDirect n → RunsNumber c env
+condition_runs a o c e f env n is k h d = if_condition a o c e f env (subst (λ m. IsIf m) is k) (record { fit = subst (λ m. IsFit m env) is h; direct = subst (λ m. AreDirect m) is d })
+
+pub then_runs : (a : At) (o : Three) (c e f : ExprTree) (env : Env) (n : ExprTree) → n ≡ three a o c e f → IsIf n → RunsNumber n env → RunsNumber e env
+then_runs a o c e f env n is k h = if_then a o c e f env (subst (λ m. IsIf m) is k) (subst (λ m. RunsNumber m env) is h)
+
+pub otherwise_runs : (a : At) (o : Three) (c e f : ExprTree) (env : Env) (n : ExprTree) → n ≡ three a o c e f → IsIf n → RunsNumber n env → RunsNumber f env
+otherwise_runs a o c e f env n is k h = if_otherwise a o c e f env (subst (λ m. IsIf m) is k) (subst (λ m. RunsNumber m env) is h)
+
+if_truth : (a : At) (o : Three) (c e f : ExprTree) (env : Env) (n : ExprTree) (v : Value) → n ≡ three a o c e f → IsIf n → IsFit n env → eval c env ≡ done (plain v) → IsTruth v
+if_truth a if_else c e f env n v is k h q = condition_is_truth a c e f env n (plain v) v is h q refl
+if_truth a select c e f env n v is k h q = absurd (subst (λ m. IsIf m) is k)
+if_truth a slice c e f env n v is k h q = absurd (subst (λ m. IsIf m) is k)
+
+pub if_is_truth : (a : At) (o : Three) (c e f : ExprTree) (env : Env) (n : ExprTree) (v : Value) → n ≡ three a o c e f → IsIf n → IsFit n env → eval c env ≡ done (plain v) → IsTruth v
+if_is_truth a o c e f env n v is k h q = if_truth a o c e f env n v is k h q
+
+if_chosen : (a : At) (o : Three) (c e f : ExprTree) (env : Env) (v : Value) (b : Bool) → IsIf (three a o c e f) → eval c env ≡ done (plain v) → truth_of v ≡ done b → eval (three a o c e f) env ≡ chosen (plain v) (eval e env) (eval f env)
+if_chosen a if_else c e f env v b k q t = ap (λ u. and_then u (λ x. three_thing if_else x (eval e env) (eval f env))) q
+if_chosen a select c e f env v b k q t = absurd k
+if_chosen a slice c e f env v b k q t = absurd k
+
+chosen_true : (v : Value) (x y : Outcome Thing) → truth_of v ≡ done true → chosen (plain v) x y ≡ x
+chosen_true v x y t = ap (λ u. and_then u (λ (c : Bool). if c then x else y)) t
+
+chosen_false : (v : Value) (x y : Outcome Thing) → truth_of v ≡ done false → chosen (plain v) x y ≡ y
+chosen_false v x y t = ap (λ u. and_then u (λ (c : Bool). if c then x else y)) t
+
+pub if_is_then : (a : At) (o : Three) (c e f : ExprTree) (env : Env) (n : ExprTree) (v : Value) → n ≡ three a o c e f → IsIf n → eval c env ≡ done (plain v) → truth_of v ≡ done true → eval n env ≡ eval e env
+if_is_then a o c e f env n v is k q t = ap (λ m. eval m env) is ∙ if_chosen a o c e f env v true (subst (λ m. IsIf m) is k) q t ∙ chosen_true v (eval e env) (eval f env) t
+
+pub if_is_otherwise : (a : At) (o : Three) (c e f : ExprTree) (env : Env) (n : ExprTree) (v : Value) → n ≡ three a o c e f → IsIf n → eval c env ≡ done (plain v) → truth_of v ≡ done false → eval n env ≡ eval f env
+if_is_otherwise a o c e f env n v is k q t = ap (λ m. eval m env) is ∙ if_chosen a o c e f env v false (subst (λ m. IsIf m) is k) q t ∙ chosen_false v (eval e env) (eval f env) t
+
+-- ---- numbers in values
+
+scalar_number : (t : TypeTree) (x : Thing) → IsScalar t → HasThing x t → IsNumberThing x
+scalar_number (scalar k) (plain (number m x)) s h = tt
+scalar_number (scalar k) (plain (list vs)) s h = absurd h
+scalar_number (scalar k) (plain (struct vs)) s h = absurd h
+scalar_number (scalar k) (plain (dict es)) s h = absurd h
+scalar_number (scalar k) (building p) s h = absurd h
+scalar_number (scalar k) (several ts) s h = absurd h
+scalar_number (vec t) x s h = absurd s
+scalar_number (tuple ts) x s h = absurd s
+scalar_number (mapping k v) x s h = absurd s
+scalar_number (build b) x s h = absurd s
+
+pub number_given : (n : ExprTree) (env : Env) (x : Thing) → RunsNumber n env → eval n env ≡ done x → IsNumberThing x
+number_given n env x h q = scalar_number h.fit.answer x h.scalar (gives n h.fit.names h.fit.origins env h.fit.answer x h.fit.named h.fit.typed q)
+
+-- ---- forms that are numbers by their looks
+
+pub numeric_scalar : (n : ExprTree) (names : Types) (t : TypeTree) → numeric n ≡ true → HasType n names t → IsScalar t
+numeric_scalar (leaf a (int k x)) names t e h = scalar_is t k h.2
+numeric_scalar (leaf a (truth b)) names t e h = scalar_is t kinds.Bool h
+numeric_scalar (leaf a (chars bs)) names t e h = let no : ⊥ = cc in absurd no
+numeric_scalar (leaf a (name s)) names t e h = let no : ⊥ = cc in absurd no
+numeric_scalar (leaf a (fresh b)) names t e h = let no : ⊥ = cc in absurd no
+numeric_scalar (one a neg f) names t e h = scalar_is t h.2.0 h.2.3
+numeric_scalar (one a not_of f) names t e h = scalar_is t kinds.Bool h.2.1
+numeric_scalar (one a (cast k) f) names t e h = scalar_is t k h.2.3
+numeric_scalar (one a len f) names t e h = scalar_is t kinds.I64 h.2.2
+numeric_scalar (one a (field m) f) names t e h = let no : ⊥ = cc in absurd no
+numeric_scalar (one a finish f) names t e h = let no : ⊥ = cc in absurd no
+numeric_scalar (one a (started b) f) names t e h = let no : ⊥ = cc in absurd no
+numeric_scalar (two a (binary op) f g) names t e h = scalar_is t _ h.4.4
+numeric_scalar (two a and f g) names t e h = scalar_is t kinds.Bool h.4.2
+numeric_scalar (two a or f g) names t e h = scalar_is t kinds.Bool h.4.2
+numeric_scalar (two a look_up f g) names t e h = let no : ⊥ = cc in absurd no
+numeric_scalar (two a key_exists f g) names t e h = scalar_is t kinds.Bool h.4.2
+numeric_scalar (two a merge f g) names t e h = let no : ⊥ = cc in absurd no
+numeric_scalar (three a if_else c f g) names t e h = subst IsScalar h.6.1 (numeric_scalar f names h.1 e h.4)
+numeric_scalar (three a select c f g) names t e h = subst IsScalar h.6.1 (numeric_scalar f names h.1 e h.4)
+numeric_scalar (three a slice c f g) names t e h = let no : ⊥ = cc in absurd no
+numeric_scalar (many a o es) names t e h = let no : ⊥ = cc in absurd no
+numeric_scalar (let_in a b f g) names t e h = numeric_scalar g ((b.sym.0, h.0) ∷ names) t e h.3
+numeric_scalar (loop a ls f b n x g) names t e h = let no : ⊥ = cc in absurd no
+numeric_scalar (iterate a f b g) names t e h = let no : ⊥ = cc in absurd no
+
+pub numeric_runs : (n : ExprTree) (env : Env) → numeric n ≡ true → Runs n env → RunsNumber n env
+numeric_runs n env e h = record { fit = h.fit; direct = h.direct; scalar = numeric_scalar n h.fit.names h.fit.answer e h.fit.typed }
+
+pub number_runs : (n : ExprTree) (env : Env) → RunsNumber n env → Runs n env
+number_runs n env h = record { fit = h.fit; direct = h.direct }
+
+pub choice_condition_runs : (a : At) (o : Three) (c e f : ExprTree) (env : Env) (n : ExprTree) → n ≡ three a o c e f → IsIf n → RunsNumber n env → RunsNumber c env
+choice_condition_runs a o c e f env n is k h = condition_runs a o c e f env n is k h.fit h.direct
+
+pub value_condition_runs : (a : At) (o : Three) (c e f : ExprTree) (env : Env) (n : ExprTree) → n ≡ three a o c e f → IsIf n → Runs n env → RunsNumber c env
+value_condition_runs a o c e f env n is k h = condition_runs a o c e f env n is k h.fit h.direct
+
+pub choice_is_truth : (a : At) (o : Three) (c e f : ExprTree) (env : Env) (n : ExprTree) (v : Value) → n ≡ three a o c e f → IsIf n → RunsNumber n env → eval c env ≡ done (plain v) → IsTruth v
+choice_is_truth a o c e f env n v is k h q = if_is_truth a o c e f env n v is k h.fit q
+
+pub value_is_truth : (a : At) (o : Three) (c e f : ExprTree) (env : Env) (n : ExprTree) (v : Value) → n ≡ three a o c e f → IsIf n → Runs n env → eval c env ≡ done (plain v) → IsTruth v
+value_is_truth a o c e f env n v is k h q = if_is_truth a o c e f env n v is k h.fit q

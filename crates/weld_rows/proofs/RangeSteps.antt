@@ -1,0 +1,180 @@
+-- The rows of a range, one after another.
+use Rattle.std.proofs.Common.{◌≡◌, ℕ, zero, suc, ◌+◌, ◌-◌, ◌<◌, ◌≤◌, List, [], ◌∷◌, length, take, drop, slice_get, Some, Result, Ok, Err, refl, sym, ap, ◌∙◌, subst, arith}
+use Rattle.weld_data.specs.declared.stop.Stop.{Stop}
+use Rattle.weld_data.specs.declared.stop.Stop.TheVariants.{Fault, Memory}
+use Rattle.weld_data.specs.Value.{Value, values}
+use Rattle.weld_tree.specs.declared.binder.Binder.{Binder}
+use Rattle.weld_tree.specs.ExprTree.{ExprTree, At, LegTrees, leaf, one, two, three, many, let_in, loop, iterate}
+use Rattle.weld_fits.specs.HasValue.{HasValue, AllAre}
+use Rattle.weld_builders.specs.Outcome.{Outcome, done, fault, and_then}
+use Rattle.weld_meaning.specs.Thing.{Thing, plain, bare_thing}
+use Rattle.weld_meaning.specs.ThingType.{HasThing}
+use Rattle.weld_meaning.specs.Evaluation.{Env, Row, rows_of, whole_number}
+use Rattle.weld_eval.specs.Fit.{IsFit}
+use Rattle.weld_eval.specs.RowLists.{rows_in, row_in, or_none}
+use Rattle.weld_eval.proofs.LoopSteps.{row_gives}
+use Rattle.weld_eval.proofs.RowLists.{row_of_rows}
+use Rattle.weld_eval_plain.specs.Rows.{row_step, rows_from, RowIs, RowsAre, HoldsRow, RowAnswer}
+use Rattle.weld_eval.specs.declared.row.RowAt.{RowAt}
+use Rattle.weld_eval.specs.RowView.{row_value}
+use Rattle.weld_eval.specs.LegsView.{lists_of}
+use Rattle.weld_acts.specs.Act.{Acts, AreDirect, act}
+use Rattle.weld_acts.specs.Ranges.{Evaluation, HoldsRange, RangeAnswer, range_over}
+use Rattle.weld_eval_plain.specs.Nodes.{IsLoop}
+use Rattle.weld_acts.proofs.RowActs.{OwnHas, row_acts, row_fits, bare_of_loop}
+use Rattle.weld_rows.specs.RangeOn.{RangeOn}
+use Rattle.weld_rows.specs.RowActs.{row_act, RowActFits}
+
+row_has : (n : ExprTree) (env : Env) (h : IsFit n env) (rows : List Value) (i : ℕ) (v : Value) → RowsAre n env h rows → slice_get rows i ≡ Some v → RowIs n env h v
+row_has (loop a ls e b n x f) env h rows i v all q = among rows i all q
+  where
+    among : (rows : List Value) (i : ℕ) → AllAre (HasValue h.typed.1) (values rows) → slice_get rows i ≡ Some v → HasValue h.typed.1 v
+    among [] i all q = let no : ⊥ = cc in absurd no
+    among (w ∷ ws) zero all q = let same : w ≡ v = cc in subst (HasValue h.typed.1) same all.0
+    among (w ∷ ws) (suc i) all q = among ws i all.1 q
+row_has _ env h rows i v all q = absurd all
+
+next_has : (n : ExprTree) (env : Env) (h : IsFit n env) (i : ℕ) (v : Value) (s t : Thing) → HasThing s h.answer → RowIs n env h v → row_step n env (i, v) s ≡ done t → HasThing t h.answer
+next_has (loop a ls e b n x f) env h i v s t hs hv q = row_gives a ls e b n x f env h i v s t hs hv q
+next_has _ env h i v s t hs hv q = absurd hv
+
+drop_row : (rows : List Value) (i : ℕ) (v : Value) → slice_get rows i ≡ Some v → drop i rows ≡ v ∷ drop (i + 1) rows
+drop_row [] i v q = let no : ⊥ = cc in absurd no
+drop_row (w ∷ ws) zero v q = let same : w ≡ v = cc in ap (λ u. u ∷ ws) same
+drop_row (w ∷ ws) (suc i) v q = let more : suc (i + 1) ≡ suc i + 1 = omega arith in drop_row ws i v q ∙ ap (λ n. v ∷ drop n (w ∷ ws)) more
+
+one_row : (n : ExprTree) (env : Env) (rows : List Value) (i to : ℕ) (v : Value) (s : Thing) → i < to → slice_get rows i ≡ Some v
+    → rows_from n env i (take (to - i) (drop i rows)) s ≡ and_then (row_step n env (i, v) s) (λ t. rows_from n env (i + 1) (take (to - (i + 1)) (drop (i + 1) rows)) t)
+one_row n env rows i to v s less q =
+    let more : suc i ≡ i + 1 = omega arith in
+    let left : to - i ≡ suc (to - (i + 1)) = omega arith in
+    ap (λ l. rows_from n env i (take (to - i) l) s) (drop_row rows i v q)
+    ∙ ap (λ k. rows_from n env i (take k (v ∷ drop (i + 1) rows)) s) left
+    ∙ ap (λ k. and_then (row_step n env (i, v) s) (λ t. rows_from n env k (take (to - (i + 1)) (drop (i + 1) rows)) t)) more
+
+bare_is : (m : ExprTree) (env : Env) (h : IsFit m env) (rows : List Value) (s : Thing) → RowsAre m env h rows → HasThing s h.answer → HasThing (bare_thing s) h.answer
+bare_is (loop a ls e b n x f) env h rows s k has = bare_of_loop a ls e b n x f env (loop a ls e b n x f) h s refl has
+bare_is _ env h rows s k has = absurd k
+
+pub range_start : (m : ExprTree) (env : Env) (lists : List (List Value)) (from to : ℕ) (s own : Thing) → HoldsRange m env lists from to s → own ≡ bare_thing s → RangeOn m env lists from to s own from s
+range_start m env lists from to s own h bare = record {
+  fit = h.fit;
+  has = h.has;
+  owns = subst (λ y. HasThing y h.fit.answer) (sym bare) (bare_is m env h.fit h.rows s h.rows_have h.has);
+  rows = h.rows;
+  are = h.are;
+  rows_have = h.rows_have;
+  reached = h.ordered;
+  within = h.within;
+  same = ap (λ o. and_then o (λ rows. rows_from m env from (take (to - from) (drop from rows)) s)) h.are;
+}
+
+pub range_there : (n : ExprTree) (env : Env) (lists : List (List Value)) (from to : ℕ) (start own : Thing) (i : ℕ) (s : Thing) → RangeOn n env lists from to start own i s → i < to → i < length (rows_in lists)
+range_there n env lists from to start own i s h less = let same : rows_in lists ≡ h.rows = ap or_none h.are in subst (λ (l : List Value). i < length l) (sym same) (omega (arith, h.within))
+
+row_at : (n : ExprTree) (env : Env) (lists : List (List Value)) (from to : ℕ) (start own : Thing) (i : ℕ) (s : Thing) → (h : RangeOn n env lists from to start own i s) → i < to → slice_get h.rows i ≡ Some (row_in lists i)
+row_at n env lists from to start own i s h less = row_of_rows lists h.rows i h.are (omega (arith, h.within))
+
+pub range_row : (n : ExprTree) (env : Env) (lists : List (List Value)) (from to : ℕ) (start own : Thing) (i : ℕ) (s : Thing) → RangeOn n env lists from to start own i s → i < to → OwnHas n env s own (row_in lists i)
+range_row n env lists from to start own i s h less = record {
+  holds = record { fit = h.fit; has = h.has; row = row_has n env h.fit h.rows i (row_in lists i) h.rows_have (row_at n env lists from to start own i s h less) };
+  own_has = h.owns;
+}
+
+pub range_next : (n : ExprTree) (env : Env) (lists : List (List Value)) (from to : ℕ) (start own : Thing) (i : ℕ) (s t : Thing) → RangeOn n env lists from to start own i s → i < to
+    → row_step n env (i, row_in lists i) s ≡ done t → RangeOn n env lists from to start own (i + 1) t
+range_next n env lists from to start own i s t h less r =
+    let q = row_at n env lists from to start own i s h less in record {
+      fit = h.fit;
+      has = next_has n env h.fit i (row_in lists i) s t h.has (row_has n env h.fit h.rows i (row_in lists i) h.rows_have q) r;
+      owns = h.owns;
+      rows = h.rows;
+      are = h.are;
+      rows_have = h.rows_have;
+      reached = omega arith;
+      within = h.within;
+      same = h.same ∙ one_row n env h.rows i to (row_in lists i) s less q ∙ ap (λ o. and_then o (λ u. rows_from n env (i + 1) (take (to - (i + 1)) (drop (i + 1) h.rows)) u)) r;
+    }
+
+pub range_fault : (n : ExprTree) (env : Env) (lists : List (List Value)) (from to : ℕ) (start own : Thing) (i : ℕ) (s : Thing) → RangeOn n env lists from to start own i s → i < to
+    → row_step n env (i, row_in lists i) s ≡ fault → range_over n env lists from to start ≡ fault
+range_fault n env lists from to start own i s h less r =
+    let q = row_at n env lists from to start own i s h less in
+    h.same ∙ one_row n env h.rows i to (row_in lists i) s less q ∙ ap (λ o. and_then o (λ u. rows_from n env (i + 1) (take (to - (i + 1)) (drop (i + 1) h.rows)) u)) r
+
+pub range_end : (n : ExprTree) (env : Env) (lists : List (List Value)) (from to : ℕ) (start own : Thing) (i : ℕ) (s : Thing) → RangeOn n env lists from to start own i s → to ≤ i → range_over n env lists from to start ≡ done s
+range_end n env lists from to start own i s h more =
+    let none : to - i ≡ 0 = omega arith in h.same ∙ ap (λ k. rows_from n env i (take k (drop i h.rows)) s) none
+
+-- ---- in place
+
+-- what is done in place on a row is what the row makes
+on_loop : (m : ExprTree) (env : Env) (lists : List (List Value)) (from to : ℕ) (start own : Thing) (i : ℕ) (s : Thing) → AreDirect m → RangeOn m env lists from to start own i s → i < to
+    → RowActFits m env own (i, row_in lists i) s × (row_step m env (i, row_in lists i) s ≡ row_act m env own (i, row_in lists i) s)
+on_loop (loop a ls e b n x f) env lists from to start own i s d h less =
+    let k = range_row (loop a ls e b n x f) env lists from to start own i s h less in (
+      row_fits a ls e b n x f env (loop a ls e b n x f) i s own (row_in lists i) refl d k,
+      row_acts a ls e b n x f env (loop a ls e b n x f) i s own (row_in lists i) refl d k.holds,
+    )
+on_loop _ env lists from to start own i s d h less = absurd h.rows_have
+
+pub range_row_acts : (m : ExprTree) (env : Env) (lists : List (List Value)) (from to : ℕ) (start own : Thing) (i : ℕ) (s : Thing) → AreDirect m → RangeOn m env lists from to start own i s → i < to → RowActFits m env own (i, row_in lists i) s
+range_row_acts m env lists from to start own i s d h less = (on_loop m env lists from to start own i s d h less).0
+
+pub range_act_next : (m : ExprTree) (env : Env) (lists : List (List Value)) (from to : ℕ) (start own : Thing) (i : ℕ) (s t : Thing) → AreDirect m → RangeOn m env lists from to start own i s → i < to
+    → row_act m env own (i, row_in lists i) s ≡ done t → RangeOn m env lists from to start own (i + 1) t
+range_act_next m env lists from to start own i s t d h less q = range_next m env lists from to start own i s t h less ((on_loop m env lists from to start own i s d h less).1 ∙ q)
+
+pub range_act_stops : (T U : Type 0) (stop : Stop) (m : ExprTree) (env : Env) (lists : List (List Value)) (from to : ℕ) (start own : Thing) (i : ℕ) (s t u : Thing) → AreDirect m → RangeOn m env lists from to start own i s → i < to
+    → Acts {T = T} (Err stop) (row_act m env own (i, row_in lists i) s) t → Acts {T = U} (Err stop) (range_over m env lists from to start) u
+range_act_stops T U Fault m env lists from to start own i s t u d h less q = range_fault m env lists from to start own i s h less ((on_loop m env lists from to start own i s d h less).1 ∙ q)
+range_act_stops T U Memory m env lists from to start own i s t u d h less q = tt
+
+-- the names of a row
+pub row_names : (x n b : ℕ) (own : Thing) (v w c d : Value) (env outer middle inner : Env) → inner ≡ (x, plain v) ∷ middle → middle ≡ (n, plain c) ∷ outer → outer ≡ (b, own) ∷ env → v ≡ w → c ≡ d → inner ≡ (x, plain w) ∷ (n, plain d) ∷ (b, own) ∷ env
+row_names x n b own v w c d env outer middle inner i m o p q =
+    i ∙ ap (λ (u : Value). (x, plain u) ∷ middle) p ∙ ap (λ (g : Env). (x, plain w) ∷ g) (m ∙ ap (λ (u : Value). (n, plain u) ∷ outer) q ∙ ap (λ (g : Env). (n, plain d) ∷ g) o)
+
+-- ---- ranges, whichever way
+
+pub holds_loop : (n : ExprTree) (env : Env) (lists : List (List Value)) (from to : ℕ) (s : Thing) → HoldsRange n env lists from to s → IsLoop n
+holds_loop n env lists from to s h = by n h.fit h.rows_have
+  where
+    by : (m : ExprTree) (f : IsFit m env) → RowsAre m env f h.rows → IsLoop m
+    by (loop a ls e b c x f) fit k = tt
+    by _ fit k = absurd k
+
+pub range_answers : {T : Type 0} (r : Result T Stop) (ev : Evaluation) (from to : ℕ) (s t : Thing) → Acts r (range_over ev.node ev.names ev.lists from to s) t → RangeAnswer r ev from to s t
+range_answers (Ok x) ev from to s t h = h
+range_answers (Err Fault) ev from to s t h = h
+range_answers (Err Memory) ev from to s t h = tt
+
+pub plain_start : (n : ExprTree) (env : Env) (lists : List (List Value)) (from to : ℕ) (s : Thing) → HoldsRange n env lists from to s → RangeOn n env lists from to s s from s
+plain_start n env lists from to s h = record {
+  fit = h.fit;
+  has = h.has;
+  owns = h.has;
+  rows = h.rows;
+  are = h.are;
+  rows_have = h.rows_have;
+  reached = h.ordered;
+  within = h.within;
+  same = ap (λ o. and_then o (λ rows. rows_from n env from (take (to - from) (drop from rows)) s)) h.are;
+}
+
+-- ---- rows that are built
+
+pub row_same : (r : RowAt) (lists : List (List Value)) (i : ℕ) (v : Value) → v ≡ row_value r → r.number ≡ i → lists_of r.legs.now ≡ lists → v ≡ row_in lists i
+row_same r lists i v e p q = e ∙ ap (λ l. row_in l r.number) q ∙ ap (row_in lists) p
+
+pub plain_row : (n : ExprTree) (env : Env) (lists : List (List Value)) (from to : ℕ) (start own : Thing) (i : ℕ) (s : Thing) (v : Value) → RangeOn n env lists from to start own i s → i < to → v ≡ row_in lists i → HoldsRow n env s v
+plain_row n env lists from to start own i s v h less e = subst (HoldsRow n env s) (sym e) (range_row n env lists from to start own i s h less).holds
+
+pub plain_next : {T : Type 0} (x : T) (n : ExprTree) (env : Env) (lists : List (List Value)) (from to : ℕ) (start own : Thing) (i : ℕ) (s t : Thing) (v : Value) → RangeOn n env lists from to start own i s → i < to → v ≡ row_in lists i
+    → RowAnswer (Ok x) n env (i, v) s t → RangeOn n env lists from to start own (i + 1) t
+plain_next x n env lists from to start own i s t v h less e r = range_next n env lists from to start own i s t h less (ap (λ w. row_step n env (i, w) s) (sym e) ∙ r)
+
+pub plain_stops : (T U : Type 0) (stop : Stop) (ev : Evaluation) (from to : ℕ) (start own : Thing) (i : ℕ) (s t u : Thing) (v : Value) → RangeOn ev.node ev.names ev.lists from to start own i s → i < to → v ≡ row_in ev.lists i
+    → RowAnswer {T = T} (Err stop) ev.node ev.names (i, v) s t → RangeAnswer {T = U} (Err stop) ev from to start u
+plain_stops T U Fault ev from to start own i s t u v h less e r = range_fault ev.node ev.names ev.lists from to start own i s h less (ap (λ w. row_step ev.node ev.names (i, w) s) (sym e) ∙ r)
+plain_stops T U Memory ev from to start own i s t u v h less e r = tt

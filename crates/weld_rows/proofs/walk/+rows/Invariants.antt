@@ -1,0 +1,116 @@
+use Rattle.std.proofs.Common.{◌≡◌, ◌+◌, ◌*◌, drop, length}
+use Rattle.weld_tree.specs.ExprFalls.{expr_nodes, exprs_nodes}
+use Rattle.weld_tree.specs.ExprTree.{pack_exprs}
+use Rattle.weld_eval.specs.FrameView.{env_of}
+use Rattle.weld_eval.specs.LegsView.{lists_of}
+use Rattle.weld_eval.specs.ThingView.{thing_of}
+use Rattle.weld_rows.specs.RangeOn.{RangeOn}
+use Rattle.weld_rows.specs.RowActs.{body_nodes}
+use Rattle.weld_rows.proofs.walk.+rows.Given as goal
+
+-- the measure: the nodes that are left to go over, 64 for each, so that a node and its steps differ; of a loop whose legs are
+-- evaluated those of its body
+
+abbrev pub decreases-number : goal.decreases-number
+decreases-number l = 64 * expr_nodes l.e.now + 11
+
+abbrev pub decreases-compound : goal.decreases-compound
+decreases-compound l = 64 * expr_nodes l.e.now + 10
+
+abbrev pub decreases-binary : goal.decreases-binary
+decreases-binary l = 64 * expr_nodes l.e.now + 9
+
+abbrev pub decreases-either : goal.decreases-either
+decreases-either l = 64 * expr_nodes l.e.now + 9
+
+abbrev pub decreases-choice : goal.decreases-choice
+decreases-choice l = 64 * expr_nodes l.e.now + 9
+
+abbrev pub decreases-on_number : goal.decreases-on_number
+decreases-on_number l = 64 * expr_nodes l.e.now + 9
+
+abbrev pub decreases-in_value : goal.decreases-in_value
+decreases-in_value l = 64 * expr_nodes l.e.now + 9
+
+abbrev pub decreases-value : goal.decreases-value
+decreases-value l = 64 * expr_nodes l.e.now + 12
+
+abbrev pub decreases-numeral : goal.decreases-numeral
+decreases-numeral l = 64 * expr_nodes l.e.now + 11
+
+abbrev pub decreases-other : goal.decreases-other
+decreases-other l = 64 * expr_nodes l.e.now + 8
+
+abbrev pub decreases-value_of_one : goal.decreases-value_of_one
+decreases-value_of_one l = 64 * expr_nodes l.e.now + 7
+
+abbrev pub decreases-value_of_if : goal.decreases-value_of_if
+decreases-value_of_if l = 64 * expr_nodes l.e.now + 7
+
+abbrev pub decreases-value_of_let : goal.decreases-value_of_let
+decreases-value_of_let l = 64 * expr_nodes l.e.now + 7
+
+abbrev pub decreases-value_of_loop : goal.decreases-value_of_loop
+decreases-value_of_loop l = 64 * expr_nodes l.e.now + 7
+
+abbrev pub decreases-value_over : goal.decreases-value_over
+decreases-value_over l = 64 * expr_nodes l.e.now + 6
+
+abbrev pub decreases-tried : goal.decreases-tried
+decreases-tried l = 64 * expr_nodes l.e.now + 13
+
+abbrev pub decreases-act : goal.decreases-act
+decreases-act l = 64 * expr_nodes l.e.now + 31
+
+abbrev pub decreases-act_merge : goal.decreases-act_merge
+decreases-act_merge l = 64 * expr_nodes l.e.now + 30
+
+abbrev pub decreases-act_if : goal.decreases-act_if
+decreases-act_if l = 64 * expr_nodes l.e.now + 30
+
+abbrev pub decreases-act_let : goal.decreases-act_let
+decreases-act_let l = 64 * expr_nodes l.e.now + 30
+
+abbrev pub decreases-act_let_value : goal.decreases-act_let_value
+decreases-act_let_value l = 64 * expr_nodes l.e.now + 29
+
+abbrev pub decreases-act_loop : goal.decreases-act_loop
+decreases-act_loop l = 64 * expr_nodes l.e.now + 30
+
+abbrev pub decreases-act_over : goal.decreases-act_over
+decreases-act_over l = 64 * expr_nodes l.e.now + 29
+
+abbrev pub decreases-act_struct : goal.decreases-act_struct
+decreases-act_struct l = 64 * expr_nodes l.e.now + 30
+
+abbrev pub decreases-put : goal.decreases-put
+decreases-put l = 64 * expr_nodes l.item.now + 20
+
+abbrev pub decreases-put_other : goal.decreases-put_other
+decreases-put_other l = 64 * expr_nodes l.item.now + 19
+
+abbrev pub decreases-put_made : goal.decreases-put_made
+decreases-put_made l = 64 * expr_nodes l.item.now + 17
+
+abbrev pub decreases-put_written : goal.decreases-put_written
+decreases-put_written l = 64 * expr_nodes l.item.now + 18
+
+abbrev pub decreases-fill : goal.decreases-fill
+decreases-fill l = 64 * body_nodes l.e.now + 41 + length l.vectors.now
+
+abbrev pub decreases-reach : goal.decreases-reach
+decreases-reach l = 64 * body_nodes l.e.now + 40 + l.left
+
+abbrev pub decreases-run_rows : goal.decreases-run_rows
+decreases-run_rows l = 64 * body_nodes l.e.now + 33
+
+abbrev pub decreases-run_row : goal.decreases-run_row
+decreases-run_row l = 64 * body_nodes l.e.now + 32
+
+abbrev pub decreases-act_fields : goal.decreases-act_fields
+decreases-act_fields l = 64 * exprs_nodes (pack_exprs (drop l.number l.parts.now)) + 32
+
+-- the builder has come so far
+
+abbrev pub invariant-run_rows-loop-number : goal.invariant-run_rows-loop-number
+invariant-run_rows-loop-number l = RangeOn l.e (env_of l.frame) (lists_of l.legs) l.from l.to (thing_of l.fn.builder) (thing_of l.own) l.number (thing_of l.builder)

@@ -1,0 +1,5 @@
+pub mod Numbers
+pub mod Puts
+pub mod RangeOn
+pub mod RowActs
+pub mod Runs

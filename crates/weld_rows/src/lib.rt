@@ -1,0 +1,15 @@
+//! Rows of loops in place: the runner that goes over the expression itself, without a value for each
+//! number and without a builder for each row.
+#![tactic(auto)]
+
+mod forms;
+mod program;
+mod puts;
+mod range;
+mod reads;
+pub mod scalar;
+mod walk;
+
+pub use program::eval_program;
+pub use range::run_range;
+pub use walk::{act, number, value};

@@ -1,0 +1,121 @@
+//! Numbers that are read without going over an expression: literals, names, and fields of names.
+
+ghost use Rattle.std.specs.Prelude.{Bool};
+ghost use Rattle.weld_builders.specs.Outcome.{done};
+ghost use Rattle.weld_meaning.specs.Evaluation.{eval as eval_of, leaf_thing, one_thing};
+ghost use Rattle.weld_tree.specs.ExprTree.{field as field_form};
+ghost use Rattle.weld_tree.specs.ExprView.{view_leaf, view_one};
+ghost use Rattle.weld_eval.specs.Fit.{IsFit};
+ghost use Rattle.weld_eval.specs.FrameView.{env_of};
+ghost use Rattle.weld_eval.specs.SlotView.{slot_thing};
+ghost use Rattle.weld_eval.specs.Takes.{LeafTakes, OneTakes};
+ghost use Rattle.weld_rows.specs.Numbers.{ReadsNumber, IsFieldForm, IsNameOf};
+
+use weld_data::Num;
+use weld_eval::frame::{Frame, Slot, read};
+use weld_eval::number::number_of;
+use weld_eval::short::Short;
+use weld_eval_values::field_of;
+use weld_tree::{Expr, Form, LeafForm, OneForm, Sym};
+
+/// The number that an expression is, where it is a literal, a name or a field of a name and a number.
+/// It takes no memory.
+#[tactic(auto, using(weld_eval_plain::proofs::Nodes::leaf_takes))]
+#[inline(always)]
+pub(crate) fn leaf_number(e: &Expr, frame: &Frame) -> Option<Short>
+    requires { IsFit e.now (env_of frame.now) }
+    ensures { ReadsNumber result (eval_of e.now (env_of frame.now)) }
+{
+    match &e.form {
+        Form::Leaf(form) => number_in_leaf(form, frame),
+        Form::One(OneForm::Field(_), _) => number_in_field(e, frame),
+        _ => None,
+    }
+}
+
+/// The same of a form without parts.
+#[inline(always)]
+fn number_in_leaf(form: &LeafForm, frame: &Frame) -> Option<Short>
+    requires { LeafTakes (view_leaf form.now) (env_of frame.now) }
+    ensures { ReadsNumber result (leaf_thing (view_leaf form.now) (env_of frame.now)) }
+{
+    match form {
+        LeafForm::Name(name) => number_in_slot(read(frame, *name)),
+        LeafForm::Int(kind, value) => Some(Short::of_num(Num {
+            kind: *kind,
+            value: *value,
+        })),
+        LeafForm::Truth(truth) => Some(Short::of_truth(*truth)),
+        LeafForm::Chars(_) => None,
+        LeafForm::Builder(_) => None,
+    }
+}
+
+/// The number that a name stands for.
+#[inline(always)]
+fn number_in_slot(slot: Slot) -> Option<Short>
+    ensures { ReadsNumber result (done (slot_thing slot.entry)) }
+{
+    match slot {
+        Slot::Number(n) => Some(n),
+        Slot::Row(row) => row.number(),
+        Slot::Value(v) => number_of(v),
+        Slot::Builder(_) => None,
+    }
+}
+
+/// The number in a field of a name.
+#[tactic(auto, using(crate::proofs::ReadLemmas::name_there, crate::proofs::ReadLemmas::field_takes, crate::proofs::ReadLemmas::field_reads))]
+#[inline(always)]
+fn number_in_field(e: &Expr, frame: &Frame) -> Option<Short>
+    requires { IsFit e.now (env_of frame.now) }
+    ensures { ReadsNumber result (eval_of e.now (env_of frame.now)) }
+{
+    match &e.form {
+        Form::One(form, part) => match field_of_form(form) {
+            Some(field) => match name_of(part) {
+                Some(name) => field_in_slot(field, read(frame, name)),
+                None => None,
+            },
+            None => None,
+        },
+        _ => None,
+    }
+}
+
+/// The number of the field that the form asks for.
+#[inline(always)]
+fn field_of_form(form: &OneForm) -> Option<u32>
+    ensures { IsFieldForm result (view_one form.now) }
+{
+    match form {
+        OneForm::Field(field) => Some(*field),
+        _ => None,
+    }
+}
+
+/// The name that an expression is.
+#[inline(always)]
+fn name_of(e: &Expr) -> Option<Sym>
+    ensures { IsNameOf result e.now }
+{
+    match &e.form {
+        Form::Leaf(LeafForm::Name(name)) => Some(*name),
+        _ => None,
+    }
+}
+
+/// The number in a field of what a name stands for.
+#[tactic(auto, using(weld_eval_forms::proofs::Shapes::field_there))]
+#[inline(always)]
+fn field_in_slot(field: u32, slot: Slot) -> Option<Short>
+    requires { OneTakes (field_form field) (slot_thing slot) }
+    ensures { ReadsNumber result (one_thing (field_form field) (slot_thing slot.entry)) }
+{
+    match slot {
+        Slot::Row(row) => row.number_field(field),
+        Slot::Value(v) => number_of(field_of(v, field)),
+        Slot::Number(_) => None,
+        Slot::Builder(_) => None,
+    }
+}
