@@ -1,0 +1,6 @@
+pub mod Applying
+pub mod Looping
+pub mod Moving
+pub mod Ranges
+pub mod Stepping
+pub mod Tiling

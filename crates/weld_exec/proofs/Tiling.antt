@@ -1,0 +1,139 @@
+-- The tiles of the loop at which a run stands, and what goes behind it.
+use Rattle.std.proofs.Common.{◌≡◌, ℕ, ◌+◌, ◌<◌, ◌≤◌, List, length, slice_get, Some, Err, sym, ap, ◌∙◌, subst, arith}
+use Rattle.weld_data.specs.Value.{Value}
+use Rattle.weld_data.specs.declared.stop.Stop.{Stop}
+use Rattle.weld_data.specs.declared.stop.Stop.TheVariants.{Fault, Memory}
+use Rattle.weld_tree.specs.ExprTree.{ExprTree, loop}
+use Rattle.weld_builders.specs.Outcome.{done, fault}
+use Rattle.weld_meaning.specs.declared.loop_id.LoopId.{LoopId}
+use Rattle.weld_meaning.specs.Thing.{Thing, Things, more_things, first_of, rest_of, bare_thing}
+use Rattle.weld_meaning.specs.Evaluation.{Env, eval, value_out, rows_of}
+use Rattle.weld_eval_values.specs.Answers.{OnFault}
+use Rattle.weld_eval.specs.RowLists.{or_none, rows_in}
+use Rattle.weld_eval.specs.ThingView.{things_of}
+use Rattle.weld_eval_plain.specs.Nodes.{IsLoop}
+use Rattle.weld_eval_plain.specs.Rows.{HoldsRow, RowAnswer, row_step}
+use Rattle.weld_acts.specs.Ranges.{Evaluation, HoldsRange, RangeAnswer, IsAction, IsSoFar, range_over}
+use Rattle.weld_acts.proofs.RangeLaw.{tile_holds, so_far_starts, all_tiles_done, loop_faults}
+use Rattle.weld_acts.proofs.RangeSteps.{RunsIn, range_row, range_on, range_fault}
+use Rattle.weld_tiles.specs.declared.tile.Tile.{Tile}
+use Rattle.weld_tile_parts.specs.Kept.{IsTileOf}
+use Rattle.weld_plan.specs.StepTree.{run_loop}
+use Rattle.weld_plan.specs.Leads.{IsLoopAt, below_loop, loop_lists, Leads}
+use Rattle.weld_plan.specs.PlanView.{view_steps}
+use Rattle.weld_plan.specs.declared.plan.Plan.{Plan}
+use Rattle.weld_exec.specs.Stacked.{IsSomething, HasPile, AreThereAt}
+use Rattle.weld_exec.specs.Run.{IsLoopNext, node_of, evaluation_of, rows_at, arguments_of, locals, scope, body_outcome, program_meaning, steps_left, rest_left, AtLoop, ActionAnswer}
+use Rattle.weld_exec.specs.declared.env.Env.{Env as State}
+use Rattle.weld_exec.proofs.Looping.{loop_means, loop_next, goes_done, goes_fault, tail_of}
+
+-- ---- what stands there
+
+pub at_next : (p : Plan) (e : State) (at : LoopId) → AtLoop p e at → IsLoopNext (steps_left p e)
+at_next p e at h = loop_next (evaluation_of p e).node at.0 (steps_left p e) h.rest h.left
+
+pub at_something : (p : Plan) (e : State) (at : LoopId) → AtLoop p e at → IsSomething (things_of e.stack)
+at_something p e at h = h.there
+
+has_pile : (n : ExprTree) (env : Env) (s : Thing) (st : Things) → IsLoopAt n env s st → HasPile n env st
+has_pile (loop a ls e b n x f) env s st h = (h.0, h.2)
+has_pile _ env s st h = absurd h
+
+there_at : (n : ExprTree) (env : Env) (s : Thing) (st : Things) → IsLoopAt n env s st → AreThereAt n st
+there_at (loop a ls e b n x f) env s st h = h.2
+there_at _ env s st h = absurd h
+
+pub pile_loop : (n : ExprTree) (env : Env) (st : Things) → HasPile n env st → IsLoop n
+pile_loop (loop a ls e b n x f) env st h = tt
+pile_loop _ env st h = absurd h
+
+pub vectors_there : (p : Plan) (e : State) (at : LoopId) (n : ExprTree) (mid : Things) → AtLoop p e at → n ≡ node_of p e → mid ≡ rest_of (things_of e.stack) → AreThereAt n mid
+vectors_there p e at n mid h is m =
+    subst (λ d. AreThereAt d mid) (sym is) (subst (λ u. AreThereAt (node_of p e) u) (sym m) (there_at (node_of p e) (scope p e) (first_of (things_of e.stack)) (rest_of (things_of e.stack)) h.is_loop))
+
+-- ---- behind the loop
+
+pub so_far_as : (ev at : Evaluation) (k rows : ℕ) (j : Thing) → at ≡ ev → k ≡ rows → IsSoFar at k j → IsSoFar ev rows j
+so_far_as ev at k rows j e r q = subst (λ d. IsSoFar d rows j) e (subst (λ i. IsSoFar at i j) r q)
+
+pub stored : (p : Plan) (e : State) (at : LoopId) (j : Thing) (n : ExprTree) (mid low after : Things) → AtLoop p e at → IsSoFar (evaluation_of p e) (rows_at e) j → n ≡ node_of p e → mid ≡ rest_of (things_of e.stack) → low ≡ below_loop n mid → after ≡ more_things j low
+    → Leads (rest_left p e) e.skip (arguments_of p e) (locals e) after (body_outcome p e)
+stored p e at j n mid low after h q is m l r =
+    let ev : Evaluation = evaluation_of p e in
+    let means : eval ev.node ev.names ≡ done j = loop_means ev.node ev.names ev.start (rest_of (things_of e.stack)) h.is_loop ∙ all_tiles_done ev (rows_at e) j h.holds.rows h.holds.are h.counted q in
+    let on : Leads h.rest 0 (arguments_of p e) (locals e) (more_things j (below_loop ev.node (rest_of (things_of e.stack)))) (body_outcome p e) =
+    goes_done (λ t. Leads h.rest 0 (arguments_of p e) (locals e) (more_things t (below_loop ev.node (rest_of (things_of e.stack)))) (body_outcome p e)) (eval ev.node ev.names) (body_outcome p e) j h.goes_on means in
+    let there : after ≡ more_things j (below_loop ev.node (rest_of (things_of e.stack))) = r ∙ ap (more_things j) (l ∙ ap (λ d. below_loop d mid) is ∙ ap (below_loop ev.node) m) in
+    subst (λ u. Leads (rest_left p e) e.skip (arguments_of p e) (locals e) u (body_outcome p e)) (sym there)
+    (subst (λ k. Leads (rest_left p e) k (arguments_of p e) (locals e) (more_things j (below_loop ev.node (rest_of (things_of e.stack)))) (body_outcome p e)) (sym h.skip)
+    (subst (λ s. Leads s 0 (arguments_of p e) (locals e) (more_things j (below_loop ev.node (rest_of (things_of e.stack)))) (body_outcome p e)) (sym (tail_of (view_steps p.steps.items) e.at (run_loop ev.node at.0) h.rest h.left)) on))
+
+pub begins : (p : Plan) (e : State) (at : LoopId) (s : Thing) → AtLoop p e at → s ≡ first_of (things_of e.stack) → IsSoFar (evaluation_of p e) 0 s
+begins p e at s h is = subst (IsSoFar (evaluation_of p e) 0) (sym is) (so_far_starts (evaluation_of p e) (rows_at e) h.holds)
+
+-- ---- tiles
+
+pub tile_of : (p : Plan) (e : State) (at : LoopId) (lo hi : ℕ) → AtLoop p e at → lo ≤ hi → hi ≤ rows_at e → IsTileOf (evaluation_of p e) lo hi
+tile_of p e at lo hi h low high = record { count = rows_at e; holds = h.holds; ordered = low; within = high }
+
+pub tile_ready : (p : Plan) (e : State) (at : LoopId) (n : ExprTree) (g : Env) (s : Thing) (pile : Things) (lo hi : ℕ) → AtLoop p e at → lo ≤ hi → hi ≤ rows_at e → n ≡ node_of p e → g ≡ scope p e → things_of e.stack ≡ more_things s pile
+    → HoldsRange n g (loop_lists n g pile) lo hi (bare_thing s)
+tile_ready p e at n g s pile lo hi h low high is gs st =
+    subst (λ d. HoldsRange d g (loop_lists d g pile) lo hi (bare_thing s)) (sym is)
+    (subst (λ k. HoldsRange (node_of p e) k (loop_lists (node_of p e) k pile) lo hi (bare_thing s)) (sym gs)
+    (subst (λ u. HoldsRange (node_of p e) (scope p e) (loop_lists (node_of p e) (scope p e) (rest_of u)) lo hi (bare_thing (first_of u))) st (tile_holds (evaluation_of p e) (rows_at e) lo hi h.holds low high)))
+
+pub pile_ready : (p : Plan) (e : State) (at : LoopId) (n : ExprTree) (g : Env) (s : Thing) (pile : Things) → AtLoop p e at → n ≡ node_of p e → g ≡ scope p e → things_of e.stack ≡ more_things s pile → HasPile n g pile
+pile_ready p e at n g s pile h is gs st =
+    subst (λ d. HasPile d g pile) (sym is) (subst (λ k. HasPile (node_of p e) k pile) (sym gs) (subst (λ u. HasPile (node_of p e) (scope p e) (rest_of u)) st (has_pile (node_of p e) (scope p e) (first_of (things_of e.stack)) (rest_of (things_of e.stack)) h.is_loop)))
+
+same_range : (p : Plan) (e : State) (n : ExprTree) (g : Env) (s : Thing) (pile : Things) (lo hi : ℕ) → n ≡ node_of p e → g ≡ scope p e → things_of e.stack ≡ more_things s pile
+    → range_over (node_of p e) (scope p e) (loop_lists (node_of p e) (scope p e) (rest_of (things_of e.stack))) lo hi (bare_thing (first_of (things_of e.stack))) ≡ range_over n g (loop_lists n g pile) lo hi (bare_thing s)
+same_range p e n g s pile lo hi is gs st =
+    ap (λ u. range_over (node_of p e) (scope p e) (loop_lists (node_of p e) (scope p e) (rest_of u)) lo hi (bare_thing (first_of u))) st
+    ∙ ap (λ k. range_over (node_of p e) k (loop_lists (node_of p e) k pile) lo hi (bare_thing s)) (sym gs)
+    ∙ ap (λ d. range_over d g (loop_lists d g pile) lo hi (bare_thing s)) (sym is)
+
+pub action_is : (p : Plan) (e : State) (n : ExprTree) (g : Env) (s d : Thing) (pile : Things) (lo hi : ℕ) → n ≡ node_of p e → g ≡ scope p e → things_of e.stack ≡ more_things s pile → range_over n g (loop_lists n g pile) lo hi (bare_thing s) ≡ done d
+    → IsAction (evaluation_of p e) lo hi d
+action_is p e n g s d pile lo hi is gs st q = same_range p e n g s pile lo hi is gs st ∙ q
+
+pub action_fault : (p : Plan) (e : State) (n : ExprTree) (g : Env) (s : Thing) (pile : Things) (lo hi : ℕ) → n ≡ node_of p e → g ≡ scope p e → things_of e.stack ≡ more_things s pile → range_over n g (loop_lists n g pile) lo hi (bare_thing s) ≡ fault
+    → range_over (node_of p e) (scope p e) (loop_lists (node_of p e) (scope p e) (rest_of (things_of e.stack))) lo hi (bare_thing (first_of (things_of e.stack))) ≡ fault
+action_fault p e n g s pile lo hi is gs st q = same_range p e n g s pile lo hi is gs st ∙ q
+
+pub tile_means : (p : Plan) (e : State) (at : LoopId) (lo hi : ℕ) → AtLoop p e at → lo ≤ hi → hi ≤ rows_at e → range_over (node_of p e) (scope p e) (loop_lists (node_of p e) (scope p e) (rest_of (things_of e.stack))) lo hi (bare_thing (first_of (things_of e.stack))) ≡ fault
+    → program_meaning p e ≡ fault
+tile_means p e at lo hi h low high q =
+    let ev : Evaluation = evaluation_of p e in
+    ap value_out (goes_fault (λ t. Leads h.rest 0 (arguments_of p e) (locals e) (more_things t (below_loop ev.node (rest_of (things_of e.stack)))) (body_outcome p e)) (eval ev.node ev.names) (body_outcome p e) h.goes_on
+    (loop_means ev.node ev.names ev.start (rest_of (things_of e.stack)) h.is_loop ∙ loop_faults ev (rows_at e) lo hi h.holds.rows h.holds h.holds.are h.counted low high q))
+
+pub tile_stop : (T : Type 0) (stop : Stop) (p : Plan) (e : State) (at : LoopId) (n : ExprTree) (g : Env) (s : Thing) (pile : Things) (tile : Tile) → AtLoop p e at → tile.lo ≤ tile.hi → tile.hi ≤ rows_at e → n ≡ node_of p e → g ≡ scope p e → things_of e.stack ≡ more_things s pile
+    → ActionAnswer (Err stop) n g (loop_lists n g pile) s tile → OnFault {T = T} (Err stop) (program_meaning p e ≡ fault)
+tile_stop T Fault p e at n g s pile tile h low high is gs st q = tile_means p e at tile.lo tile.hi h low high (action_fault p e n g s pile tile.lo tile.hi is gs st q)
+tile_stop T Memory p e at n g s pile tile h low high is gs st q = tt
+
+-- ---- rows of a range
+
+rows_are : (lists : List (List Value)) (rows : List Value) → rows_of lists ≡ done rows → rows_in lists ≡ rows
+rows_are lists rows q = ap or_none q
+
+pub row_inside : (n : ExprTree) (env : Env) (lists : List (List Value)) (from to : ℕ) (start : Thing) (i : ℕ) (s : Thing) → RunsIn n env lists from to start i s → i < to → i < length (rows_in lists)
+row_inside n env lists from to start i s h less =
+    let long : to ≤ length h.holds.rows = h.holds.within in
+    subst (λ r. i < length r) (sym (rows_are lists h.holds.rows h.holds.are)) (omega arith)
+
+row_there : (n : ExprTree) (env : Env) (lists : List (List Value)) (from to : ℕ) (start : Thing) (i : ℕ) (s : Thing) (v : Value) → (h : RunsIn n env lists from to start i s) → slice_get (rows_in lists) i ≡ Some v → slice_get h.holds.rows i ≡ Some v
+row_there n env lists from to start i s v h q = sym (ap (λ r. slice_get r i) (rows_are lists h.holds.rows h.holds.are)) ∙ q
+
+pub row_holds : (n : ExprTree) (env : Env) (lists : List (List Value)) (from to : ℕ) (start : Thing) (i : ℕ) (s : Thing) (v : Value) → RunsIn n env lists from to start i s → slice_get (rows_in lists) i ≡ Some v → HoldsRow n env s v
+row_holds n env lists from to start i s v h q = range_row n env lists from to start i s v h (row_there n env lists from to start i s v h q)
+
+pub row_done : (n : ExprTree) (env : Env) (lists : List (List Value)) (from to : ℕ) (start : Thing) (i : ℕ) (s t : Thing) (v : Value) → RunsIn n env lists from to start i s → i < to → slice_get (rows_in lists) i ≡ Some v → row_step n env (i, v) s ≡ done t → RunsIn n env lists from to start (i + 1) t
+row_done n env lists from to start i s t v h less q r = range_on n env lists from to start i s t v h less (row_there n env lists from to start i s v h q) r
+
+pub row_stops : (T U : Type 0) (stop : Stop) (n : ExprTree) (env : Env) (lists : List (List Value)) (from to : ℕ) (start : Thing) (i : ℕ) (s t u : Thing) (v : Value) → RunsIn n env lists from to start i s → i < to → slice_get (rows_in lists) i ≡ Some v → RowAnswer {T = T} (Err stop) n env (i, v) s t
+    → RangeAnswer {T = U} (Err stop) (record { node = n; names = env; lists = lists; start = start }) from to start u
+row_stops T U Fault n env lists from to start i s t u v h less q r = range_fault n env lists from to start i s v h less (row_there n env lists from to start i s v h q) r
+row_stops T U Memory n env lists from to start i s t u v h less q r = tt

@@ -1,0 +1,14 @@
+//! Runs of plans: the steps between shared loops, and the tiles of a loop's rows.
+#![tactic(auto)]
+
+mod apply;
+pub mod env;
+mod evaluate;
+mod gather;
+mod range;
+mod stack;
+mod steps;
+pub mod tile;
+
+pub use env::{Env, Next};
+pub use tile::{run_tile, tile_part};

@@ -1,0 +1,89 @@
+//! The rows of a range, over the vectors of the legs.
+
+ghost use Rattle.std.specs.Prelude.{◌≡◌, ◌≤◌, ◌++◌, ◌∷◌, [], length, take};
+ghost use Rattle.weld_data.specs.View.{view_column};
+ghost use Rattle.weld_acts.specs.Ranges.{HoldsRange, RangeAnswer};
+ghost use Rattle.weld_eval.specs.FrameView.{env_of};
+ghost use Rattle.weld_eval.specs.LegsView.{lists_of};
+ghost use Rattle.weld_eval.specs.ThingView.{thing_of, held_of};
+ghost use Rattle.weld_eval_forms.specs.Legs.{elements_in, leg_lists, IsVector, AreVectors};
+
+use std::alloc::Global;
+use weld_acts::is_direct;
+use weld_data::{Column, Stop, Val};
+use weld_eval::frame::Frame;
+use weld_eval::legs::Legs;
+use weld_eval::thing::{Held, Owned, value_of};
+use weld_rows::run_range;
+use weld_tiles::Tile;
+use weld_tree::Expr;
+
+/// Hands a builder through the rows of a tile, over these vectors before those of further legs. After a stop it is
+/// only good to be dropped.
+#[tactic(auto, using(crate::proofs::Ranges::vector_at, crate::proofs::Ranges::none_taken, crate::proofs::Ranges::one_taken))]
+pub(crate) fn run_tile_rows(
+    node: &Expr,
+    frame: &Frame,
+    vectors: &[Held],
+    left: usize,
+    legs: &Legs,
+    tile: Tile,
+    builder: &mut Owned,
+    alloc: Global,
+) -> Result<(), Stop>
+    requires vectors { AreVectors vectors.now }
+    requires left { left ≤ length vectors.now }
+    requires holds { HoldsRange node.now (env_of frame.now) (leg_lists (take left vectors.now) ++ lists_of legs.now) tile.lo tile.hi (thing_of builder.old) }
+    ensures { RangeAnswer result (record { node = node.now; names = env_of frame.now; lists = leg_lists (take left vectors.now) ++ lists_of legs.now; start = thing_of builder.old }) tile.lo tile.hi (thing_of builder.old) (thing_of builder.new) }
+{
+    if left == 0 {
+        run_range(
+            node,
+            frame,
+            legs,
+            tile.lo as usize,
+            tile.hi as usize,
+            is_direct(node),
+            builder,
+            alloc,
+        )
+    } else {
+        let more = before(column_of(&vectors[left - 1]), &*legs);
+        run_tile_rows(
+            node,
+            &*frame,
+            &*vectors,
+            left - 1,
+            &more,
+            tile,
+            builder,
+            alloc,
+        )
+    }
+}
+
+/// No legs. It takes no memory.
+pub(crate) fn no_legs<'a>() -> Legs<'a>
+    ensures { lists_of result ≡ [] }
+{
+    Legs::End
+}
+
+/// A leg before others. It takes no memory.
+fn before<'a>(column: &'a Column, rest: &'a Legs<'a>) -> Legs<'a>
+    ensures { lists_of result ≡ view_column column.now ∷ lists_of rest.now }
+{
+    Legs::And(column, rest)
+}
+
+/// The column of a vector. It takes no memory.
+#[tactic(auto, using(crate::proofs::Ranges::column_there))]
+fn column_of<'a>(x: &'a Held<'a>) -> &'a Column
+    requires { IsVector (held_of x.now) }
+    ensures { view_column result.now ≡ elements_in x.now }
+{
+    match value_of(x) {
+        Val::List(column) => column,
+        _ => unreachable!(),
+    }
+}

@@ -1,0 +1,4 @@
+pub mod Emitting
+pub mod Leading
+pub mod Paths
+pub mod Programs

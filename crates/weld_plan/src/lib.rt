@@ -1,0 +1,14 @@
+//! Plans: the steps of a program above its shared loops, which are those that stand in no lambda but the top one.
+#![tactic(auto)]
+
+mod emit;
+pub mod laws;
+mod normal;
+mod path;
+pub mod plan;
+pub mod step;
+
+pub use normal::{Normal, unoptimised};
+pub use path::is_path;
+pub use plan::{Plan, make_plan};
+pub use step::Step;

@@ -1,0 +1,14 @@
+use Rattle.std.proofs.Common.{◌≡◌, ◌<◌, ◌≤◌, ℕ, length, slice_index_or}
+use Rattle.weld_tiles.specs.declared.tile.Tile.{Tile}
+use Rattle.weld_exec.specs.Run.{AtLoop, rows_at}
+use denote.Exit.{no}
+use denote.Param.Send.{param_sync, arg_sync}
+use Rattle.weld_share.proofs.Following.{tiles_within}
+use Rattle.weld_share.proofs.Shared.{tiled_sync}
+use Rattle.weld_share.proofs.tiled.join_tiles.Goals as goal
+
+pub map_tiles-requires-sync-T : goal.map_tiles-requires-sync-T
+map_tiles-requires-sync-T g c κs within = param_sync 0 _ (arg_sync _ no _ (tiled_sync _ _ _ c.type_bounds.sync-G))
+
+pub map_tiles-requires-after_bounds : goal.map_tiles-requires-after_bounds
+map_tiles-requires-after_bounds g c κs within k d low = (c.requires.at, tiles_within (rows_at c.args.env.now) c.args.tiles.now c.requires.tiling k d low)

@@ -1,0 +1,10 @@
+//! Runs of plans by tiles: the tiles of each loop are mapped over the processors, and what they make is joined in order.
+#![tactic(auto)]
+
+pub mod mapped;
+pub mod note;
+mod parallel;
+mod tiled;
+
+pub use mapped::{run_mapped, run_plan};
+pub use note::RunNote;

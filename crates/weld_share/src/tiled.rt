@@ -1,0 +1,161 @@
+//! One loop, by tiles that are run apart.
+
+ghost use Rattle.std.specs.Prelude.{◌≡◌, ◌≤◌, ◌<◌, ◌+◌, ℕ, IfOk, OnOk, All};
+ghost use Rattle.weld_builders.specs.Outcome.{fault};
+ghost use Rattle.weld_eval_values.specs.Answers.{OnFault};
+ghost use Rattle.weld_tiles.specs.Tiling.{Follows, IsTiling};
+ghost use Rattle.weld_tiles.specs.declared.tile.Tile.{Tile};
+ghost use Rattle.weld_tile_parts.specs.Parts.{joined_evaluation, IsWhole};
+ghost use Rattle.weld_exec.specs.Run.{env_inputs, program_meaning, IsReady, left_of, evaluation_of, rows_at, AtLoop, TileAnswer};
+ghost use Rattle.weld_share.specs.Mapped.{IsWithin, IsAnswer, AreAnswers};
+
+use crate::parallel::{RunsTiles, map_tiles};
+use std::alloc::Global;
+use std::thread::Threads;
+use weld_data::Stop;
+use weld_exec::{Env, tile_part};
+use weld_meaning::LoopId;
+use weld_plan::Plan;
+use weld_ports::Gate;
+use weld_tile_parts::{Joined, TilePart};
+use weld_tiles::{Tile, tiles};
+
+/// The loop at which a run stands, whose tiles any thread may run. The gate is told of each before it is run.
+#[derive(Drop)]
+struct Tiled<'a, 'b, G> {
+    alloc: Global,
+    plan: &'a Plan<'b>,
+    env: &'a Env<'b>,
+    at: LoopId,
+    gate: &'a G,
+}
+
+impl<'a, 'b, G: Gate> RunsTiles for Tiled<'a, 'b, G> {
+    ghost takes = { λ r t. AtLoop r.plan.now r.env.now r.at × IsWithin (rows_at r.env.now) t };
+
+    ghost answers = { λ r t answer. IsAnswer r.plan.now r.env.now t answer };
+
+    fn run(&self, tile: Tile) -> Result<TilePart, Stop> {
+        self.gate.before(tile.number);
+        tile_part(self.alloc, self.plan, self.env, self.at, tile)
+    }
+}
+
+/// Joins what the tiles have made, in their order, to the builder with which the loop starts. The first stop in that order is
+/// the answer.
+fn enter_all(
+    plan: &Plan,
+    env: &Env,
+    answers: Vec<Result<TilePart, Stop>>,
+    mut joined: Joined,
+) -> Result<Joined, Stop>
+    requires whole { IsWhole joined }
+    requires evaluation { joined_evaluation joined ≡ evaluation_of plan.now env.now }
+    requires answers { AreAnswers plan.now env.now joined.next joined.end (rows_at env.now) answers.items }
+    ensures whole { IfOk result (λ j. IsWhole j) }
+    ensures evaluation { IfOk result (λ j. joined_evaluation j ≡ evaluation_of plan.now env.now) }
+    ensures all { IfOk result (λ j. j.end ≡ rows_at env.now) }
+    ensures fault { OnFault result (program_meaning plan.now env.now ≡ fault) }
+{
+    for answer in answers {
+        match enter_one(plan, env, answer, &mut joined) {
+            Ok(()) => {}
+            Err(stop) => return Err(stop),
+        }
+    }
+    Ok(joined)
+}
+
+/// Joins what the next tile has made.
+fn enter_one(
+    plan: &Plan,
+    env: &Env,
+    answer: Result<TilePart, Stop>,
+    into: &mut Joined,
+) -> Result<(), Stop>
+    requires whole { IsWhole into.old }
+    requires evaluation { joined_evaluation into.old ≡ evaluation_of plan.now env.now }
+    requires answer { (t : Tile) × Follows t into.old.next into.old.end × IsAnswer plan.now env.now t answer }
+    ensures whole { OnOk result (IsWhole into.new) }
+    ensures evaluation { joined_evaluation into.new ≡ joined_evaluation into.old }
+    ensures on { (t : Tile) → IsAnswer plan.now env.now t answer → OnOk result ((into.new.next ≡ t.number + 1) × (into.new.end ≡ t.hi)) }
+    ensures fault { OnFault result (program_meaning plan.now env.now ≡ fault) }
+{
+    let _plan = plan;
+    let _env = env;
+    let part = match answer {
+        Ok(part) => part,
+        Err(stop) => return Err(stop),
+    };
+    match part.seal().enter(into) {
+        Ok(()) => Ok(()),
+        Err(_) => Err(Stop::Memory),
+    }
+}
+
+/// Runs the loop at which the run stands, by tiles, and goes behind it: how many tiles and how many rows there were.
+pub(crate) fn run_loop<G: Gate>(
+    rt: &(impl Threads + Sync),
+    alloc: Global,
+    plan: &Plan,
+    env: &mut Env,
+    at: LoopId,
+    cut: u32,
+    gate: &G,
+) -> Result<(usize, u64), Stop>
+    requires at { AtLoop plan.now env.old at }
+    requires cut { 1 ≤ cut }
+    ensures ready { OnOk result (IsReady plan.now env.new) }
+    ensures left { OnOk result (left_of plan.now env.new < left_of plan.now env.old) }
+    ensures inputs { env_inputs env.new ≡ env_inputs env.old }
+    ensures fault { OnFault result (program_meaning plan.now env.old ≡ fault) }
+{
+    let rows = env.rows_of(plan, at);
+    let list = match tiles(alloc, rows, cut) {
+        Ok(list) => list,
+        Err(_) => return Err(Stop::Memory),
+    };
+    let joined = match join_tiles(rt, alloc, plan, &*env, at, list.as_slice(), gate) {
+        Ok(joined) => joined,
+        Err(stop) => return Err(stop),
+    };
+    match env.store(plan, at, joined, alloc) {
+        Ok(()) => Ok((list.len(), rows)),
+        Err(_) => Err(Stop::Memory),
+    }
+}
+
+/// The builder of the loop at which the run stands, joined with what the tiles of its rows make.
+#[tactic(auto, using(crate::proofs::Following::tiles_within, crate::proofs::Following::tiles_answer))]
+fn join_tiles<G: Gate>(
+    rt: &(impl Threads + Sync),
+    alloc: Global,
+    plan: &Plan,
+    env: &Env,
+    at: LoopId,
+    tiles: &[Tile],
+    gate: &G,
+) -> Result<Joined, Stop>
+    requires at { AtLoop plan.now env.now at }
+    requires tiling { IsTiling tiles.now (rows_at env.now) }
+    ensures whole { IfOk result (λ j. IsWhole j) }
+    ensures evaluation { IfOk result (λ j. joined_evaluation j ≡ evaluation_of plan.now env.now) }
+    ensures all { IfOk result (λ j. j.end ≡ rows_at env.now) }
+    ensures fault { OnFault result (program_meaning plan.now env.now ≡ fault) }
+{
+    let run = Tiled {
+        alloc,
+        plan,
+        env,
+        at,
+        gate,
+    };
+    let answers = match map_tiles(rt, alloc, &run, tiles) {
+        Ok(answers) => answers,
+        Err(_) => return Err(Stop::Memory),
+    };
+    match env.begin(plan, at, alloc) {
+        Ok(start) => enter_all(plan, env, answers, start),
+        Err(_) => Err(Stop::Memory),
+    }
+}

@@ -1,0 +1,3 @@
+pub mod EvaluationCode
+pub mod Kept
+pub mod Parts
