@@ -32,6 +32,7 @@ fn main(rt: HostRuntime) -> ExitCode {
     let mut output = StdoutSink::new(io::writer(&rt));
     let status = match read_words(&rt) {
         Ok(words) => weld_main(
+            &rt,
             rt.alloc(),
             words.as_slice(),
             &mut input,

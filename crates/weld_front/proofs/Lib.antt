@@ -4,3 +4,4 @@ pub mod Answering
 pub mod OneAnswer
 pub mod Accepts
 mod Noted
+pub mod Asking

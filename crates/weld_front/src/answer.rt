@@ -3,25 +3,27 @@ ghost use Rattle.std.specs.String.{string_bytes};
 ghost use Rattle.weld_data.specs.View.{view_val};
 ghost use Rattle.weld_fits.specs.HasValue.{HasValue};
 ghost use Rattle.weld_meaning.specs.Typing.{ProgramHas};
-ghost use Rattle.weld_meaning.specs.Accepted.{IsAccepted};
 ghost use Rattle.weld_meaning.specs.Meaning.{ArgumentsFit};
 ghost use Rattle.weld_ports.specs.Faults.{Rises};
 ghost use Rattle.weld_job.specs.Reading.{Takes};
 ghost use Rattle.weld_front.specs.Answer.{Answers, AnswersParts, Concludes, ProgramAnswers, RunAnswers, CheckAnswers, IsOfJob, Extent};
 ghost use Rattle.weld_front.specs.Texts.{refusal_text, unfit_text, value_text, ok_text, fault_text};
 
-use crate::accepting::accept_text;
+use crate::accepting::{Checked, accept_text};
+use crate::asked::Asked;
+use crate::running::run_program;
 use crate::status::Status;
 use crate::words::Task;
 use std::alloc::{AllocError, Global};
+use std::thread::Threads;
 use weld_arguments::{DataStop, read_arguments};
 use weld_data::{Stop, Text, Val, Vals};
-use weld_eval_plain::eval_plain;
 use weld_job::{Job, JobFault, read_job};
+use weld_meaning::Accepted;
 use weld_meaning::laws::{meaning_looks_past_spelling, typed_programs_are_never_stuck};
-use weld_ports::Source;
+use weld_ports::{Gate, Source};
 use weld_print_type::print_ty;
-use weld_tree::{Code, Program, Refusal, Ty};
+use weld_tree::{Code, Refusal, Ty};
 use weld_unnoted::laws::notes_play_no_part;
 use weld_values::write_value;
 
@@ -127,14 +129,21 @@ fn fault(alloc: Global) -> Result<Answer, AllocError>
 }
 
 /// What an accepted program is answered with on arguments of its types.
-fn run_on(alloc: Global, program: &Program, ty: &Ty, arguments: &Vals) -> Result<Answer, AllocError>
-    requires typed { ProgramHas program.now ty.now }
-    requires accepted { IsAccepted program.now }
-    requires fit { ArgumentsFit program.now.params arguments.now }
-    ensures { IfOk result (λ answer. Concludes program.now ty.now arguments.now answer.status answer.text) }
+fn run_on<R: Threads + Sync, G: Gate>(
+    rt: &R,
+    alloc: Global,
+    program: Accepted,
+    ty: &Ty,
+    arguments: &Vals,
+    asked: Asked,
+    gate: &G,
+) -> Result<Answer, AllocError>
+    requires typed { ProgramHas program ty.now }
+    requires fit { ArgumentsFit program.params arguments.now }
+    ensures { IfOk result (λ answer. Concludes program ty.now arguments.now answer.status answer.text) }
 {
     typed_programs_are_never_stuck();
-    match eval_plain(alloc, program, arguments) {
+    match run_program(rt, alloc, program, arguments, asked, gate) {
         Ok(value) => done(alloc, &value, ty),
         Err(Stop::Fault) => fault(alloc),
         Err(Stop::Memory) => Err(AllocError),
@@ -142,26 +151,39 @@ fn run_on(alloc: Global, program: &Program, ty: &Ty, arguments: &Vals) -> Result
 }
 
 /// What an accepted program is answered with on the data of the job.
-fn run_program(alloc: Global, program: &Program, ty: &Ty, job: &Job) -> Result<Answer, AllocError>
-    requires typed { ProgramHas program.now ty.now }
-    requires accepted { IsAccepted program.now }
-    ensures { IfOk result (λ answer. ProgramAnswers program.now ty.now job.now answer.status answer.text) }
+fn run_job<R: Threads + Sync, G: Gate>(
+    rt: &R,
+    alloc: Global,
+    checked: Checked,
+    job: &Job,
+    asked: Asked,
+    gate: &G,
+) -> Result<Answer, AllocError>
+    requires { ProgramHas checked.program checked.ty }
+    ensures { IfOk result (λ answer. ProgramAnswers checked.program checked.ty job.now answer.status answer.text) }
 {
-    match read_arguments(alloc, &program.params, job) {
-        Ok(arguments) => run_on(alloc, program, ty, &arguments),
+    let Checked { program, ty } = checked;
+    match read_arguments(alloc, &program.program().params, job) {
+        Ok(arguments) => run_on(rt, alloc, program, &ty, &arguments, asked, gate),
         Err(DataStop::Unfit(number, code)) => unfit(alloc, number, code),
         Err(DataStop::Memory) => Err(AllocError),
     }
 }
 
 /// What `run` answers to a job that isn't too long.
-fn answer_run(alloc: Global, job: &Job) -> Result<Answer, AllocError>
+fn answer_run<R: Threads + Sync, G: Gate>(
+    rt: &R,
+    alloc: Global,
+    job: &Job,
+    asked: Asked,
+    gate: &G,
+) -> Result<Answer, AllocError>
     ensures { IfOk result (λ answer. RunAnswers job.now answer.status answer.text) }
 {
     notes_play_no_part();
     meaning_looks_past_spelling();
     match accept_text(alloc, job.text.as_slice()) {
-        Ok(checked) => run_program(alloc, checked.program.program(), &checked.ty, job),
+        Ok(checked) => run_job(rt, alloc, checked, job, asked, gate),
         Err(refusal) => refused(alloc, refusal),
     }
 }
@@ -177,11 +199,17 @@ fn answer_check(alloc: Global, job: &Job) -> Result<Answer, AllocError>
 }
 
 /// The answer to a job that isn't too long.
-fn answer_parts(alloc: Global, task: Task, job: &Job) -> Result<Answer, AllocError>
-    ensures { IfOk result (λ answer. AnswersParts task job.now answer.status answer.text) }
+fn answer_parts<R: Threads + Sync, G: Gate>(
+    rt: &R,
+    alloc: Global,
+    job: &Job,
+    asked: Asked,
+    gate: &G,
+) -> Result<Answer, AllocError>
+    ensures { IfOk result (λ answer. AnswersParts asked.task job.now answer.status answer.text) }
 {
-    match task {
-        Task::Run => answer_run(alloc, job),
+    match asked.task {
+        Task::Run => answer_run(rt, alloc, job, asked, gate),
         Task::Check => answer_check(alloc, job),
     }
 }
@@ -189,8 +217,14 @@ fn answer_parts(alloc: Global, task: Task, job: &Job) -> Result<Answer, AllocErr
 /// Reads a job and finds its answer. Of a job that is too long it takes just one byte more than the limit;
 /// else it reads to the end, but where a read fails or memory is wanting.
 #[tactic(auto, using(crate::proofs::Answering::parts_answer, crate::proofs::Answering::parts_status, crate::proofs::Answering::within_extent, crate::proofs::Answering::over_extent))]
-pub fn read_answer<S: Source>(alloc: Global, task: Task, input: &mut S) -> Result<Answer, NoAnswer>
-    ensures ok { IfOk result (λ answer. IfSome (S.left input.old) (λ bytes. Answers task bytes answer.status answer.text)) }
+pub fn read_answer<R: Threads + Sync, S: Source, G: Gate>(
+    rt: &R,
+    alloc: Global,
+    asked: Asked,
+    input: &mut S,
+    gate: &G,
+) -> Result<Answer, NoAnswer>
+    ensures ok { IfOk result (λ answer. IfSome (S.left input.old) (λ bytes. Answers asked.task bytes answer.status answer.text)) }
     ensures status { IfOk result (λ answer. IsOfJob answer.status) }
     ensures extent { OnOk result (Extent (S.left input.old) (S.left input.new)) }
     ensures read { result ≡ Err NoAnswer.Read → Rises (S.faults input.old) (S.faults input.new) }
@@ -198,7 +232,7 @@ pub fn read_answer<S: Source>(alloc: Global, task: Task, input: &mut S) -> Resul
     ensures never_falls { S.faults input.old ≤ S.faults input.new }
 {
     match read_job(alloc, input) {
-        Ok(job) => match answer_parts(alloc, task, &job) {
+        Ok(job) => match answer_parts(rt, alloc, &job, asked, gate) {
             Ok(answer) => Ok(answer),
             Err(_) => Err(NoAnswer::Memory),
         },

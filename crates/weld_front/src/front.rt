@@ -10,19 +10,22 @@ use crate::deliver::deliver;
 use crate::status::Status;
 use crate::words::{USAGE, read_task};
 use std::alloc::Global;
+use std::thread::Threads;
 use weld_ports::{Gate, Sink, Source};
 
 /// Runs the program once: reads a job from the input and writes its answer to the output.
 ///
 /// The words are those after the program's name. The whole answer is built before the first write; then it
-/// is written, each write being handed all of it that isn't taken yet, and flushed once. The gate isn't
-/// called yet.
-pub fn weld_main<S: Source, K: Sink, G: Gate>(
+/// is written, each write being handed all of it that isn't taken yet, and flushed once. `run` shares the
+/// tiles of loops among threads, and tells the gate of each tile before it is run; neither the workers nor
+/// the cut, nor the gate, have any part in the answer.
+pub fn weld_main<R: Threads + Sync, S: Source, K: Sink, G: Gate>(
+    rt: &R,
     alloc: Global,
     words: &[String],
     input: &mut S,
     output: &mut K,
-    _gate: &G,
+    gate: &G,
 ) -> Status
     // The answer of the job, where the source tells its bytes: its status, and its text in the sink.
     ensures done { result ≡ Status.Done → DeliversFor (map string_bytes words.now) (S.left input.old) (K.held output.old) (K.held output.new) Status.Done }
@@ -55,12 +58,12 @@ pub fn weld_main<S: Source, K: Sink, G: Gate>(
     ensures source_never_falls { S.faults input.old ≤ S.faults input.new }
     ensures sink_never_falls { K.faults output.old ≤ K.faults output.new }
 {
-    let task = match read_task(alloc, words) {
-        Ok(Some(task)) => task,
+    let asked = match read_task(alloc, words) {
+        Ok(Some(asked)) => asked,
         Ok(None) => return conclude(output, Status::Words, USAGE),
         Err(_) => return Status::Memory,
     };
-    match read_answer(alloc, task, input) {
+    match read_answer(rt, alloc, asked, input, gate) {
         Ok(answer) => conclude(output, answer.status, answer.text.as_slice()),
         Err(NoAnswer::Read) => Status::Read,
         Err(NoAnswer::Memory) => Status::Memory,

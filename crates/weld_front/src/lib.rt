@@ -3,9 +3,11 @@
 
 mod accepting;
 mod answer;
+mod asked;
 mod deliver;
 mod front;
 pub mod laws;
+mod running;
 mod status;
 mod words;
 

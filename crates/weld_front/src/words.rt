@@ -1,6 +1,7 @@
-ghost use Rattle.std.specs.Prelude.{◌≡◌, false, map, string_bytes, IfOk, IfSome, IfNone};
+ghost use Rattle.std.specs.Prelude.{◌≡◌, ◌≤◌, false, map, string_bytes, IfOk, IfSome, IfNone};
 ghost use Rattle.weld_front.specs.Answer.{command_of, Asks, AreServed};
 
+use crate::asked::Asked;
 use std::alloc::{AllocError, Global};
 use weld_words::laws::one_reading;
 use weld_words::{Command, Options, WordsFault, read_words};
@@ -18,7 +19,7 @@ pub enum Task {
     Check,
 }
 
-/// What the options ask for, where it is built.
+/// The task of a command, where it is built.
 fn task_of(options: &Options) -> Option<Task>
     ensures found { IfSome result (λ task. (options.now.command ≡ command_of task) × (options.now.report ≡ false)) }
     ensures none { IfNone result ((task : Task) → options.now.command ≡ command_of task → options.now.report ≡ false → ⊥) }
@@ -33,15 +34,34 @@ fn task_of(options: &Options) -> Option<Task>
     }
 }
 
+/// What the options ask for, where it is built.
+fn asked_of(options: &Options) -> Option<Asked>
+    requires some_workers { 1 ≤ options.now.workers }
+    requires few_workers { options.now.workers ≤ 64 }
+    requires some_rows { 1 ≤ options.now.cut }
+    ensures found { IfSome result (λ asked. (options.now.command ≡ command_of asked.task) × (options.now.report ≡ false)) }
+    ensures none { IfNone result ((task : Task) → options.now.command ≡ command_of task → options.now.report ≡ false → ⊥) }
+{
+    match task_of(options) {
+        Some(task) => Some(Asked {
+            task,
+            workers: options.workers,
+            cut: options.cut,
+        }),
+        None => None,
+    }
+}
+
 /// What the words after the program's name ask for, where they are in form and it is built. It fails for want of
 /// memory alone.
-pub fn read_task(alloc: Global, words: &[String]) -> Result<Option<Task>, AllocError>
-    ensures found { IfOk result (λ asked. IfSome asked (Asks (map string_bytes words.now))) }
+#[tactic(auto, using(crate::proofs::Asking::workers_asked, crate::proofs::Asking::few_asked, crate::proofs::Asking::rows_asked))]
+pub fn read_task(alloc: Global, words: &[String]) -> Result<Option<Asked>, AllocError>
+    ensures found { IfOk result (λ asked. IfSome asked (λ a. Asks (map string_bytes words.now) a.task)) }
     ensures none { IfOk result (λ asked. IfNone asked (AreServed (map string_bytes words.now) → ⊥)) }
 {
     one_reading();
     match read_words(alloc, words) {
-        Ok(options) => Ok(task_of(&options)),
+        Ok(options) => Ok(asked_of(&options)),
         Err(WordsFault::Form) => Ok(None),
         Err(WordsFault::Memory) => Err(AllocError),
     }

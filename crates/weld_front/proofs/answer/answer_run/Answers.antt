@@ -1,16 +1,14 @@
-use Rattle.std.proofs.Common.{subst, sym, List, ℕ}
-use Rattle.weld_tree.specs.Program.{ProgramTree}
+use Rattle.std.proofs.Common.{subst, List, ℕ}
 use Rattle.weld_front.specs.Accepting.{IsCheckedOf, RefusesOr}
 use Rattle.weld_front.proofs.Answering.{run_refused, run_answers}
 use Rattle.weld_front.proofs.answer.answer_run.Goals as goal
 
 pub returns-in-Err : goal.returns-in-Err
-returns-in-Err c = run_refused c.args.job.now c.in-Err.refusal c.refused.result (subst (λ (t : List ℕ). RefusesOr t c.in-Err.refusal) c.as_slice.ensures c.in-Err.ensures.refused) c.refused.ensures.status c.refused.ensures.text c.refused.ensures.said
+returns-in-Err g c = run_refused c.args.job.now c.in-Err.refusal c.refused.result (subst (λ (t : List ℕ). RefusesOr t c.in-Err.refusal) c.as_slice.ensures c.in-Err.ensures.refused) c.refused.ensures.status c.refused.ensures.text c.refused.ensures.said
 
 pub returns-in-Ok : goal.returns-in-Ok
-returns-in-Ok c =
-    run_answers c.args.job.now c.program.result.now c.in-Ok.checked.ty c.run_program.result
+returns-in-Ok g c =
+    run_answers c.args.job.now c.in-Ok.checked.program c.in-Ok.checked.ty c.run_job.result
     (record { same = c.notes_play_no_part.ensures.same; meant = c.meaning_looks_past_spelling.ensures })
-    (subst (λ (p : ProgramTree). IsCheckedOf c.args.job.now.text p c.in-Ok.checked.ty) (sym c.program.ensures.same)
-    (subst (λ (t : List ℕ). IsCheckedOf t c.in-Ok.checked.program c.in-Ok.checked.ty) c.as_slice.ensures c.in-Ok.ensures.accepted))
-    c.run_program.ensures
+    (subst (λ (t : List ℕ). IsCheckedOf t c.in-Ok.checked.program c.in-Ok.checked.ty) c.as_slice.ensures c.in-Ok.ensures.accepted)
+    c.run_job.ensures

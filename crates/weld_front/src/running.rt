@@ -1,0 +1,36 @@
+ghost use Rattle.weld_data.specs.View.{view_val};
+ghost use Rattle.weld_meaning.specs.Meaning.{ArgumentsFit, meaning};
+ghost use Rattle.weld_eval_values.specs.Answers.{Answers};
+
+use crate::asked::Asked;
+use std::alloc::Global;
+use std::thread::Threads;
+use weld_data::{Stop, Val, Vals};
+use weld_meaning::Accepted;
+use weld_plan::{make_plan, unoptimised};
+use weld_ports::Gate;
+use weld_share::run_plan;
+
+/// The value of an accepted program on arguments of its parameters' types, run by its plan, or its
+/// fault: the same for all workers and cuts. The gate is told of each tile before it is run.
+pub fn run_program<R: Threads + Sync, G: Gate>(
+    rt: &R,
+    alloc: Global,
+    program: Accepted,
+    arguments: &Vals,
+    asked: Asked,
+    gate: &G,
+) -> Result<Val, Stop>
+    requires { ArgumentsFit program.params arguments.now }
+    ensures { Answers view_val result (meaning program arguments.now) }
+{
+    let normal = unoptimised(program);
+    let plan = match make_plan(alloc, &normal) {
+        Ok(plan) => plan,
+        Err(_) => return Err(Stop::Memory),
+    };
+    match run_plan(rt, alloc, &plan, arguments, asked.workers, asked.cut, gate) {
+        Ok((value, _note)) => Ok(value),
+        Err(stop) => Err(stop),
+    }
+}
