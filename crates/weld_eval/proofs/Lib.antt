@@ -4,5 +4,6 @@ pub mod Children
 pub mod LegLists
 pub mod LoopSteps
 pub mod OwnedNames
+pub mod Pairs
 pub mod RowLists
 pub mod Shorts

@@ -3,6 +3,7 @@ use Rattle.std.specs.Prelude.{◌≡◌, Option, Some, None}
 use Rattle.weld_data.specs.Order.{IsNumber}
 use Rattle.weld_data.specs.Value.{Value}
 use Rattle.weld_builders.specs.Outcome.{Outcome, done}
+use Rattle.weld_built.specs.Pair.{pair}
 use Rattle.weld_eval.specs.declared.short.Short.{Short}
 use Rattle.weld_eval.specs.ShortView.{view_short}
 
@@ -20,3 +21,8 @@ ElementNumber None o = (v : Value) × (o ≡ Some v) × (¬ IsNumber v)
 abbrev pub FieldNumber : Option Short → Outcome Value → Type 0
 FieldNumber (Some n) o = o ≡ done (view_short n)
 FieldNumber None o = (v : Value) × (o ≡ done v) × (¬ IsNumber v)
+
+-- the two numbers of which the value is a struct; there are none too where the code doesn't look for them
+abbrev pub PairAnswer : Option (Short × Short) → Value → Type 0
+PairAnswer (Some p) v = v ≡ pair (view_short p.0) (view_short p.1)
+PairAnswer None v = Unit {0}

@@ -7,10 +7,10 @@ ghost use Rattle.weld_meaning.specs.Thing.{value_field};
 ghost use Rattle.weld_eval_values.specs.Elements.{view_element};
 ghost use Rattle.weld_eval_values.specs.Fits.{HasField};
 ghost use Rattle.weld_eval.specs.LegsView.{lists_of};
-ghost use Rattle.weld_eval.specs.NumberAnswers.{NumberAnswer, FieldNumber};
+ghost use Rattle.weld_eval.specs.NumberAnswers.{NumberAnswer, FieldNumber, PairAnswer};
 ghost use Rattle.weld_eval.specs.RowLists.{RowsAnswer, all_long, all_reach, has_row, is_one, row_in, elements_at};
 
-use crate::number::{number_at, number_of};
+use crate::number::{number_at, number_of, pair_of};
 use crate::short::Short;
 use std::alloc::{AllocError, Global};
 use weld_data::{Column, Stop, Val, Vals};
@@ -54,7 +54,7 @@ fn are_long(legs: &Legs, count: usize) -> bool
 }
 
 /// Whether there is one leg alone. It takes no memory.
-#[inline]
+#[inline(always)]
 pub(crate) fn is_one_leg(legs: &Legs) -> bool
     ensures { result ≡ is_one (lists_of legs.now) }
 {
@@ -118,7 +118,7 @@ pub(crate) fn field_in<'a>(legs: &'a Legs<'a>, number: usize, field: u32) -> Ele
 }
 
 /// The row of a number where it is a number. It takes no memory.
-#[inline]
+#[inline(always)]
 #[tactic(auto, using(crate::proofs::LegLists::last_number))]
 pub(crate) fn number_in_legs(legs: &Legs, number: usize) -> Option<Short>
     requires { IsTrue (has_row number (lists_of legs.now)) }
@@ -134,7 +134,7 @@ pub(crate) fn number_in_legs(legs: &Legs, number: usize) -> Option<Short>
 }
 
 /// A field of the row of a number, where it is a number. It takes no memory.
-#[inline]
+#[inline(always)]
 #[tactic(auto, using(crate::proofs::RowLists::field_within, crate::proofs::RowLists::legs_reach, crate::proofs::RowLists::field_number))]
 pub(crate) fn number_field_in(legs: &Legs, number: usize, field: u32) -> Option<Short>
     requires there { IsTrue (has_row number (lists_of legs.now)) }
@@ -148,6 +148,47 @@ pub(crate) fn number_field_in(legs: &Legs, number: usize, field: u32) -> Option<
         }
     } else {
         number_at(leg_at(legs, field), number)
+    }
+}
+
+/// The two numbers of which the row of a number is a struct, where they are looked for. It takes no memory.
+#[inline(always)]
+#[tactic(auto, using(crate::proofs::Pairs::legs_are, crate::proofs::Pairs::second_reaches))]
+fn pair_in_columns(legs: &Legs, number: usize) -> Option<(Short, Short)>
+    requires { IsTrue (has_row number (lists_of legs.now)) }
+    ensures { PairAnswer result (row_in (lists_of legs.now) number) }
+{
+    match legs {
+        Legs::And(first, rest) => match rest {
+            Legs::And(second, more) => match more {
+                Legs::End => match number_at(first, number) {
+                    Some(x) => match number_at(second, number) {
+                        Some(y) => Some((x, y)),
+                        None => None,
+                    },
+                    None => None,
+                },
+                Legs::And(_, _) => None,
+            },
+            Legs::End => None,
+        },
+        Legs::End => unreachable!(),
+    }
+}
+
+/// The same of one leg, too. It takes no memory.
+#[inline(always)]
+pub(crate) fn pair_in_legs(legs: &Legs, number: usize) -> Option<(Short, Short)>
+    requires { IsTrue (has_row number (lists_of legs.now)) }
+    ensures { PairAnswer result (row_in (lists_of legs.now) number) }
+{
+    if is_one_leg(legs) {
+        match element_in(legs, number) {
+            Element::Lent(v) => pair_of(v),
+            Element::Number(_) => None,
+        }
+    } else {
+        pair_in_columns(legs, number)
     }
 }
 

@@ -2,13 +2,13 @@
 
 ghost use Rattle.std.specs.Prelude.{◌<◌, length as length_of, slice_get};
 ghost use Rattle.weld_data.specs.View.{view_val, view_column};
-ghost use Rattle.weld_eval.specs.NumberAnswers.{NumberAnswer, ElementNumber};
+ghost use Rattle.weld_eval.specs.NumberAnswers.{NumberAnswer, ElementNumber, PairAnswer};
 
 use crate::short::Short;
 use weld_data::{Column, Kind, Val};
 
 /// The number that a value is; there is none where it isn't a number. It takes no memory.
-#[inline]
+#[inline(always)]
 pub fn number_of(v: &Val) -> Option<Short>
     ensures { NumberAnswer result (view_val v.now) }
 {
@@ -20,7 +20,7 @@ pub fn number_of(v: &Val) -> Option<Short>
 
 /// The number that the element at a place is, from 0; there is none where it isn't a number. It takes
 /// no memory.
-#[inline]
+#[inline(always)]
 pub fn number_at(column: &Column, place: usize) -> Option<Short>
     requires { place < length_of (view_column column.now) }
     ensures { ElementNumber result (slice_get (view_column column.now) place) }
@@ -41,5 +41,28 @@ pub fn number_at(column: &Column, place: usize) -> Option<Short>
             value: i64::from(items.as_slice()[place]),
         }),
         Column::Nest(items) => number_of(items.at(place)),
+    }
+}
+
+/// The two numbers of which a value is a struct, where they are looked for. It takes no memory.
+#[tactic(auto, using(crate::proofs::Pairs::fields_are))]
+pub fn pair_of(v: &Val) -> Option<(Short, Short)>
+    ensures { PairAnswer result (view_val v.now) }
+{
+    match v {
+        Val::Struct(fields) => {
+            if fields.len() == 2 {
+                match number_of(fields.at(0)) {
+                    Some(first) => match number_of(fields.at(1)) {
+                        Some(second) => Some((first, second)),
+                        None => None,
+                    },
+                    None => None,
+                }
+            } else {
+                None
+            }
+        }
+        _ => None,
     }
 }

@@ -5,7 +5,7 @@ ghost use Rattle.weld_eval.specs.LegsView.{lists_of};
 ghost use Rattle.weld_eval.specs.RowLists.{has_row};
 
 use crate::legs::{
-    Legs, element_in, field_in, is_one_leg, number_field_in, number_in_legs, value_in,
+    Legs, element_in, field_in, is_one_leg, number_field_in, number_in_legs, pair_in_legs, value_in,
 };
 use crate::short::Short;
 use std::alloc::{AllocError, Global};
@@ -30,10 +30,10 @@ impl<'a> RowAt<'a> {
     ghost use Rattle.weld_eval_values.specs.Fits.{HasField};
     ghost use Rattle.weld_eval.specs.RowLists.{rows_in, is_one};
     ghost use Rattle.weld_eval.specs.RowView.{row_value};
-    ghost use Rattle.weld_eval.specs.NumberAnswers.{NumberAnswer, FieldNumber};
+    ghost use Rattle.weld_eval.specs.NumberAnswers.{NumberAnswer, FieldNumber, PairAnswer};
 
     /// The row of a number below the count of rows. It takes no memory.
-    #[inline]
+    #[inline(always)]
     #[tactic(auto, using(crate::proofs::RowLists::row_stands, crate::proofs::RowLists::row_is))]
     pub fn new(legs: &'a Legs<'a>, number: usize) -> RowAt<'a>
         requires { number < length (rows_in (lists_of legs.now)) }
@@ -71,7 +71,7 @@ impl<'a> RowAt<'a> {
     }
 
     /// The row where it is a number. It takes no memory.
-    #[inline]
+    #[inline(always)]
     pub fn number(&self) -> Option<Short>
         ensures { NumberAnswer result (row_value self.now) }
     {
@@ -79,12 +79,20 @@ impl<'a> RowAt<'a> {
     }
 
     /// A field of the row, from 0, where it is a number. It takes no memory.
-    #[inline]
+    #[inline(always)]
     pub fn number_field(&self, field: u32) -> Option<Short>
         requires { HasField field (row_value self.now) }
         ensures { FieldNumber result (value_field field (row_value self.now)) }
     {
         number_field_in(self.legs, self.number, field)
+    }
+
+    /// The two numbers of which the row is a struct, where they are looked for. It takes no memory.
+    #[inline(always)]
+    pub fn pair(&self) -> Option<(Short, Short)>
+        ensures { PairAnswer result (row_value self.now) }
+    {
+        pair_in_legs(self.legs, self.number)
     }
 
     /// The row, built.

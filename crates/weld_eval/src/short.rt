@@ -21,7 +21,7 @@ impl Short {
     ghost use Rattle.weld_data.specs.declared.kind.Kind.TheVariants as kinds;
 
     /// The same number. It takes no memory.
-    #[inline]
+    #[inline(always)]
     #[tactic(auto, using(crate::proofs::Shorts::fits_i64))]
     pub fn of_num(n: Num) -> Short
         ensures { view_short result ≡ number n.kind n.value }
@@ -33,7 +33,7 @@ impl Short {
     }
 
     /// The same number. It takes no memory.
-    #[inline]
+    #[inline(always)]
     pub fn to_num(self) -> Num
         ensures { view_short self ≡ number result.kind result.value }
     {
@@ -44,7 +44,7 @@ impl Short {
     }
 
     /// The number of a truth value. It takes no memory.
-    #[inline]
+    #[inline(always)]
     pub fn of_truth(truth: bool) -> Short
         ensures { view_short result ≡ truth_value truth }
     {
@@ -55,7 +55,7 @@ impl Short {
     }
 
     /// The number of kind i64. It takes no memory.
-    #[inline]
+    #[inline(always)]
     pub fn of_i64(x: i64) -> Short
         ensures kind { result.kind ≡ kinds.I64 }
         ensures value { result.value ≡ x }

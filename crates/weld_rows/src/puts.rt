@@ -18,7 +18,7 @@ use weld_eval::thing::{Held, Owned, into_value};
 
 /// Merges a number.
 #[tactic(auto, using(crate::proofs::PutLemmas::put_acts))]
-#[inline]
+#[inline(always)]
 pub(crate) fn put_number(builder: &mut Owned, x: Short) -> Result<(), Stop>
     requires { IsPut (thing_of builder.old) (view_short x) }
     ensures { Acts result (merged (thing_of builder.old) (done (plain (view_short x)))) (thing_of builder.new) }
@@ -31,7 +31,7 @@ pub(crate) fn put_number(builder: &mut Owned, x: Short) -> Result<(), Stop>
 
 /// Merges a number under a number.
 #[tactic(auto, using(crate::proofs::PutLemmas::put_acts))]
-#[inline]
+#[inline(always)]
 pub(crate) fn put_pair(builder: &mut Owned, key: Short, x: Short) -> Result<(), Stop>
     requires { IsPut (thing_of builder.old) (pair (view_short key) (view_short x)) }
     ensures { Acts result (merged (thing_of builder.old) (done (plain (pair (view_short key) (view_short x))))) (thing_of builder.new) }

@@ -17,7 +17,7 @@ use weld_eval::short::Short;
 /// The operator's answer on two numbers of a kind that it takes: wrapping arithmetic or a comparison.
 /// It faults exactly where it divides by 0. It takes no memory.
 #[tactic(auto, using(crate::proofs::Scalars::left_in_range, crate::proofs::Scalars::right_in_range, crate::proofs::Scalars::takes_operands, crate::proofs::Scalars::operated_some, crate::proofs::Scalars::operated_none))]
-#[inline]
+#[inline(always)]
 pub fn operated(op: BinOp, x: Short, y: Short) -> Result<Short, Stop>
     requires { AreOperands op (view_short x) (view_short y) }
     ensures { Answers view_short result (operated_value op (view_short x) (view_short y)) }
@@ -32,7 +32,7 @@ pub fn operated(op: BinOp, x: Short, y: Short) -> Result<Short, Stop>
 }
 
 /// The kind of the operator's answer: comparisons answer truth values.
-#[inline]
+#[inline(always)]
 fn answer_kind(op: BinOp, kind: Kind) -> Kind
     ensures { result ≡ kind_of_answer op kind }
 {
@@ -43,7 +43,7 @@ fn answer_kind(op: BinOp, kind: Kind) -> Kind
 }
 
 /// The operator's answer on two numbers of the kind; a comparison answers 0 or 1.
-#[inline]
+#[inline(always)]
 fn operation(op: BinOp, kind: Kind, x: i64, y: i64) -> Option<i64>
     requires left { InRange kind x }
     requires right { InRange kind y }
@@ -69,7 +69,7 @@ fn operation(op: BinOp, kind: Kind, x: i64, y: i64) -> Option<i64>
 }
 
 /// 1 for true, 0 for false.
-#[inline]
+#[inline(always)]
 fn number_of(test: bool) -> i64
     ensures value { result ≡ truth test }
     ensures in_range { InRange kind_names.Bool result }
@@ -94,7 +94,7 @@ fn wrap(kind: Kind, x: i64) -> i64
 }
 
 /// The wrapped sum.
-#[inline]
+#[inline(always)]
 fn sum(kind: Kind, x: i64, y: i64) -> i64
     requires integer { IsInteger kind }
     requires left { InRange kind x }
@@ -109,7 +109,7 @@ fn sum(kind: Kind, x: i64, y: i64) -> i64
 }
 
 /// The wrapped difference.
-#[inline]
+#[inline(always)]
 fn difference(kind: Kind, x: i64, y: i64) -> i64
     requires integer { IsInteger kind }
     requires left { InRange kind x }
@@ -124,7 +124,7 @@ fn difference(kind: Kind, x: i64, y: i64) -> i64
 }
 
 /// The wrapped product.
-#[inline]
+#[inline(always)]
 fn product(kind: Kind, x: i64, y: i64) -> i64
     requires integer { IsInteger kind }
     requires left { InRange kind x }
@@ -177,7 +177,7 @@ pub fn negated(x: Short) -> Short
 }
 
 /// The truth value that a number is. It takes no memory.
-#[inline]
+#[inline(always)]
 pub fn truth_of(x: Short) -> bool
     requires { IsTruth (view_short x) }
     ensures { truth_value_of (view_short x) ≡ done result }
