@@ -1,11 +1,12 @@
 -- Lists compared place by place, and values of different forms.
-use Rattle.std.proofs.Common.{◌≡◌, ℕ, zero, suc, ◌+◌, ◌<◌, ◌≤◌, min, List, [], ◌∷◌, length, drop, slice_get, Some, Ordering, Less, Equal, Greater, int_cmp, nat_cmp, ℤ, ap, sym, subst, refl, ◌∙◌, arith, add-one, to_z, of_z, w8}
+use Rattle.std.proofs.Common.{◌≡◌, ℕ, zero, suc, ◌+◌, ◌<◌, ◌≤◌, min, List, [], ◌∷◌, length, drop, slice_get, Some, Ordering, Less, Equal, Greater, ◌<ℤ◌, int_cmp, nat_cmp, ℤ, ap, ap₂, map, pos, Bool, true, false, sym, subst, refl, ◌∙◌, arith, add-one, to_z, of_z, w8}
 use Rattle.std.proofs.lemmas.Int.{ints, to_z-of_z}
 use Rattle.weld_data.specs.declared.kind.Kind.TheVariants as kinds
-use Rattle.std.specs.Ordering.{ordering_then, MatchOrdering}
-use Rattle.std.specs.Cmp.{ranks}
+use Rattle.std.specs.Ordering.{ordering_then, MatchOrdering, bool_cmp}
+use Rattle.std.specs.Cmp.{ranks, int_cmp_is}
 use Rattle.std.specs.Cmp.Lexicographic.{slice_cmp}
 use Rattle.weld_data.specs.declared.kind.Kind.{Kind}
+use Rattle.weld_data.specs.Operation.{truth}
 use Rattle.weld_data.specs.Value.{Value, number, list, struct, dict, values}
 use Rattle.weld_builders.specs.ValueOrder.{value_cmp, kind_word}
 use Rattle.weld_builders.proofs.Steps.{value_cmp-numbers, value_cmp-lists, value_cmp-structs}
@@ -200,3 +201,40 @@ one_kind_at vs i h = of h.0 vs i h.1
     of kind (list xs ∷ vs) i h = absurd h
     of kind (struct xs ∷ vs) i h = absurd h
     of kind (dict es ∷ vs) i h = absurd h
+
+-- ---- lists that are kept as arrays of one kind
+
+-- the order of the items is that of the numbers that they are
+abbrev pub IsOrderOf : (T : Type 0) → (T → T → Ordering) → (T → Value) → Type 0
+IsOrderOf T R f = (x y : T) → R x y ≡ value_cmp (f x) (f y)
+
+items_cmp : {T : Type 0} (R : T → T → Ordering) (f : T → Value) → IsOrderOf T R f → (xs ys : List T) → slice_cmp R xs ys ≡ slice_cmp value_cmp (map f xs) (map f ys)
+items_cmp R f h [] [] = refl
+items_cmp R f h [] (y ∷ ys) = refl
+items_cmp R f h (x ∷ xs) [] = refl
+items_cmp R f h (x ∷ xs) (y ∷ ys) = ap₂ ordering_then (h x y) (items_cmp R f h xs ys)
+
+pub arrays_cmp : {T : Type 0} (R : T → T → Ordering) (f : T → Value) → IsOrderOf T R f → (xs ys ps qs : List T) (vs ws : List Value) (o : Ordering) → o ≡ slice_cmp R ps qs → ps ≡ xs → qs ≡ ys → vs ≡ map f xs → ws ≡ map f ys → o ≡ slice_cmp value_cmp vs ws
+arrays_cmp R f h xs ys ps qs vs ws o e p q v w =
+    e ∙ ap₂ (slice_cmp R) p q ∙ items_cmp R f h xs ys ∙ sym (ap₂ (slice_cmp value_cmp) v w)
+
+pub ints_order : (k : Kind) → IsOrderOf ℤ int_cmp (number k)
+ints_order kinds.Bool x y = numbers_cmp kinds.Bool kinds.Bool x y
+ints_order kinds.I8 x y = numbers_cmp kinds.I8 kinds.I8 x y
+ints_order kinds.U8 x y = numbers_cmp kinds.U8 kinds.U8 x y
+ints_order kinds.I32 x y = numbers_cmp kinds.I32 kinds.I32 x y
+ints_order kinds.I64 x y = numbers_cmp kinds.I64 kinds.I64 x y
+
+pub nats_order : IsOrderOf ℕ nat_cmp (λ (n : ℕ). number kinds.U8 (pos n))
+nats_order m n = int_cmp_is (pos m) (pos n) (nat_cmp m n) (by (nat_cmp m n) (ranks m n)) ∙ ints_order kinds.U8 (pos m) (pos n)
+  where
+    by : (o : Ordering) → MatchOrdering o (m < n) (m ≡ n) (n < m) → MatchOrdering o (pos m <ℤ pos n) (pos m ≡ pos n) (pos n <ℤ pos m)
+    by Less h = omega (arith, ints)
+    by Equal h = ap pos h
+    by Greater h = omega (arith, ints)
+
+pub bools_order : IsOrderOf Bool bool_cmp (λ (b : Bool). number kinds.Bool (truth b))
+bools_order false false = ints_order kinds.Bool (truth false) (truth false)
+bools_order false true = ints_order kinds.Bool (truth false) (truth true)
+bools_order true false = ints_order kinds.Bool (truth true) (truth false)
+bools_order true true = ints_order kinds.Bool (truth true) (truth true)

@@ -85,6 +85,23 @@ fn compare_columns(a: &Column, b: &Column) -> Ordering
     requires right { HaveOneKind (values (view_column b.now)) }
     ensures { result ≡ slice_cmp value_cmp (view_column a.now) (view_column b.now) }
 {
+    // Arrays of one kind are compared without a look at the kind of each number.
+    match (a, b) {
+        (Column::Bool(x), Column::Bool(y)) => x.as_slice().cmp(&y.as_slice()),
+        (Column::I8(x), Column::I8(y)) => x.as_slice().cmp(&y.as_slice()),
+        (Column::U8(x), Column::U8(y)) => x.as_slice().cmp(&y.as_slice()),
+        (Column::I32(x), Column::I32(y)) => x.as_slice().cmp(&y.as_slice()),
+        (Column::I64(x), Column::I64(y)) => x.as_slice().cmp(&y.as_slice()),
+        _ => compare_elements(a, b),
+    }
+}
+
+/// The same, where the lists may be kept in different ways.
+fn compare_elements(a: &Column, b: &Column) -> Ordering
+    requires left { HaveOneKind (values (view_column a.now)) }
+    requires right { HaveOneKind (values (view_column b.now)) }
+    ensures { result ≡ slice_cmp value_cmp (view_column a.now) (view_column b.now) }
+{
     for i in 0..a.len().min(b.len()) {
         match compare_numbers(a.number_at(i), b.number_at(i)) {
             Ordering::Equal => {}

@@ -1,22 +1,28 @@
-use Rattle.std.proofs.Common.{arith, ◌∙◌}
+use Rattle.std.proofs.Common.{ap, int_cmp, nat_cmp, pos, ℕ, Bool}
+use Rattle.std.specs.Ordering.{bool_cmp}
+use Rattle.weld_data.specs.declared.kind.Kind.TheVariants as kinds
+use Rattle.weld_data.specs.Operation.{truth}
+use Rattle.weld_data.specs.Value.{number}
 use Rattle.weld_data.specs.View.{view_column}
-use Rattle.weld_builders.specs.ValueOrder.{value_cmp}
-use Rattle.weld_sorted.proofs.Comparing.{tie_step, differ, lengths_decide, one_kind_at}
+use Rattle.weld_sorted.proofs.Comparing.{arrays_cmp, ints_order, nats_order, bools_order}
 use Rattle.weld_sorted.proofs.compare.compare_columns.Goals as goal
 
-pub returns-in_default : goal.returns-in_default
-returns-in_default c =
-    differ value_cmp c.compare_numbers.result (view_column c.args.a.now) (view_column c.args.b.now) c.loop-i.i _ _ c.number_at.ensures c.number_at-in-loop-i.ensures c.compare_numbers.ensures c.in_default.not-Equal c.loop-i.invariant
+pub returns-in-Bool-Bool : goal.returns-in-Bool-Bool
+returns-in-Bool-Bool c =
+    arrays_cmp bool_cmp (λ (b : Bool). number kinds.Bool (truth b)) bools_order c.in-Bool-Bool.x c.in-Bool-Bool.y _ _ _ _ _ c.cmp.ensures c.as_slice.ensures c.as_slice-in-Bool-Bool.ensures (ap view_column c.in-Bool-Bool.is-0) (ap view_column c.in-Bool-Bool.is-1)
 
-pub loop-i-preserved : goal.loop-i-preserved
-loop-i-preserved c =
-    tie_step value_cmp c.compare_numbers.result (view_column c.args.a.now) (view_column c.args.b.now) c.loop-i.i _ _ c.number_at.ensures c.number_at-in-loop-i.ensures c.compare_numbers.ensures c.in-Equal.is c.loop-i.invariant
+pub returns-in-I8-I8 : goal.returns-in-I8-I8
+returns-in-I8-I8 c =
+    arrays_cmp int_cmp (number kinds.I8) (ints_order kinds.I8) c.in-I8-I8.x c.in-I8-I8.y _ _ _ _ _ c.cmp-in-I8-I8.ensures c.as_slice-in-I8-I8.ensures c.as_slice-in-I8-I8-2.ensures (ap view_column c.in-I8-I8.is-0) (ap view_column c.in-I8-I8.is-1)
 
-pub returns : goal.returns
-returns c = c.cmp.ensures ∙ lengths_decide value_cmp (view_column c.args.a.now) (view_column c.args.b.now) c.loop-i.i _ _ c.len-3.ensures c.len-4.ensures (omega arith) c.loop-i.invariant
+pub returns-in-U8-U8 : goal.returns-in-U8-U8
+returns-in-U8-U8 c =
+    arrays_cmp nat_cmp (λ (n : ℕ). number kinds.U8 (pos n)) nats_order c.in-U8-U8.x c.in-U8-U8.y _ _ _ _ _ c.cmp-in-U8-U8.ensures c.as_slice-in-U8-U8.ensures c.as_slice-in-U8-U8-2.ensures (ap view_column c.in-U8-U8.is-0) (ap view_column c.in-U8-U8.is-1)
 
-pub number_at-requires-clause-number : goal.number_at-requires-clause-number
-number_at-requires-clause-number c = one_kind_at (view_column c.args.a.now) c.loop-i.i c.requires.left
+pub returns-in-I32-I32 : goal.returns-in-I32-I32
+returns-in-I32-I32 c =
+    arrays_cmp int_cmp (number kinds.I32) (ints_order kinds.I32) c.in-I32-I32.x c.in-I32-I32.y _ _ _ _ _ c.cmp-in-I32-I32.ensures c.as_slice-in-I32-I32.ensures c.as_slice-in-I32-I32-2.ensures (ap view_column c.in-I32-I32.is-0) (ap view_column c.in-I32-I32.is-1)
 
-pub number_at-requires-in-loop-i-clause-number : goal.number_at-requires-in-loop-i-clause-number
-number_at-requires-in-loop-i-clause-number c = one_kind_at (view_column c.args.b.now) c.loop-i.i c.requires.right
+pub returns-in-I64-I64 : goal.returns-in-I64-I64
+returns-in-I64-I64 c =
+    arrays_cmp int_cmp (number kinds.I64) (ints_order kinds.I64) c.in-I64-I64.x c.in-I64-I64.y _ _ _ _ _ c.cmp-in-I64-I64.ensures c.as_slice-in-I64-I64.ensures c.as_slice-in-I64-I64-2.ensures (ap view_column c.in-I64-I64.is-0) (ap view_column c.in-I64-I64.is-1)
