@@ -9,7 +9,8 @@ use Rattle.weld_meaning.specs.Evaluation.{Env, eval, one_thing, found}
 use Rattle.weld_eval.specs.Fit.{IsFit}
 use Rattle.weld_eval.specs.Takes.{OneTakes}
 use Rattle.weld_eval_plain.proofs.Nodes.{part_fits, part_takes, leaf_takes}
-use Rattle.weld_rows.specs.Numbers.{IsName}
+use Rattle.weld_rows.specs.Numbers.{IsName, ReadsPair}
+use Rattle.weld_eval.specs.declared.short.Short.{Short}
 
 leaf_name : (e : ExprTree) (s : ℕ) → IsName e s → (at : At) × (e ≡ leaf at (name s))
 leaf_name (leaf at l) s h = (at, ap (leaf at) h)
@@ -30,3 +31,11 @@ field_takes a o k s e env n x is form same h q = subst (λ p. OneTakes p x) form
 pub field_reads : (a : At) (o : One) (k s : ℕ) (e : ExprTree) (env : Env) (n : ExprTree) (x y : Thing) → n ≡ one a o e → o ≡ field k → IsName e s → look_for s env ≡ Some x → one_thing (field k) x ≡ done y → eval n env ≡ done y
 field_reads a o k s e env n x y is form same q r =
     ap (λ m. eval m env) is ∙ ap (λ u. and_then u (one_thing o)) (name_is s e env x same q) ∙ ap (λ p. one_thing p x) form ∙ r
+
+-- ---- a name alone
+
+pub alone_there : (s : ℕ) (e : ExprTree) (env : Env) → IsName e s → IsFit e env → IsSome (look_for s env)
+alone_there s e env same h = let l = leaf_name e s same in leaf_takes l.0 (name s) env (subst (λ m. IsFit m env) l.1 h)
+
+pub alone_reads : (r : Option (Short × Short)) (s : ℕ) (e : ExprTree) (env : Env) (x : Thing) → IsName e s → look_for s env ≡ Some x → ReadsPair r (done x) → ReadsPair r (eval e env)
+alone_reads r s e env x same q h = subst (λ o. ReadsPair r o) (sym (name_is s e env x same q)) h

@@ -1,8 +1,12 @@
 -- Numbers that expressions come to, in 64 bits.
 use Rattle.weld_tree.specs.declared.sym.Sym.{Sym}
-use Rattle.std.specs.Prelude.{◌≡◌, ℕ, Bool, true, false, Result, Ok, Err, Option, Some, None}
+use Rattle.std.specs.Prelude.{◌≡◌, ℕ, ℤ, Bool, true, false, Result, Ok, Err, Option, Some, None}
 use Rattle.weld_data.specs.declared.stop.Stop.{Stop}
 use Rattle.weld_data.specs.declared.stop.Stop.TheVariants.{Fault, Memory}
+use Rattle.weld_data.specs.declared.kind.Kind.{Kind}
+use Rattle.weld_data.specs.Kind.{InRange}
+use Rattle.weld_data.specs.Value.{number}
+use Rattle.weld_built.specs.Pair.{pair}
 use Rattle.weld_builders.specs.Outcome.{Outcome, done, fault}
 use Rattle.weld_tree.specs.ExprTree.{ExprTree, leaf, one, two, three, many, let_in, loop, iterate, Leaf, int, truth, chars, name, fresh, One, neg, not as not_of, cast, len, field, finish, started, Two, binary, and, or, look_up, key_exists, merge, Three, if_else, select, slice}
 use Rattle.weld_data.specs.Order.{IsNumber}
@@ -19,7 +23,18 @@ abbrev pub ReadsNumber : Option Short → Outcome Thing → Type 0
 ReadsNumber (Some n) o = o ≡ done (plain (view_short n))
 ReadsNumber None o = Unit {0}
 
--- the same, or what stopped it
+-- where two numbers were read, the expression comes to their struct
+abbrev pub ReadsPair : Option (Short × Short) → Outcome Thing → Type 0
+ReadsPair (Some p) o = o ≡ done (plain (pair (view_short p.0) (view_short p.1)))
+ReadsPair None o = Unit {0}
+
+-- the number, of which the kind is answered and the value is left in its place
+abbrev pub AnswersKind : Result Kind Stop → ℤ → Outcome Thing → Type 0
+AnswersKind (Ok k) x o = InRange k x × (o ≡ done (plain (number k x)))
+AnswersKind (Err Fault) x o = o ≡ fault
+AnswersKind (Err Memory) x o = Unit {0}
+
+-- the same as of one number, or what stopped it
 abbrev pub TriesNumber : Result (Option Short) Stop → Outcome Thing → Type 0
 TriesNumber (Ok n) o = ReadsNumber n o
 TriesNumber (Err Fault) o = o ≡ fault

@@ -9,11 +9,11 @@ ghost use Rattle.weld_eval.specs.Fit.{IsFit};
 ghost use Rattle.weld_eval.specs.FrameView.{env_of};
 ghost use Rattle.weld_eval.specs.SlotView.{slot_thing};
 ghost use Rattle.weld_eval.specs.Takes.{LeafTakes, OneTakes};
-ghost use Rattle.weld_rows.specs.Numbers.{ReadsNumber, IsFieldForm, IsNameOf};
+ghost use Rattle.weld_rows.specs.Numbers.{ReadsNumber, ReadsPair, IsFieldForm, IsNameOf};
 
 use weld_data::Num;
 use weld_eval::frame::{Frame, Slot, read};
-use weld_eval::number::number_of;
+use weld_eval::number::{number_of, pair_of};
 use weld_eval::short::Short;
 use weld_eval_values::field_of;
 use weld_tree::{Expr, Form, LeafForm, OneForm, Sym};
@@ -115,6 +115,32 @@ fn field_in_slot(field: u32, slot: Slot) -> Option<Short>
     match slot {
         Slot::Row(row) => row.number_field(field),
         Slot::Value(v) => number_of(field_of(v, field)),
+        Slot::Number(_) => None,
+        Slot::Builder(_) => None,
+    }
+}
+
+/// The two numbers of the struct that an expression is, where it is a name. It takes no memory.
+#[tactic(auto, using(crate::proofs::ReadLemmas::alone_there, crate::proofs::ReadLemmas::alone_reads))]
+#[inline(always)]
+pub(crate) fn leaf_pair(e: &Expr, frame: &Frame) -> Option<(Short, Short)>
+    requires { IsFit e.now (env_of frame.now) }
+    ensures { ReadsPair result (eval_of e.now (env_of frame.now)) }
+{
+    match name_of(e) {
+        Some(name) => pair_in_slot(read(frame, name)),
+        None => None,
+    }
+}
+
+/// The two numbers of the struct that a name stands for.
+#[inline(always)]
+fn pair_in_slot(slot: Slot) -> Option<(Short, Short)>
+    ensures { ReadsPair result (done (slot_thing slot.entry)) }
+{
+    match slot {
+        Slot::Row(row) => row.pair(),
+        Slot::Value(v) => pair_of(v),
         Slot::Number(_) => None,
         Slot::Builder(_) => None,
     }

@@ -16,7 +16,7 @@ ghost use Rattle.weld_eval_plain.specs.Nodes.{IsOne, IsEither, IsIf, IsLet, IsLo
 ghost use Rattle.weld_eval_plain.specs.Rows.{LegsAre};
 ghost use Rattle.weld_eval_values.specs.Answers.{Answers};
 ghost use Rattle.weld_tree.specs.ExprTree.{pack_exprs};
-ghost use Rattle.weld_rows.specs.Numbers.{number_thing, TriesNumber, IsBinary, IsNumberForm};
+ghost use Rattle.weld_rows.specs.Numbers.{number_thing, AnswersKind, TriesNumber, IsBinary, IsNumberForm};
 ghost use Rattle.weld_rows.specs.Puts.{PutFits, IsWrittenPair, IsTwo, IsTriple};
 ghost use Rattle.weld_rows.specs.RowActs.{RowActFits, row_act, ActAll, legs_count};
 ghost use Rattle.weld_rows.specs.Runs.{Runs, RunsNumber};
@@ -26,10 +26,10 @@ use crate::forms::{
     one_number, operator_of, with_builder, with_number, with_row,
 };
 use crate::puts::{put_held, put_number, put_pair};
-use crate::reads::leaf_number;
+use crate::reads::{leaf_number, leaf_pair};
 use crate::scalar::{operated, truth_of, whole_number};
 use std::alloc::Global;
-use weld_data::Stop;
+use weld_data::{Kind, Stop};
 use weld_eval::forms::{leaf, number as number_held};
 use weld_eval::frame::{Frame, bind};
 use weld_eval::legs::Legs;
@@ -50,13 +50,43 @@ pub fn number(e: &Expr, frame: &Frame, alloc: Global) -> Result<Short, Stop>
 {
     match leaf_number(e, frame) {
         Some(n) => Ok(n),
-        None => compound(e, frame, alloc),
+        None => unread(e, frame, alloc),
     }
 }
 
 /// The same of what isn't read at once.
 #[cycle(rows)]
-fn compound(e: &Expr, frame: &Frame, alloc: Global) -> Result<Short, Stop>
+#[inline(always)]
+fn unread(e: &Expr, frame: &Frame, alloc: Global) -> Result<Short, Stop>
+    requires { RunsNumber e.now (env_of frame.now) }
+    ensures { Answers number_thing result (eval_of e.now (env_of frame.now)) }
+{
+    let mut value = 0;
+    match compound(e, frame, &mut value, alloc) {
+        Ok(kind) => Ok(Short { kind, value }),
+        Err(stop) => Err(stop),
+    }
+}
+
+/// The same, the number's kind and its value apart: so a call hands both on in registers.
+#[cycle(rows)]
+fn compound(e: &Expr, frame: &Frame, into: &mut i64, alloc: Global) -> Result<Kind, Stop>
+    requires { RunsNumber e.now (env_of frame.now) }
+    ensures { AnswersKind result into.new (eval_of e.now (env_of frame.now)) }
+{
+    match chosen(e, frame, alloc) {
+        Ok(n) => {
+            *into = n.value;
+            Ok(n.kind)
+        }
+        Err(stop) => Err(stop),
+    }
+}
+
+/// The same, by the form.
+#[cycle(rows)]
+#[inline(always)]
+fn chosen(e: &Expr, frame: &Frame, alloc: Global) -> Result<Short, Stop>
     requires { RunsNumber e.now (env_of frame.now) }
     ensures { Answers number_thing result (eval_of e.now (env_of frame.now)) }
 {
@@ -194,7 +224,7 @@ fn numeral<'a>(e: &Expr, frame: &'a Frame<'a>, alloc: Global) -> Result<Held<'a>
     requires { RunsNumber e.now (env_of frame.now) }
     ensures { Answers held_of result (eval_of e.now (env_of frame.now)) }
 {
-    match compound(e, &*frame, alloc) {
+    match unread(e, &*frame, alloc) {
         Ok(n) => Ok(number_held(n.to_num())),
         Err(stop) => Err(stop),
     }
@@ -484,11 +514,24 @@ fn act_merge(e: &Expr, frame: &Frame, builder: &mut Owned, alloc: Global) -> Res
     ensures { Acts result (act_of e.now (env_of frame.now) (thing_of builder.old)) (thing_of builder.new) }
 {
     match &e.form {
-        Form::Two(_, first, item) => match act(first, frame, builder, alloc) {
+        Form::Two(_, first, item) => match act_first(first, frame, builder, alloc) {
             Ok(()) => put(item, frame, builder, alloc),
             Err(stop) => Err(stop),
         },
         _ => unreachable!(),
+    }
+}
+
+/// What the builder does into which is merged: mostly it is the name alone, which does nothing.
+#[cycle(rows)]
+#[inline(always)]
+fn act_first(e: &Expr, frame: &Frame, builder: &mut Owned, alloc: Global) -> Result<(), Stop>
+    requires { ActFits e.now (env_of frame.now) (thing_of builder.old) }
+    ensures { Acts result (act_of e.now (env_of frame.now) (thing_of builder.old)) (thing_of builder.new) }
+{
+    match &e.form {
+        Form::Leaf(_) => Ok(()),
+        _ => act(e, frame, builder, alloc),
     }
 }
 
@@ -510,6 +553,7 @@ fn put(item: &Expr, frame: &Frame, builder: &mut Owned, alloc: Global) -> Result
 /// The number that an expression comes to, where it is one by its looks or is read at once.
 #[cycle(rows)]
 #[tactic(auto, using(crate::proofs::Numbers::numeric_runs))]
+#[inline(always)]
 fn tried(e: &Expr, frame: &Frame, alloc: Global) -> Result<Option<Short>, Stop>
     requires { Runs e.now (env_of frame.now) }
     ensures { TriesNumber result (eval_of e.now (env_of frame.now)) }
@@ -518,7 +562,7 @@ fn tried(e: &Expr, frame: &Frame, alloc: Global) -> Result<Option<Short>, Stop>
         Some(n) => Ok(Some(n)),
         None => {
             if is_numeric(e) {
-                match compound(e, frame, alloc) {
+                match unread(e, frame, alloc) {
                     Ok(n) => Ok(Some(n)),
                     Err(stop) => Err(stop),
                 }
@@ -531,7 +575,21 @@ fn tried(e: &Expr, frame: &Frame, alloc: Global) -> Result<Option<Short>, Stop>
 
 /// Merges an item that isn't a number by its looks.
 #[cycle(rows)]
+#[tactic(auto, using(crate::proofs::ActLemmas::put_number_item, crate::proofs::ActLemmas::put_is))]
 fn put_other(item: &Expr, frame: &Frame, builder: &mut Owned, alloc: Global) -> Result<(), Stop>
+    requires runs { Runs item.now (env_of frame.now) }
+    requires fits { PutFits item.now (env_of frame.now) (thing_of builder.old) }
+    ensures { Acts result (merged (thing_of builder.old) (eval_of item.now (env_of frame.now))) (thing_of builder.new) }
+{
+    match leaf_pair(item, frame) {
+        Some(found) => put_pair(builder, found.0, found.1),
+        None => put_compound(item, frame, builder, alloc),
+    }
+}
+
+/// The same of what isn't read at once.
+#[cycle(rows)]
+fn put_compound(item: &Expr, frame: &Frame, builder: &mut Owned, alloc: Global) -> Result<(), Stop>
     requires runs { Runs item.now (env_of frame.now) }
     requires fits { PutFits item.now (env_of frame.now) (thing_of builder.old) }
     ensures { Acts result (merged (thing_of builder.old) (eval_of item.now (env_of frame.now))) (thing_of builder.new) }

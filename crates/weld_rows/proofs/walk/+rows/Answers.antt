@@ -37,8 +37,8 @@ value_of_one-one-requires t c = part_run_takes _ _ c.deref.result.now (env_of c.
 pub in_value-number_in-requires : goal.in_value-number_in-requires
 in_value-number_in-requires t c = number_given c.args.e.now (env_of c.args.frame.now) (held_of c.in-Ok.x) c.requires c.in-Ok.ensures
 
-pub tried-compound-requires : goal.tried-compound-requires
-tried-compound-requires t c = let p : numeric c.args.e.now ≡ true = cc in (omega arith, numeric_runs c.args.e.now (env_of c.args.frame.now) p c.requires)
+pub tried-unread-requires : goal.tried-unread-requires
+tried-unread-requires t c = let p : numeric c.args.e.now ≡ true = cc in (omega arith, numeric_runs c.args.e.now (env_of c.args.frame.now) p c.requires)
 
 pub value-numeral-requires : goal.value-numeral-requires
 value-numeral-requires t c = let p : numeric c.args.e.now ≡ true = cc in (omega arith, numeric_runs c.args.e.now (env_of c.args.frame.now) p c.requires)
@@ -46,7 +46,7 @@ value-numeral-requires t c = let p : numeric c.args.e.now ≡ true = cc in (omeg
 pub act_merge-put-requires : goal.act_merge-put-requires
 act_merge-put-requires t c =
     let is = sym c.e.view_is ∙ ap (λ (f : Form). view_form f (record { place = c.e.inside.place; ty = c.e.inside.ty })) c.in-Two.is ∙ (λ i. two (record { place = c.e.inside.place; ty = c.e.inside.ty }) (view_two c.in-Two.field-0) (sym c.deref.ensures i) (sym c.deref-in-Ok.ensures i)) in
-    (omega (arith, ap expr_nodes is), (item_runs _ _ _ c.deref-in-Ok.result.now (env_of c.args.frame.now) c.args.e.now (thing_of c.args.builder.now) is c.requires.acts, item_puts _ _ c.deref.result.now c.deref-in-Ok.result.now (env_of c.args.frame.now) c.args.e.now (thing_of c.args.builder.now) (thing_of c.act.new.builder) is c.requires.acts c.in-Ok.ensures))
+    (omega (arith, ap expr_nodes is), (item_runs _ _ _ c.deref-in-Ok.result.now (env_of c.args.frame.now) c.args.e.now (thing_of c.args.builder.now) is c.requires.acts, item_puts _ _ c.deref.result.now c.deref-in-Ok.result.now (env_of c.args.frame.now) c.args.e.now (thing_of c.args.builder.now) (thing_of c.act_first.new.builder) is c.requires.acts c.in-Ok.ensures))
 
 pub act_over-count_rows-requires-clause-some : goal.act_over-count_rows-requires-clause-some
 act_over-count_rows-requires-clause-some t c = act_over_count _ _ _ _ _ _ _ (env_of c.args.frame.now) c.args.e.now (thing_of c.args.builder.now) c.args.vectors.now (sym c.e.view_is ∙ ap (λ (f : Form). view_form f (record { place = c.e.inside.place; ty = c.e.inside.ty })) c.in-For.is) c.requires.acts c.requires.legs
@@ -261,3 +261,6 @@ put_written-returns-in-Some-Some t c =
     let key : c.index-parts-0.result ≡ get_or c.in-Many.parts 0 c.index-parts-0.result = c.index-parts-0.is ∙ ap (λ (l : List ExprTree). get_or l 0 c.index-parts-0.result) c.as_slice-parts.ensures.value in
     let item : c.index-parts-1.result ≡ get_or c.in-Many.parts 1 c.index-parts-1.result = c.index-parts-1.is ∙ ap (λ (l : List ExprTree). get_or l 1 c.index-parts-1.result) c.as_slice-parts.ensures.value in
     put_is c.put_pair.result c.args.item.now (env_of c.args.frame.now) (thing_of c.args.builder.now) (thing_of c.put_pair.new.builder) (plain (pair (view_short c.in-Some-Some.key) (view_short c.in-Some-Some.x))) (pair_is _ _ c.in-Many.parts (env_of c.args.frame.now) c.args.item.now c.index-parts-0.result c.index-parts-1.result (view_short c.in-Some-Some.key) (view_short c.in-Some-Some.x) is c.requires.form key item (reads_some c.in-Ok.key c.in-Some-Some.key _ c.in-Some-Some.is-0 c.in-Ok.ensures) (reads_some c.in-Ok-tried.x c.in-Some-Some.x _ c.in-Some-Some.is-1 c.in-Ok-tried.ensures)) c.put_pair.ensures
+
+pub put_other-put_pair-requires : goal.put_other-put_pair-requires
+put_other-put_pair-requires t c = put_number_item c.args.item.now (env_of c.args.frame.now) (thing_of c.args.builder.now) (pair (view_short c.in-Some.found.0) (view_short c.in-Some.found.1)) c.requires.fits c.in-Some.ensures

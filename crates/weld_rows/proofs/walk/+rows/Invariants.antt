@@ -12,10 +12,10 @@ use Rattle.weld_rows.proofs.walk.+rows.Given as goal
 -- evaluated those of its body
 
 abbrev pub decreases-number : goal.decreases-number
-decreases-number l = 64 * expr_nodes l.e.now + 11
+decreases-number l = 64 * expr_nodes l.e.now + 13
 
 abbrev pub decreases-compound : goal.decreases-compound
-decreases-compound l = 64 * expr_nodes l.e.now + 10
+decreases-compound l = 64 * expr_nodes l.e.now + 11
 
 abbrev pub decreases-binary : goal.decreases-binary
 decreases-binary l = 64 * expr_nodes l.e.now + 9
@@ -33,10 +33,10 @@ abbrev pub decreases-in_value : goal.decreases-in_value
 decreases-in_value l = 64 * expr_nodes l.e.now + 9
 
 abbrev pub decreases-value : goal.decreases-value
-decreases-value l = 64 * expr_nodes l.e.now + 12
+decreases-value l = 64 * expr_nodes l.e.now + 14
 
 abbrev pub decreases-numeral : goal.decreases-numeral
-decreases-numeral l = 64 * expr_nodes l.e.now + 11
+decreases-numeral l = 64 * expr_nodes l.e.now + 13
 
 abbrev pub decreases-other : goal.decreases-other
 decreases-other l = 64 * expr_nodes l.e.now + 8
@@ -57,7 +57,7 @@ abbrev pub decreases-value_over : goal.decreases-value_over
 decreases-value_over l = 64 * expr_nodes l.e.now + 6
 
 abbrev pub decreases-tried : goal.decreases-tried
-decreases-tried l = 64 * expr_nodes l.e.now + 13
+decreases-tried l = 64 * expr_nodes l.e.now + 15
 
 abbrev pub decreases-act : goal.decreases-act
 decreases-act l = 64 * expr_nodes l.e.now + 31
@@ -84,16 +84,28 @@ abbrev pub decreases-act_struct : goal.decreases-act_struct
 decreases-act_struct l = 64 * expr_nodes l.e.now + 30
 
 abbrev pub decreases-put : goal.decreases-put
-decreases-put l = 64 * expr_nodes l.item.now + 20
+decreases-put l = 64 * expr_nodes l.item.now + 21
 
 abbrev pub decreases-put_other : goal.decreases-put_other
-decreases-put_other l = 64 * expr_nodes l.item.now + 19
+decreases-put_other l = 64 * expr_nodes l.item.now + 20
 
 abbrev pub decreases-put_made : goal.decreases-put_made
 decreases-put_made l = 64 * expr_nodes l.item.now + 17
 
 abbrev pub decreases-put_written : goal.decreases-put_written
 decreases-put_written l = 64 * expr_nodes l.item.now + 18
+
+abbrev pub decreases-chosen : goal.decreases-chosen
+decreases-chosen l = 64 * expr_nodes l.e.now + 10
+
+abbrev pub decreases-unread : goal.decreases-unread
+decreases-unread l = 64 * expr_nodes l.e.now + 12
+
+abbrev pub decreases-act_first : goal.decreases-act_first
+decreases-act_first l = 64 * expr_nodes l.e.now + 32
+
+abbrev pub decreases-put_compound : goal.decreases-put_compound
+decreases-put_compound l = 64 * expr_nodes l.item.now + 19
 
 abbrev pub decreases-fill : goal.decreases-fill
 decreases-fill l = 64 * body_nodes l.e.now + 41 + length l.vectors.now
