@@ -248,7 +248,7 @@ all_counted (done t) stuck ts n h q = let no : ⊥ = cc in absurd no
 all_counted fault p ts n h q = let no : ⊥ = cc in absurd no
 all_counted stuck p ts n h q = let no : ⊥ = cc in absurd no
 
-count_all : (es : ExprTrees) (env : Env) (ts : Things) → eval_all es env ≡ done ts → count_things ts ≡ count_exprs es
+pub count_all : (es : ExprTrees) (env : Env) (ts : Things) → eval_all es env ≡ done ts → count_things ts ≡ count_exprs es
 count_all no_exprs env ts q = let same : no_things ≡ ts = cc in ap count_things (sym same)
 count_all (more_exprs e es) env ts q = all_counted (eval e env) (eval_all es env) ts (count_exprs es) (λ us r. count_all es env us r) q
 

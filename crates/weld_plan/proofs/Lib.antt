@@ -1,3 +1,5 @@
+mod Cases
+pub mod Counting
 pub mod Emitting
 pub mod Leading
 pub mod Paths
