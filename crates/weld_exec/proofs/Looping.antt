@@ -139,7 +139,7 @@ pub stack_stop : (T U : Type 0) (s : Stop) (w : Outcome Things) (after : Things)
 stack_stop T U Fault w after p e new h q = h q
 stack_stop T U Memory w after p e new h q = tt
 
-split_at : (l : List StepTree) (i : ℕ) → i < length l → (x : StepTree) × (drop i l ≡ x ∷ drop (i + 1) l)
+pub split_at : (l : List StepTree) (i : ℕ) → i < length l → (x : StepTree) × (drop i l ≡ x ∷ drop (i + 1) l)
 split_at [] i h = absurd (omega arith)
 split_at (x ∷ l) zero h = (x, refl)
 split_at (x ∷ l) (suc i) h =

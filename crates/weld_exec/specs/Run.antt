@@ -21,6 +21,7 @@ use Rattle.weld_eval.specs.declared.thing.Owned.{Owned}
 use Rattle.weld_plan.specs.StepTree.{StepTree, run_loop}
 use Rattle.weld_plan.specs.Leads.{GoesOn, IsLoopAt, below_loop, loop_lists, Leads}
 use Rattle.weld_plan.specs.PlanView.{view_steps, IsPlan}
+use Rattle.weld_plan.specs.StepRows.{rows_of_steps}
 use Rattle.weld_plan.specs.declared.plan.Plan.{Plan}
 use Rattle.weld_exec.specs.Stacked.{IsSomething}
 use Rattle.weld_exec.specs.declared.env.Env.{Env as State}
@@ -56,6 +57,10 @@ steps_left p e = drop e.at (view_steps p.steps.items)
 pub record IsReady (p : Plan) (e : State) : Type 0 where
   pub plan : IsPlan p
   pub leads : Leads (steps_left p e) e.skip (arguments_of p e) (locals e) (things_of e.stack) (body_outcome p e)
+
+-- how many rows each shared loop has that the run still comes to
+abbrev pub rows_left : Plan → State → List ℕ
+rows_left p e = rows_of_steps (steps_left p e) e.skip (arguments_of p e) (locals e) (things_of e.stack)
 
 -- ---- at a loop
 
@@ -109,6 +114,11 @@ NextAnswer (Ok (next.Loop at)) p e = AtLoop p e at
 NextAnswer (Ok (next.Done v)) p e = program_meaning p e ≡ done (view_val v)
 NextAnswer (Err Fault) p e = program_meaning p e ≡ fault
 NextAnswer (Err Memory) p e = Unit {0}
+
+-- at the end the run comes to no loop any more
+abbrev pub LeavesNone : Plan → State → Next → Type 0
+LeavesNone p e (next.Loop at) = Unit {0}
+LeavesNone p e (next.Done v) = rows_left p e ≡ []
 
 -- what a tile answers: what its rows make of the builder that has nothing merged
 abbrev pub TileAnswer : Result TilePart Stop → Evaluation → Tile → Type 0

@@ -2,32 +2,25 @@
 use Rattle.std.specs.Prelude.{◌≡◌, ℕ, zero, suc, Bool, List, length, Result, Ok, Err}
 use Rattle.weld_data.specs.declared.stop.Stop.{Stop}
 use Rattle.weld_data.specs.declared.stop.Stop.TheVariants.{Fault, Memory}
-use Rattle.weld_data.specs.Value.{Value, list, values}
+use Rattle.weld_data.specs.Value.{Value}
 use Rattle.weld_tree.specs.ExprTree.{ExprTree, LegTrees, loop, One, Two, Three, Many}
-use Rattle.weld_builders.specs.Outcome.{Outcome, done, fault, stuck, map_out}
+use Rattle.weld_builders.specs.Outcome.{Outcome, done, fault}
 use Rattle.weld_meaning.specs.Thing.{Thing, plain, Things, no_things, more_things}
-use Rattle.weld_meaning.specs.Evaluation.{Env, rows_of, eval_legs, one_thing, two_thing, three_thing, many_thing}
+use Rattle.weld_meaning.specs.Evaluation.{Env, rows_of, eval_legs}
 use Rattle.weld_eval.specs.Fit.{LegsAreFit}
 use Rattle.weld_eval.specs.Takes.{OneTakes, TwoTakes, ThreeTakes, IsStrict, IsPlain}
 use Rattle.weld_eval_forms.specs.FormTakes.{AreAllEvaluated, ManyTakes}
-use Rattle.weld_eval_forms.specs.Legs.{IsVector, IsPlace, strided_elements, rows_in}
+use Rattle.weld_eval_forms.specs.Legs.{IsVector, IsPlace, rows_in}
 use Rattle.weld_eval_plain.specs.Nodes.{IsIterate}
 use Rattle.weld_eval_plain.specs.Turns.{HoldsState}
 use Rattle.weld_plan.specs.StepTree.{StepTree, apply_one, apply_two, apply_three, apply_many, stride}
 use Rattle.weld_plan.specs.Leads.{IsTruthThing, IsLoopAt, AreThere, lists_in}
-
--- a thing on top of the stack
-abbrev pub put_on : Things → Thing → Things
-put_on st t = more_things t st
+pub use Rattle.weld_plan.specs.Stack.{put_on, one_stack, two_stack, three_stack, newest, below, many_stack, stride_stack, after_step}
 
 -- the form of one part takes the newest thing
 abbrev pub TakesOne : One → Things → Type 0
 TakesOne p no_things = ⊥
 TakesOne p (more_things t st) = OneTakes p t
-
-abbrev pub one_stack : One → Things → Outcome Things
-one_stack p no_things = stuck
-one_stack p (more_things t st) = map_out (put_on st) (one_thing p t)
 
 -- the form of two parts takes the two newest things, of which the newest is the second
 abbrev pub TakesTwo : Two → Things → Type 0
@@ -35,33 +28,11 @@ TakesTwo p no_things = ⊥
 TakesTwo p (more_things u no_things) = ⊥
 TakesTwo p (more_things u (more_things t st)) = IsStrict p × TwoTakes p t u
 
-abbrev pub two_stack : Two → Things → Outcome Things
-two_stack p no_things = stuck
-two_stack p (more_things u no_things) = stuck
-two_stack p (more_things u (more_things t st)) = map_out (put_on st) (two_thing p t (done u))
-
 abbrev pub TakesThree : Three → Things → Type 0
 TakesThree p no_things = ⊥
 TakesThree p (more_things w no_things) = ⊥
 TakesThree p (more_things w (more_things u no_things)) = ⊥
 TakesThree p (more_things w (more_things u (more_things t st))) = AreAllEvaluated p × ThreeTakes p t u w
-
-abbrev pub three_stack : Three → Things → Outcome Things
-three_stack p no_things = stuck
-three_stack p (more_things w no_things) = stuck
-three_stack p (more_things w (more_things u no_things)) = stuck
-three_stack p (more_things w (more_things u (more_things t st))) = map_out (put_on st) (three_thing p t (done u) (done w))
-
--- so many of the newest things, the newest first, and what stands below them
-abbrev pub newest : ℕ → Things → Things
-newest zero st = no_things
-newest (suc n) no_things = no_things
-newest (suc n) (more_things t st) = more_things t (newest n st)
-
-abbrev pub below : ℕ → Things → Things
-below zero st = st
-below (suc n) no_things = no_things
-below (suc n) (more_things t st) = below n st
 
 -- there are so many things
 abbrev pub AreSoMany : ℕ → Things → Type 0
@@ -73,9 +44,6 @@ pub record TakesMany (p : Many) (n : ℕ) (st : Things) : Type 0 where
   pub there : AreSoMany n st
   pub takes : ManyTakes p (newest n st)
 
-abbrev pub many_stack : Many → ℕ → Things → Outcome Things
-many_stack p n st = map_out (put_on (below n st)) (many_thing p (newest n st))
-
 -- a vector, a start, an end and a stride, the stride the newest
 abbrev pub TakesStride : Things → Type 0
 TakesStride no_things = ⊥
@@ -83,13 +51,6 @@ TakesStride (more_things d no_things) = ⊥
 TakesStride (more_things d (more_things e no_things)) = ⊥
 TakesStride (more_things d (more_things e (more_things s no_things))) = ⊥
 TakesStride (more_things d (more_things e (more_things s (more_things v st)))) = IsVector v × IsPlace s × IsPlace e × IsPlace d
-
-abbrev pub stride_stack : Things → Outcome Things
-stride_stack no_things = stuck
-stride_stack (more_things d no_things) = stuck
-stride_stack (more_things d (more_things e no_things)) = stuck
-stride_stack (more_things d (more_things e (more_things s no_things))) = stuck
-stride_stack (more_things d (more_things e (more_things s (more_things v st)))) = map_out (λ vs. more_things (plain (list (values vs))) st) (strided_elements v s e d)
 
 -- there is a thing
 abbrev pub IsSomething : Things → Type 0
@@ -110,14 +71,6 @@ TakesStep (apply_three p) st = TakesThree p st
 TakesStep (apply_many p n) st = TakesMany p n st
 TakesStep stride st = TakesStride st
 TakesStep _ st = ⊥
-
-abbrev pub after_step : StepTree → Things → Outcome Things
-after_step (apply_one p) st = one_stack p st
-after_step (apply_two p) st = two_stack p st
-after_step (apply_three p) st = three_stack p st
-after_step (apply_many p n) st = many_stack p n st
-after_step stride st = stride_stack st
-after_step _ st = stuck
 
 abbrev pub IsWork : StepTree → Type 0
 IsWork (apply_one p) = Unit {0}

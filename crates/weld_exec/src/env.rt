@@ -1,12 +1,15 @@
 //! The state of a run between the steps of its plan.
 
-ghost use Rattle.std.specs.Prelude.{◌≡◌, ◌<◌, ◌≤◌, drop, IfOk, OnOk};
-ghost use Rattle.weld_meaning.specs.Meaning.{ArgumentsFit};
+ghost use Rattle.std.specs.Prelude.{◌≡◌, ◌∷◌, ◌<◌, ◌≤◌, drop, IfOk, OnOk};
+ghost use Rattle.weld_data.specs.Value.{Value};
+ghost use Rattle.weld_builders.specs.Outcome.{done};
+ghost use Rattle.weld_meaning.specs.Meaning.{ArgumentsFit, meaning};
 ghost use Rattle.weld_acts.specs.Ranges.{Evaluation, IsSoFar};
 ghost use Rattle.weld_eval.specs.ThingView.{thing_of};
 ghost use Rattle.weld_tile_parts.specs.Parts.{joined_thing, joined_evaluation, IsWhole};
 ghost use Rattle.weld_plan.specs.PlanView.{IsPlan, view_steps};
-ghost use Rattle.weld_exec.specs.Run.{env_inputs, IsReady, AtLoop, NextAnswer, IsLoopNext, loop_node, evaluation_of, rows_at, left_of};
+ghost use Rattle.weld_plan.specs.SharedRows.{program_rows};
+ghost use Rattle.weld_exec.specs.Run.{env_inputs, IsReady, AtLoop, NextAnswer, LeavesNone, IsLoopNext, loop_node, evaluation_of, rows_at, rows_left, left_of};
 
 use crate::gather::drop_vectors;
 use crate::stack::{drop_top, pop, push};
@@ -44,6 +47,7 @@ impl<'a> Env<'a> {
         requires fit { ArgumentsFit plan.now.program.now.params inputs.now }
         ensures ready { IfOk result (λ env. IsReady plan.now env) }
         ensures inputs { IfOk result (λ env. env_inputs env ≡ inputs.now) }
+        ensures rows { IfOk result (λ env. (v : Value) → meaning plan.now.program.now inputs.now ≡ done v → rows_left plan.now env ≡ program_rows plan.now.program.now inputs.now) }
     {
         let _plan = plan;
         Ok(Env {
@@ -64,6 +68,8 @@ impl<'a> Env<'a> {
         ensures next { NextAnswer result plan.now self.new }
         ensures inputs { env_inputs self.new ≡ env_inputs self.old }
         ensures left { OnOk result (left_of plan.now self.new ≤ left_of plan.now self.old) }
+        ensures rows { OnOk result (rows_left plan.now self.new ≡ rows_left plan.now self.old) }
+        ensures none { IfOk result (LeavesNone plan.now self.new) }
     {
         while self.at < plan.steps.len() {
             let step = plan.steps[self.at];
@@ -137,6 +143,7 @@ impl<'a> Env<'a> {
         ensures ready { OnOk result (IsReady plan.now self.new) }
         ensures inputs { env_inputs self.new ≡ env_inputs self.old }
         ensures left { OnOk result (left_of plan.now self.new < left_of plan.now self.old) }
+        ensures rows { OnOk result (rows_left plan.now self.old ≡ rows_at self.old ∷ rows_left plan.now self.new) }
     {
         let _at = at;
         let node = loop_at(plan, self.at);

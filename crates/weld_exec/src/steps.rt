@@ -6,7 +6,7 @@ ghost use Rattle.weld_plan.specs.PlanView.{view_step};
 ghost use Rattle.weld_plan.specs.StepTree.{compute as compute_step, run_turns, decide as decide_step, unless as unless_step, skip as skip_step, bind as bind_step, unbind as unbind_step, run_loop};
 ghost use Rattle.weld_plan.specs.Leads.{settles as settles_so};
 ghost use Rattle.weld_exec.specs.Stacked.{IsWork};
-ghost use Rattle.weld_exec.specs.Run.{env_inputs, StandsAt, StepAnswer, StandAnswer, IsNoLoop};
+ghost use Rattle.weld_exec.specs.Run.{env_inputs, rows_left, StandsAt, StepAnswer, StandAnswer, IsNoLoop};
 
 use crate::apply::apply;
 use crate::env::Env;
@@ -38,6 +38,7 @@ impl<'a> Env<'a> {
         requires form { IsNoLoop (view_step step) }
         ensures step { StepAnswer result plan.now self.old self.new }
         ensures at { OnOk result (self.new.at ≡ self.old.at + 1) }
+        ensures rows { OnOk result (rows_left plan.now self.new ≡ rows_left plan.now self.old) }
         ensures inputs { env_inputs self.new ≡ env_inputs self.old }
     {
         match step {
@@ -59,6 +60,7 @@ impl<'a> Env<'a> {
         requires more { self.old.at < length plan.now.steps.items }
         ensures step { StepAnswer result plan.now self.old self.new }
         ensures at { OnOk result (self.new.at ≡ self.old.at + 1) }
+        ensures rows { OnOk result (rows_left plan.now self.new ≡ rows_left plan.now self.old) }
         ensures inputs { env_inputs self.new ≡ env_inputs self.old }
     {
         match compute(e, plan.program, self.inputs, &self.names, alloc) {
@@ -79,6 +81,7 @@ impl<'a> Env<'a> {
         requires more { self.old.at < length plan.now.steps.items }
         ensures step { StepAnswer result plan.now self.old self.new }
         ensures at { OnOk result (self.new.at ≡ self.old.at + 1) }
+        ensures rows { OnOk result (rows_left plan.now self.new ≡ rows_left plan.now self.old) }
         ensures inputs { env_inputs self.new ≡ env_inputs self.old }
     {
         let state = match pop(&mut self.stack) {
@@ -109,6 +112,7 @@ impl<'a> Env<'a> {
         requires more { self.old.at < length plan.now.steps.items }
         ensures step { StepAnswer result plan.now self.old self.new }
         ensures at { OnOk result (self.new.at ≡ self.old.at + 1) }
+        ensures rows { OnOk result (rows_left plan.now self.new ≡ rows_left plan.now self.old) }
         ensures inputs { env_inputs self.new ≡ env_inputs self.old }
     {
         let _plan = plan;
@@ -133,6 +137,7 @@ impl<'a> Env<'a> {
         requires more { self.old.at < length plan.now.steps.items }
         ensures step { StepAnswer result plan.now self.old self.new }
         ensures at { OnOk result (self.new.at ≡ self.old.at + 1) }
+        ensures rows { OnOk result (rows_left plan.now self.new ≡ rows_left plan.now self.old) }
         ensures inputs { env_inputs self.new ≡ env_inputs self.old }
     {
         let _plan = plan;
@@ -149,6 +154,7 @@ impl<'a> Env<'a> {
         requires more { self.old.at < length plan.now.steps.items }
         ensures step { StepAnswer result plan.now self.old self.new }
         ensures at { OnOk result (self.new.at ≡ self.old.at + 1) }
+        ensures rows { OnOk result (rows_left plan.now self.new ≡ rows_left plan.now self.old) }
         ensures inputs { env_inputs self.new ≡ env_inputs self.old }
     {
         let _plan = plan;
@@ -163,6 +169,7 @@ impl<'a> Env<'a> {
         requires more { self.old.at < length plan.now.steps.items }
         ensures step { StepAnswer result plan.now self.old self.new }
         ensures at { OnOk result (self.new.at ≡ self.old.at + 1) }
+        ensures rows { OnOk result (rows_left plan.now self.new ≡ rows_left plan.now self.old) }
         ensures inputs { env_inputs self.new ≡ env_inputs self.old }
     {
         let _plan = plan;
@@ -182,6 +189,7 @@ impl<'a> Env<'a> {
         requires more { self.old.at < length plan.now.steps.items }
         ensures step { StepAnswer result plan.now self.old self.new }
         ensures at { OnOk result (self.new.at ≡ self.old.at + 1) }
+        ensures rows { OnOk result (rows_left plan.now self.new ≡ rows_left plan.now self.old) }
         ensures inputs { env_inputs self.new ≡ env_inputs self.old }
     {
         let _plan = plan;
@@ -197,6 +205,7 @@ impl<'a> Env<'a> {
         requires form { IsWork (view_step step) }
         ensures step { StepAnswer result plan.now self.old self.new }
         ensures at { OnOk result (self.new.at ≡ self.old.at + 1) }
+        ensures rows { OnOk result (rows_left plan.now self.new ≡ rows_left plan.now self.old) }
         ensures inputs { env_inputs self.new ≡ env_inputs self.old }
     {
         let _plan = plan;
@@ -220,6 +229,7 @@ impl<'a> Env<'a> {
         requires { StandsAt plan.now self.old (run_loop node.now at.0) }
         ensures at { StandAnswer result plan.now self.new at }
         ensures place { self.new.at ≡ self.old.at }
+        ensures rows { rows_left plan.now self.new ≡ rows_left plan.now self.old }
         ensures inputs { env_inputs self.new ≡ env_inputs self.old }
     {
         let _at = at;
