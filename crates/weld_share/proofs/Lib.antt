@@ -1,3 +1,4 @@
+mod Counting
 mod Following
 mod Sent
 mod Shared

@@ -1,10 +1,12 @@
 //! Programs run by their plans, tile by tile.
 
-ghost use Rattle.std.specs.Prelude.{◌≡◌, ◌≤◌};
+ghost use Rattle.std.specs.Prelude.{◌≡◌, ◌≤◌, ◌<◌, ◌^◌, length, IfOk};
+ghost use Rattle.weld_tree.specs.Program.{loops};
 ghost use Rattle.weld_data.specs.View.{view_val};
 ghost use Rattle.weld_meaning.specs.Meaning.{ArgumentsFit, meaning};
 ghost use Rattle.weld_eval_values.specs.Answers.{Answers};
 ghost use Rattle.weld_plan.specs.PlanView.{IsPlan};
+ghost use Rattle.weld_share.specs.Counts.{IsNote};
 
 use crate::note::RunNote;
 use crate::tiled::run_loop;
@@ -14,12 +16,11 @@ use weld_data::{Stop, Val, Vals};
 use weld_exec::{Env, Next};
 use weld_plan::Plan;
 use weld_ports::Gate;
-use weld_tree::loops_of;
 
 /// The value of the plan's program on inputs of its parameters' types, and what the run counted. The rows of each shared loop
 /// are cut into tiles of at most `cut` rows; these are mapped over the processors, and what they make is joined in their
 /// order. The gate is told of each tile before it is run. `workers` chooses nothing. It faults exactly where the meaning is a
-/// fault. It may want memory.
+/// fault. It may want memory. What is counted is the same for all workers.
 pub fn run_mapped<G: Gate>(
     rt: &(impl Threads + Sync),
     alloc: Global,
@@ -34,32 +35,49 @@ pub fn run_mapped<G: Gate>(
     requires some_worker { 1 ≤ workers }
     requires workers { workers ≤ 64 }
     requires cut { 1 ≤ cut }
-    ensures { Answers (λ r. view_val r.0) result (meaning plan.now.program.now inputs.now) }
+    ensures value { Answers (λ r. view_val r.0) result (meaning plan.now.program.now inputs.now) }
+    ensures note { IfOk result (λ r. IsNote plan.now.program.now inputs.now cut r.1) }
 {
     let _workers = workers;
     let mut env = match Env::new(alloc, plan, inputs) {
         Ok(env) => env,
         Err(_) => return Err(Stop::Memory),
     };
-    let mut note = RunNote {
-        loops: loops_of(plan.program),
-        sized: 0,
-        lanes: 0,
-        tiles: 0,
-        turns: 0,
-    };
+    let mut note = no_counts(plan);
     loop {
         match env.advance(plan, alloc) {
             Ok(Next::Done(value)) => return Ok((value, note)),
             Ok(Next::Loop(at)) => match run_loop(rt, alloc, plan, &mut env, at, cut, gate) {
                 Ok((tiles, rows)) => {
-                    note.tiles = note.tiles.saturating_add(tiles as u128);
-                    note.turns = note.turns.saturating_add(u128::from(rows));
+                    note.tiles += tiles as u128;
+                    note.turns += u128::from(rows);
                 }
                 Err(stop) => return Err(stop),
             },
             Err(stop) => return Err(stop),
         }
+    }
+}
+
+/// What a run of the plan has counted before its first step. A plan has so few steps that the rows of a loop for each can be
+/// counted. It takes no memory.
+fn no_counts(plan: &Plan) -> RunNote
+    requires { IsPlan plan.now }
+    ensures loops { result.loops ≡ loops plan.now.program.now.body }
+    ensures sized { result.sized ≡ 0 }
+    ensures lanes { result.lanes ≡ 0 }
+    ensures tiles { result.tiles ≡ 0 }
+    ensures turns { result.turns ≡ 0 }
+    ensures few { length plan.now.steps.items < 2 ^ 64 }
+{
+    let _steps = plan.steps.len();
+    let program = plan.program;
+    RunNote {
+        loops: program.body.loops(),
+        sized: 0,
+        lanes: 0,
+        tiles: 0,
+        turns: 0,
     }
 }
 
@@ -78,7 +96,8 @@ pub fn run_plan<G: Gate>(
     requires some_worker { 1 ≤ workers }
     requires workers { workers ≤ 64 }
     requires cut { 1 ≤ cut }
-    ensures { Answers (λ r. view_val r.0) result (meaning plan.now.program.now inputs.now) }
+    ensures value { Answers (λ r. view_val r.0) result (meaning plan.now.program.now inputs.now) }
+    ensures note { IfOk result (λ r. IsNote plan.now.program.now inputs.now cut r.1) }
 {
     run_mapped(rt, alloc, plan, inputs, workers, cut, gate)
 }

@@ -1,12 +1,13 @@
 //! One loop, by tiles that are run apart.
 
-ghost use Rattle.std.specs.Prelude.{◌≡◌, ◌≤◌, ◌<◌, ◌+◌, ℕ, IfOk, OnOk, All};
+ghost use Rattle.std.specs.Prelude.{◌≡◌, ◌∷◌, ◌≤◌, ◌<◌, ◌+◌, ◌^◌, ℕ, IfOk, OnOk, All};
 ghost use Rattle.weld_builders.specs.Outcome.{fault};
 ghost use Rattle.weld_eval_values.specs.Answers.{OnFault};
 ghost use Rattle.weld_tiles.specs.Tiling.{Follows, IsTiling};
 ghost use Rattle.weld_tiles.specs.declared.tile.Tile.{Tile};
 ghost use Rattle.weld_tile_parts.specs.Parts.{joined_evaluation, IsWhole};
-ghost use Rattle.weld_exec.specs.Run.{env_inputs, program_meaning, IsReady, left_of, evaluation_of, rows_at, AtLoop, TileAnswer};
+ghost use Rattle.weld_exec.specs.Run.{env_inputs, program_meaning, IsReady, left_of, evaluation_of, rows_at, rows_left, AtLoop, TileAnswer};
+ghost use Rattle.weld_share.specs.Counts.{AreCut};
 ghost use Rattle.weld_share.specs.Mapped.{IsWithin, IsAnswer, AreAnswers};
 
 use crate::parallel::{RunsTiles, map_tiles};
@@ -93,6 +94,7 @@ fn enter_one(
     }
 }
 
+#[tactic(auto, using(crate::proofs::Counting::tiles_are_cut))]
 /// Runs the loop at which the run stands, by tiles, and goes behind it: how many tiles and how many rows there were.
 pub(crate) fn run_loop<G: Gate>(
     rt: &(impl Threads + Sync),
@@ -108,6 +110,9 @@ pub(crate) fn run_loop<G: Gate>(
     ensures ready { OnOk result (IsReady plan.now env.new) }
     ensures left { OnOk result (left_of plan.now env.new < left_of plan.now env.old) }
     ensures inputs { env_inputs env.new ≡ env_inputs env.old }
+    ensures rows { IfOk result (λ r. rows_left plan.now env.old ≡ r.1 ∷ rows_left plan.now env.new) }
+    ensures tiles { IfOk result (λ r. AreCut cut r.1 r.0) }
+    ensures few { IfOk result (λ r. r.1 < 2 ^ 64) }
     ensures fault { OnFault result (program_meaning plan.now env.old ≡ fault) }
 {
     let rows = env.rows_of(plan, at);
