@@ -208,7 +208,7 @@ one_kind_at vs i h = of h.0 vs i h.1
 abbrev pub IsOrderOf : (T : Type 0) → (T → T → Ordering) → (T → Value) → Type 0
 IsOrderOf T R f = (x y : T) → R x y ≡ value_cmp (f x) (f y)
 
-items_cmp : {T : Type 0} (R : T → T → Ordering) (f : T → Value) → IsOrderOf T R f → (xs ys : List T) → slice_cmp R xs ys ≡ slice_cmp value_cmp (map f xs) (map f ys)
+pub items_cmp : {T : Type 0} (R : T → T → Ordering) (f : T → Value) → IsOrderOf T R f → (xs ys : List T) → slice_cmp R xs ys ≡ slice_cmp value_cmp (map f xs) (map f ys)
 items_cmp R f h [] [] = refl
 items_cmp R f h [] (y ∷ ys) = refl
 items_cmp R f h (x ∷ xs) [] = refl

@@ -4,7 +4,9 @@
 pub mod compare;
 mod entry;
 mod sorted;
+pub mod start;
 
 pub use compare::compare_values;
 pub use entry::Entry;
 pub use sorted::sort_entries;
+pub use start::{compare_started, start_of};
