@@ -4,11 +4,12 @@ use std::alloc::{AllocError, Global};
 use std::cmp::Ordering;
 use std::marker::Model;
 use weld_data::Val;
-use weld_sorted::compare_values;
+use weld_sorted::{compare_started, start_of};
 
-/// A value that is a key.
+/// A value that is a key. Its start stands beside it, so that most comparisons of texts don't look at their items.
 #[derive(Debug, Drop)]
 pub struct Key {
+    start: u128,
     value: Val,
 }
 
@@ -22,10 +23,11 @@ impl Model for Key {
 
     ghost use Rattle.weld_data.specs.View.{view_val};
     ghost use Rattle.weld_data.specs.Order.{IsKey};
+    ghost use Rattle.weld_sorted.specs.Start.{HasStart};
 
     ghost view = { λ k. view_val k.value };
 
-    ghost invariant = { λ k. IsKey (view_val k.value) };
+    ghost invariant = { λ k. IsKey (view_val k.value) × HasStart k.value k.start };
 }
 
 impl Key {
@@ -39,7 +41,10 @@ impl Key {
         requires { IsKey (view_val value) }
         ensures { result ≡ view_val value }
     {
-        Key { value }
+        Key {
+            start: start_of(&value),
+            value,
+        }
     }
 
     /// The value, given up. It takes no memory.
@@ -47,7 +52,7 @@ impl Key {
         ensures value { view_val result ≡ self }
         ensures key { IsKey self }
     {
-        let Key { value } = self;
+        let Key { start: _, value } = self;
         value
     }
 
@@ -63,7 +68,7 @@ impl Key {
     fn stands(&self, other: &Key) -> Ordering
         ensures { result ≡ value_cmp self.now other.now }
     {
-        compare_values(&self.value, &other.value)
+        compare_started(&self.value, self.start, &other.value, other.start)
     }
 }
 
