@@ -4,7 +4,7 @@ use Rattle.weld_data.specs.declared.stop.Stop.{Stop}
 use Rattle.weld_data.specs.declared.stop.Stop.TheVariants.{Fault, Memory}
 use Rattle.weld_builders.specs.Outcome.{fault}
 use Rattle.weld_tiles.specs.declared.tile.Tile.{Tile}
-use Rattle.weld_tiles.specs.Tiling.{Follows}
+use Rattle.weld_tiles.specs.Tiling.{Follows, IsRun}
 use Rattle.weld_tile_parts.specs.declared.piece.TilePart.{TilePart}
 use Rattle.weld_tile_parts.specs.Parts.{part_evaluation}
 use Rattle.weld_plan.specs.declared.plan.Plan.{Plan}
@@ -21,7 +21,7 @@ IsAnswer p e t (Ok part) = (part.tile ≡ t) × (part_evaluation part ≡ evalua
 IsAnswer p e t (Err Fault) = program_meaning p e ≡ fault
 IsAnswer p e t (Err Memory) = Unit {0}
 
--- these are the answers of tiles that follow one another, numbered from a number on, from a row up to the last
-abbrev pub AreAnswers : Plan → State → ℕ → ℕ → ℕ → List (Result TilePart Stop) → Type 0
-AreAnswers p e n lo rows [] = lo ≡ rows
-AreAnswers p e n lo rows (r ∷ rs) = (t : Tile) × Follows t n lo × IsAnswer p e t r × AreAnswers p e (n + 1) t.hi rows rs
+-- these are the answers of tiles that follow one another, numbered from a number on, from a row on; behind them come these tiles, up to the last row
+abbrev pub AreAnswers : Plan → State → ℕ → ℕ → ℕ → List Tile → List (Result TilePart Stop) → Type 0
+AreAnswers p e n lo rows behind [] = IsRun n lo rows behind
+AreAnswers p e n lo rows behind (r ∷ rs) = (t : Tile) × Follows t n lo × IsAnswer p e t r × AreAnswers p e (n + 1) t.hi rows behind rs

@@ -1,9 +1,9 @@
 //! One loop, by tiles that are run apart.
 
-ghost use Rattle.std.specs.Prelude.{◌≡◌, ◌∷◌, ◌≤◌, ◌<◌, ◌+◌, ◌^◌, ℕ, IfOk, OnOk, All};
+ghost use Rattle.std.specs.Prelude.{◌≡◌, ◌∷◌, ◌≤◌, ◌<◌, ◌+◌, ◌^◌, ◌++◌, ℕ, IfOk, OnOk, All};
 ghost use Rattle.weld_builders.specs.Outcome.{fault};
 ghost use Rattle.weld_eval_values.specs.Answers.{OnFault};
-ghost use Rattle.weld_tiles.specs.Tiling.{Follows, IsTiling};
+ghost use Rattle.weld_tiles.specs.Tiling.{Follows, IsRun, IsTiling};
 ghost use Rattle.weld_tiles.specs.declared.tile.Tile.{Tile};
 ghost use Rattle.weld_tile_parts.specs.Parts.{joined_evaluation, IsWhole};
 ghost use Rattle.weld_exec.specs.Run.{env_inputs, program_meaning, IsReady, left_of, evaluation_of, rows_at, rows_left, AtLoop, TileAnswer};
@@ -20,6 +20,10 @@ use weld_plan::Plan;
 use weld_ports::Gate;
 use weld_tile_parts::{Joined, TilePart};
 use weld_tiles::{Tile, tiles};
+
+/// The most tiles that are run before what they make is joined. What a tile makes is held until then, so a small number
+/// keeps memory low; it is well above the number of processors, of which each can be busy.
+const BATCH: usize = 64;
 
 /// The loop at which a run stands, whose tiles any thread may run. The gate is told of each before it is run.
 #[derive(Drop)]
@@ -42,22 +46,24 @@ impl<'a, 'b, G: Gate> RunsTiles for Tiled<'a, 'b, G> {
     }
 }
 
-/// Joins what the tiles have made, in their order, to the builder with which the loop starts. The first stop in that order is
-/// the answer.
+/// Joins what tiles have made, in their order, to the builder that has come to the first of them. The first stop in that order
+/// is the answer. `behind` are the tiles that come after these.
 fn enter_all(
     plan: &Plan,
     env: &Env,
     answers: Vec<Result<TilePart, Stop>>,
+    behind: &[Tile],
     mut joined: Joined,
 ) -> Result<Joined, Stop>
     requires whole { IsWhole joined }
     requires evaluation { joined_evaluation joined ≡ evaluation_of plan.now env.now }
-    requires answers { AreAnswers plan.now env.now joined.next joined.end (rows_at env.now) answers.items }
+    requires answers { AreAnswers plan.now env.now joined.next joined.end (rows_at env.now) behind.now answers.items }
     ensures whole { IfOk result (λ j. IsWhole j) }
     ensures evaluation { IfOk result (λ j. joined_evaluation j ≡ evaluation_of plan.now env.now) }
-    ensures all { IfOk result (λ j. j.end ≡ rows_at env.now) }
+    ensures behind { IfOk result (λ j. IsRun j.next j.end (rows_at env.now) behind.now) }
     ensures fault { OnFault result (program_meaning plan.now env.now ≡ fault) }
 {
+    let _behind = behind;
     for answer in answers {
         match enter_one(plan, env, answer, &mut joined) {
             Ok(()) => {}
@@ -131,7 +137,6 @@ pub(crate) fn run_loop<G: Gate>(
 }
 
 /// The builder of the loop at which the run stands, joined with what the tiles of its rows make.
-#[tactic(auto, using(crate::proofs::Following::tiles_within, crate::proofs::Following::tiles_answer))]
 fn join_tiles<G: Gate>(
     rt: &(impl Threads + Sync),
     alloc: Global,
@@ -155,12 +160,43 @@ fn join_tiles<G: Gate>(
         at,
         gate,
     };
-    let answers = match map_tiles(rt, alloc, &run, tiles) {
-        Ok(answers) => answers,
+    let mut joined = match env.begin(plan, at, alloc) {
+        Ok(start) => start,
         Err(_) => return Err(Stop::Memory),
     };
-    match env.begin(plan, at, alloc) {
-        Ok(start) => enter_all(plan, env, answers, start),
+    let mut left = tiles;
+    'batches: while !left.is_empty() {
+        let (batch, behind) = left.split_at(left.len().min(BATCH));
+        joined = match join_batch(rt, alloc, &run, batch, behind, joined) {
+            Ok(joined) => joined,
+            Err(stop) => return Err(stop),
+        };
+        left = behind;
+    }
+    Ok(joined)
+}
+
+/// The builder that has come to the first of some tiles, joined with what these make. `behind` are the tiles that come after them.
+#[tactic(auto, using(crate::proofs::Following::batch_answers))]
+fn join_batch<G: Gate>(
+    rt: &(impl Threads + Sync),
+    alloc: Global,
+    run: &Tiled<G>,
+    batch: &[Tile],
+    behind: &[Tile],
+    joined: Joined,
+) -> Result<Joined, Stop>
+    requires at { AtLoop run.now.plan.now run.now.env.now run.now.at }
+    requires whole { IsWhole joined }
+    requires evaluation { joined_evaluation joined ≡ evaluation_of run.now.plan.now run.now.env.now }
+    requires tiles { IsRun joined.next joined.end (rows_at run.now.env.now) (batch.now ++ behind.now) }
+    ensures whole { IfOk result (λ j. IsWhole j) }
+    ensures evaluation { IfOk result (λ j. joined_evaluation j ≡ evaluation_of run.now.plan.now run.now.env.now) }
+    ensures behind { IfOk result (λ j. IsRun j.next j.end (rows_at run.now.env.now) behind.now) }
+    ensures fault { OnFault result (program_meaning run.now.plan.now run.now.env.now ≡ fault) }
+{
+    match map_tiles(rt, alloc, run, batch) {
+        Ok(answers) => enter_all(run.plan, run.env, answers, behind, joined),
         Err(_) => Err(Stop::Memory),
     }
 }

@@ -1,9 +1,9 @@
-use Rattle.std.proofs.Common.{ap, sym, subst, ◌∙◌}
+use Rattle.std.proofs.Common.{ap, subst, ◌∙◌}
 use Rattle.std.proofs.Crossing
 use Rattle.rayon.proofs.ListFacts.{IfOk-then, AllZip-weaken}
 use Rattle.rayon.proofs.ToStd.{slice-AllZip}
 use denote.Exit.{no}
-use denote.Param.Send.{param_send, arg_send, copied_send, copied_sync, arg_sync, sendable}
+use denote.Param.Send.{param_send, arg_send, sendable}
 use Rattle.weld_share.proofs.Sent.{answer_send}
 use Rattle.weld_share.proofs.parallel.map_tiles.Goals as goal
 

@@ -9,4 +9,4 @@ abbrev pub invariant-loop-answer : goal.invariant-loop-answer
 invariant-loop-answer l =
     IsWhole l.joined
     × (joined_evaluation l.joined ≡ evaluation_of l.plan l.env)
-    × AreAnswers l.plan l.env l.joined.next l.joined.end (rows_at l.env) (into_iter_items l.answer-iterator)
+    × AreAnswers l.plan l.env l.joined.next l.joined.end (rows_at l.env) l.behind (into_iter_items l.answer-iterator)
