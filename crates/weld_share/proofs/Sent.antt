@@ -42,7 +42,7 @@ list_send : IsSend ListPart.the_row
 list_send = search (Crossing.crosses, val_send, sendable) depth 60 fits 100000
 
 key_send : IsSend Key.the_row
-key_send = view_send _ _ _ _ _ (declared_send KeyInside.the_type (val_send, tt))
+key_send = view_send _ _ _ _ _ (declared_send KeyInside.the_type ((search sendable), (val_send, tt)))
 
 keyed_map_send : IsSend KeyedMap.the_row
 keyed_map_send =

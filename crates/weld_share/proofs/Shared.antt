@@ -61,7 +61,7 @@ list_sync : IsSync ListPart.the_row
 list_sync = search (Crossing.crosses, val_sync, sendable) depth 60 fits 100000
 
 key_sync : IsSync Key.the_row
-key_sync = view_sync _ _ _ _ _ (declared_sync KeyInside.the_type (val_sync, tt))
+key_sync = view_sync _ _ _ _ _ (declared_sync KeyInside.the_type ((search sendable), (val_sync, tt)))
 
 keyed_map_sync : IsSync KeyedMap.the_row
 keyed_map_sync =
