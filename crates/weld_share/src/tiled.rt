@@ -21,9 +21,21 @@ use weld_ports::Gate;
 use weld_tile_parts::{Joined, TilePart};
 use weld_tiles::{Tile, tiles};
 
-/// The most tiles that are run before what they make is joined. What a tile makes is held until then, so a small number
-/// keeps memory low; it is well above the number of processors, of which each can be busy.
+/// The least number of tiles that are run before what they make is joined. It is well above the number of processors, so that
+/// each can be busy.
 const BATCH: usize = 64;
+
+/// The rows that are run before what they make is joined, where more tiles than the least have them. What tiles make is held
+/// until then, so a batch is no larger; a small one would not be worth the start of its threads.
+const BATCH_ROWS: u32 = 262_144;
+
+/// How many tiles of at most so many rows are run before what they make is joined. It takes no memory.
+fn batch_size(cut: u32) -> usize
+    requires { 1 ≤ cut }
+    ensures { 1 ≤ result }
+{
+    BATCH.max((BATCH_ROWS / cut) as usize)
+}
 
 /// The loop at which a run stands, whose tiles any thread may run. The gate is told of each before it is run.
 #[derive(Drop)]
@@ -126,7 +138,7 @@ pub(crate) fn run_loop<G: Gate>(
         Ok(list) => list,
         Err(_) => return Err(Stop::Memory),
     };
-    let joined = match join_tiles(rt, alloc, plan, &*env, at, list.as_slice(), gate) {
+    let joined = match join_tiles(rt, alloc, plan, &*env, at, list.as_slice(), cut, gate) {
         Ok(joined) => joined,
         Err(stop) => return Err(stop),
     };
@@ -144,10 +156,12 @@ fn join_tiles<G: Gate>(
     env: &Env,
     at: LoopId,
     tiles: &[Tile],
+    cut: u32,
     gate: &G,
 ) -> Result<Joined, Stop>
     requires at { AtLoop plan.now env.now at }
     requires tiling { IsTiling tiles.now (rows_at env.now) }
+    requires cut { 1 ≤ cut }
     ensures whole { IfOk result (λ j. IsWhole j) }
     ensures evaluation { IfOk result (λ j. joined_evaluation j ≡ evaluation_of plan.now env.now) }
     ensures all { IfOk result (λ j. j.end ≡ rows_at env.now) }
@@ -166,7 +180,7 @@ fn join_tiles<G: Gate>(
     };
     let mut left = tiles;
     'batches: while !left.is_empty() {
-        let (batch, behind) = left.split_at(left.len().min(BATCH));
+        let (batch, behind) = left.split_at(left.len().min(batch_size(cut)));
         joined = match join_batch(rt, alloc, &run, batch, behind, joined) {
             Ok(joined) => joined,
             Err(stop) => return Err(stop),
