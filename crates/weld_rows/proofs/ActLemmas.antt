@@ -1,18 +1,16 @@
 -- What is done in place, step by step.
-use Rattle.std.proofs.Common.{◌≡◌, ℕ, zero, suc, ◌+◌, ◌<◌, ◌≤◌, ◌∷◌, Bool, true, false, List, [], length, get_or, drop, Result, Ok, Err, Option, Some, None, refl, sym, ap, ◌∙◌, subst, arith}
+use Rattle.std.proofs.Common.{◌≡◌, ℕ, zero, suc, ◌+◌, ◌<◌, ◌∷◌, true, false, List, [], length, get_or, drop, Result, Ok, Err, Option, Some, refl, sym, ap, ◌∙◌, subst, arith}
 use Rattle.weld_data.specs.declared.stop.Stop.{Stop}
 use Rattle.weld_data.specs.declared.stop.Stop.TheVariants.{Fault, Memory}
-use Rattle.weld_data.specs.Value.{Value, values}
+use Rattle.weld_data.specs.Value.{Value}
 use Rattle.weld_tree.specs.declared.binder.Binder.{Binder}
-use Rattle.weld_tree.specs.TypeTree.{TypeTree, TypeTrees, build, no_types, more_types}
-use Rattle.weld_tree.specs.Types.{IsBuilder}
-use Rattle.weld_tree.specs.ExprTree.{ExprTree, ExprTrees, At, LegTrees, one, two, three, many, let_in, loop, iterate, Two, binary, and, or, look_up, key_exists, merge, Three, if_else, select, slice, Many, make_vec, make_struct, no_exprs, more_exprs, pack_exprs}
+use Rattle.weld_tree.specs.TypeTree.{TypeTrees, no_types, more_types}
+use Rattle.weld_tree.specs.ExprTree.{ExprTree, ExprTrees, At, LegTrees, two, three, many, let_in, loop, iterate, Two, Three, if_else, select, slice, Many, make_struct, no_exprs, more_exprs, pack_exprs}
 use Rattle.weld_builders.specs.Outcome.{Outcome, done, fault, stuck, and_then, map_out}
-use Rattle.weld_builders.specs.Part.{Part}
 use Rattle.weld_meaning.specs.Thing.{Thing, plain, building, several, Things, no_things, more_things}
 use Rattle.weld_meaning.specs.ThingType.{HasThing, HaveBuilders}
-use Rattle.weld_meaning.specs.Typing.{TwoHas, Types, HaveTypes}
-use Rattle.weld_meaning.specs.Evaluation.{Env, eval, eval_all, many_thing, merged, truth_of, eval_legs, rows_of}
+use Rattle.weld_meaning.specs.Typing.{Types, HaveTypes}
+use Rattle.weld_meaning.specs.Evaluation.{Env, eval, many_thing, merged, truth_of, eval_legs, rows_of}
 use Rattle.weld_meaning.specs.Meaning.{GivesOrFaults}
 use Rattle.weld_meaning.proofs.NeverStuck.{never_stuck}
 use Rattle.weld_eval_values.specs.Fits.{IsTruth}
@@ -23,12 +21,10 @@ use Rattle.weld_eval.specs.ThingView.{thing_of}
 use Rattle.weld_eval.specs.Fit.{IsFit}
 use Rattle.weld_eval.specs.ShortView.{view_short}
 use Rattle.weld_eval.specs.declared.short.Short.{Short}
-use Rattle.weld_eval.specs.Takes.{TwoTakes, IsPlain}
 use Rattle.weld_eval.proofs.Children.{key_laws, fit_many, fit_first_of_all, fit_rest_of_all}
-use Rattle.weld_eval_forms.proofs.TwoShapes.{item_plain, item_fits, no_value_merges, no_struct_merges}
-use Rattle.weld_eval_plain.specs.Nodes.{IsIf, IsLoop, IsLet}
+use Rattle.weld_eval_plain.specs.Nodes.{IsIf}
 use Rattle.weld_eval_plain.specs.Rows.{LegsAre}
-use Rattle.weld_acts.specs.Act.{IsMerge, IsChoice, IsStruct, AreDirect, act, act_all, Acts}
+use Rattle.weld_acts.specs.Act.{act, act_all, Acts}
 use Rattle.weld_eval_forms.specs.Legs.{RowsAnswer}
 use Rattle.weld_eval_forms.specs.Legs.{rows_in as forms_rows}
 use Rattle.std.proofs.lemmas.List.{at_drop_more}
@@ -36,16 +32,16 @@ use Rattle.std.proofs.Math.Seq.{drop-nil}
 use Rattle.weld_tree.specs.ExprFalls.{expr_nodes, exprs_nodes}
 use Rattle.weld_acts.specs.ActFits.{ActFits, ActsFit}
 use Rattle.weld_acts.specs.Ranges.{HoldsRange, range_over}
-use Rattle.weld_acts.proofs.Direct.{direct_value, direct_parts}
-use Rattle.weld_acts.proofs.Children.{act_gives, merge_part_acts, merge_item_fits, merge_item_direct, merge_takes, merge_is, then_acts, otherwise_acts, choice_then, choice_otherwise, choice_faults, let_acts, let_is, loop_holds, loop_is}
+use Rattle.weld_acts.proofs.Direct.{direct_value}
+use Rattle.weld_acts.proofs.Children.{merge_item_fits, merge_item_direct, choice_then, choice_otherwise, let_is, loop_holds, loop_is}
 use Rattle.weld_eval_plain.proofs.Nodes.{let_value_fits}
 use Rattle.weld_eval_plain.proofs.Rows.{legs_there}
 use Rattle.weld_eval_forms.specs.Legs.{leg_lists}
 use Rattle.weld_eval.specs.declared.thing.Held.{Held}
 use Rattle.weld_eval_values.specs.Answers.{Answers}
 use Rattle.weld_rows.specs.Numbers.{TriesNumber, ReadsNumber}
-use Rattle.weld_built.specs.Pair.{pair}
-use Rattle.weld_rows.specs.Puts.{IsPut, PutsThing, PutFits, IsStructForm, AreTwo, IsWrittenPair, IsTwo, IsTriple}
+use Rattle.weld_blocks.specs.Puts.{PutFits, IsWrittenPair}
+use Rattle.weld_blocks.proofs.Merges.{put_fault, as_pair, key_is, item_is}
 use Rattle.weld_rows.specs.Runs.{Runs, RunsNumber}
 use Rattle.weld_rows.proofs.Numbers.{condition_runs, if_is_truth}
 
@@ -54,84 +50,15 @@ use Rattle.weld_rows.proofs.Numbers.{condition_runs, if_is_truth}
 pub item_runs : (a : At) (o : Two) (e f : ExprTree) (env : Env) (n : ExprTree) (s : Thing) → n ≡ two a o e f → ActFits n env s → Runs f env
 item_runs a o e f env n s is h = record { fit = merge_item_fits a o e f env n s is h; direct = merge_item_direct a o e f env n s is h }
 
-puts_thing : (t y : Thing) → TwoTakes merge t y → PutsThing t y
-puts_thing (plain w) y h = absurd (no_value_merges w y h)
-puts_thing (several ts) y h = absurd (no_struct_merges ts y h)
-puts_thing (building p) (plain v) h = item_fits p (plain v) v h refl
-puts_thing (building p) (building q) h = absurd (item_plain (building p) (building q) h)
-puts_thing (building p) (several ts) h = absurd (item_plain (building p) (several ts) h)
-
-part_of_merge : (u v w : TypeTree) (t : Thing) → TwoHas merge u v w → HasThing t u → (p : Part) × (t ≡ building p)
-part_of_merge u v w (plain x) h k = absurd (subst (HasThing (plain x)) h.1 k)
-part_of_merge u v w (building p) h k = (p, refl)
-part_of_merge u v w (several ts) h k = absurd (subst (HasThing (several ts)) h.1 k)
-
-part_acts : (a : At) (e f : ExprTree) (env : Env) (s : Thing) → ActFits (two a merge e f) env s → ActFits e env s
-part_acts a e f env s h = record {
-  fit = record { names = h.fit.names; origins = h.fit.origins; named = h.fit.named; answer = h.fit.typed.0; typed = h.fit.typed.2; keeps = h.fit.keeps.0 };
-  direct = h.direct.0;
-  name = h.name;
-  path = h.path;
-  acts = h.acts.1;
-  builder = subst (λ t. IsBuilder t) h.fit.typed.4.3 h.builder;
-  has = subst (HasThing s) h.fit.typed.4.3 h.has;
-}
-
-puts_merge : (a : At) (e f : ExprTree) (env : Env) (s t : Thing) → ActFits (two a merge e f) env s → act e env s ≡ done t → PutFits f env t
-unfolding part_acts
-puts_merge a e f env s t h q =
-    let p = part_of_merge h.fit.typed.0 h.fit.typed.1 h.fit.answer t h.fit.typed.4 (act_gives e env s t (part_acts a e f env s h) q) in record {
-      part = p.0;
-      is_part = p.1;
-      puts = λ y r. puts_thing t y (merge_takes a merge e f env (two a merge e f) s t y refl h q r);
-    }
-
-item_puts_of : (a : At) (o : Two) (e f : ExprTree) (env : Env) (s t : Thing) → ActFits (two a o e f) env s → act e env s ≡ done t → PutFits f env t
-item_puts_of a (binary op) e f env s t h q = absurd h.acts.0
-item_puts_of a and e f env s t h q = absurd h.acts.0
-item_puts_of a or e f env s t h q = absurd h.acts.0
-item_puts_of a look_up e f env s t h q = absurd h.acts.0
-item_puts_of a key_exists e f env s t h q = absurd h.acts.0
-item_puts_of a merge e f env s t h q = puts_merge a e f env s t h q
-
-pub item_puts : (a : At) (o : Two) (e f : ExprTree) (env : Env) (n : ExprTree) (s t : Thing) → n ≡ two a o e f → ActFits n env s → act e env s ≡ done t → PutFits f env t
-item_puts a o e f env n s t is h q = item_puts_of a o e f env s t (subst (λ m. ActFits m env s) is h) q
-
 pub merge_by_item : {T : Type 0} (r : Result T Stop) (a : At) (o : Two) (e f : ExprTree) (env : Env) (n : ExprTree) (s t u : Thing) → n ≡ two a o e f → act e env s ≡ done t → Acts r (merged t (eval f env)) u → Acts r (act n env s) u
 merge_by_item r a o e f env n s t u is q h =
     subst (λ (x : Outcome Thing). Acts r x u) (sym (ap (λ m. act m env s) is ∙ ap (λ x. and_then x (λ w. merged w (eval f env))) q)) h
 
 -- ---- an item
 
-pub put_is : {T : Type 0} (r : Result T Stop) (e : ExprTree) (env : Env) (s t y : Thing) → eval e env ≡ done y → Acts r (merged s (done y)) t → Acts r (merged s (eval e env)) t
-put_is r e env s t y q h = subst (λ (o : Outcome Thing). Acts r (merged s o) t) (sym q) h
-
-merged_fault : (p : Part) → merged (building p) fault ≡ fault
-merged_fault p = refl
-
-put_fault : (e : ExprTree) (env : Env) (s : Thing) → PutFits e env s → eval e env ≡ fault → merged s (eval e env) ≡ fault
-put_fault e env s h q = ap (merged s) q ∙ ap (λ x. merged x fault) h.is_part
-
 pub put_stops : (U : Type 0) (stop : Stop) (e : ExprTree) (env : Env) (s t : Thing) → PutFits e env s → TriesNumber (Err stop) (eval e env) → Acts {T = U} (Err stop) (merged s (eval e env)) t
 put_stops U Fault e env s t h q = put_fault e env s h q
 put_stops U Memory e env s t h q = tt
-
-pub put_number_item : (e : ExprTree) (env : Env) (s : Thing) (v : Value) → PutFits e env s → eval e env ≡ done (plain v) → IsPut s v
-put_number_item e env s v h q = h.puts (plain v) q
-
-puts_plain : (s y : Thing) → PutsThing s y → IsPlain y
-puts_plain s (plain v) h = tt
-puts_plain s (building p) h = absurd h
-puts_plain s (several ts) h = absurd h
-
-pub put_thing : (e : ExprTree) (env : Env) (s y : Thing) → PutFits e env s → eval e env ≡ done y → PutsThing s y
-put_thing e env s y h q = h.puts y q
-
-pub put_plain : (e : ExprTree) (env : Env) (s y : Thing) → PutFits e env s → eval e env ≡ done y → IsPlain y
-put_plain e env s y h q = puts_plain s y (h.puts y q)
-
-pub put_of_plain : (s y : Thing) (v : Value) → PutsThing s y → y ≡ plain v → IsPut s v
-put_of_plain s y v h same = subst (PutsThing s) same h
 
 -- ---- an `if`
 
@@ -165,41 +92,12 @@ acts_let r a b e f env n s t x is q h = subst (λ (o : Outcome Thing). Acts r o 
 
 -- ---- a pair that is written
 
-two_parts : (es : List ExprTree) → AreTwo (pack_exprs es) → (k : ExprTree) × (v : ExprTree) × (es ≡ k ∷ v ∷ [])
-two_parts [] h = absurd h
-two_parts (e ∷ []) h = absurd h
-two_parts (e ∷ f ∷ []) h = (e, f, refl)
-two_parts (e ∷ f ∷ g ∷ es) h = absurd h
-
-written : (a : At) (o : Many) (es : List ExprTree) (n : ExprTree) → n ≡ many a o (pack_exprs es) → IsWrittenPair n → IsStructForm o × AreTwo (pack_exprs es)
-written a o es n is h = subst (λ m. IsWrittenPair m) is h
-
-pub written_length : (a : At) (o : Many) (es : List ExprTree) (n : ExprTree) → n ≡ many a o (pack_exprs es) → IsWrittenPair n → length es ≡ 2
-written_length a o es n is h = let t = two_parts es (written a o es n is h).1 in ap (λ (l : List ExprTree). length l) t.2
-
 pair_runs : (a : At) (o : Many) (k v : ExprTree) (env : Env) → Runs (many a o (more_exprs k (more_exprs v no_exprs))) env → Runs k env × Runs v env
 pair_runs a o k v env h =
     let fit = fit_many a o (more_exprs k (more_exprs v no_exprs)) env h.fit in (
       record { fit = fit_first_of_all k (more_exprs v no_exprs) env fit; direct = h.direct.0 },
       record { fit = fit_first_of_all v no_exprs env (fit_rest_of_all k (more_exprs v no_exprs) env fit); direct = h.direct.1.0 },
     )
-
-pair_value : (a : At) (k v : ExprTree) (env : Env) (x y : Value) → eval k env ≡ done (plain x) → eval v env ≡ done (plain y) → eval (many a make_struct (more_exprs k (more_exprs v no_exprs))) env ≡ done (plain (pair x y))
-pair_value a k v env x y p q =
-    ap (λ o. and_then (and_then o (λ t. map_out (more_things t) (and_then (eval v env) (λ u. map_out (more_things u) (done no_things))))) (many_thing make_struct)) p
-    ∙ ap (λ o. and_then (map_out (more_things (plain x)) (and_then o (λ u. map_out (more_things u) (done no_things)))) (many_thing make_struct)) q
-
-as_pair : (a : At) (o : Many) (es : List ExprTree) (n : ExprTree) → n ≡ many a o (pack_exprs es) → IsWrittenPair n → (k : ExprTree) × (v : ExprTree) × (es ≡ k ∷ v ∷ []) × (n ≡ many a make_struct (more_exprs k (more_exprs v no_exprs)))
-as_pair a make_vec es n is h = absurd (written a make_vec es n is h).0
-as_pair a make_struct es n is h =
-    let t = two_parts es (written a make_struct es n is h).1 in
-    (t.0, t.1, t.2, is ∙ ap (λ (l : List ExprTree). many a make_struct (pack_exprs l)) t.2)
-
-key_is : (es : List ExprTree) (k v e : ExprTree) → es ≡ k ∷ v ∷ [] → e ≡ get_or es 0 e → e ≡ k
-key_is es k v e same at = at ∙ ap (λ (l : List ExprTree). get_or l 0 e) same
-
-item_is : (es : List ExprTree) (k v e : ExprTree) → es ≡ k ∷ v ∷ [] → e ≡ get_or es 1 e → e ≡ v
-item_is es k v e same at = at ∙ ap (λ (l : List ExprTree). get_or l 1 e) same
 
 pub pair_key_runs : (a : At) (o : Many) (es : List ExprTree) (env : Env) (n e : ExprTree) → n ≡ many a o (pack_exprs es) → IsWrittenPair n → Runs n env → e ≡ get_or es 0 e → Runs e env
 pair_key_runs a o es env n e is form h at =
@@ -210,13 +108,6 @@ pub pair_item_runs : (a : At) (o : Many) (es : List ExprTree) (env : Env) (n e :
 pair_item_runs a o es env n e is form h at =
     let p = as_pair a o es n is form in
     subst (λ m. Runs m env) (sym (item_is es p.0 p.1 e p.2 at)) (pair_runs a make_struct p.0 p.1 env (subst (λ m. Runs m env) p.3 h)).1
-
-pub pair_is : (a : At) (o : Many) (es : List ExprTree) (env : Env) (n e f : ExprTree) (x y : Value) → n ≡ many a o (pack_exprs es) → IsWrittenPair n → e ≡ get_or es 0 e → f ≡ get_or es 1 f
-    → eval e env ≡ done (plain x) → eval f env ≡ done (plain y) → eval n env ≡ done (plain (pair x y))
-pair_is a o es env n e f x y is form at also q r =
-    let p = as_pair a o es n is form in
-    ap (λ m. eval m env) p.3
-    ∙ pair_value a p.0 p.1 env x y (ap (λ m. eval m env) (sym (key_is es p.0 p.1 e p.2 at)) ∙ q) (ap (λ m. eval m env) (sym (item_is es p.0 p.1 f p.2 also)) ∙ r)
 
 key_fault : (a : At) (k v : ExprTree) (env : Env) → eval k env ≡ fault → eval (many a make_struct (more_exprs k (more_exprs v no_exprs))) env ≡ fault
 key_fault a k v env q = ap (λ o. and_then (and_then o (λ t. map_out (more_things t) (and_then (eval v env) (λ u. map_out (more_things u) (done no_things))))) (many_thing make_struct)) q

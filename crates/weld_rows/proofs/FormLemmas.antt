@@ -3,16 +3,13 @@ use Rattle.std.proofs.Common.{◌≡◌, ap}
 use Rattle.weld_data.specs.Value.{Value}
 use Rattle.weld_data.specs.declared.kind.Kind.{Kind}
 use Rattle.weld_data.specs.Kind.{IsInteger}
-use Rattle.weld_tree.specs.ExprTree.{One, neg, not as not_of, cast}
+use Rattle.weld_tree.specs.ExprTree.{neg, not as not_of, cast}
 use Rattle.weld_builders.specs.Outcome.{done, map_out, Outcome}
-use Rattle.weld_meaning.specs.Evaluation.{negated, contrary, cast_to, one_thing}
 use Rattle.weld_meaning.specs.Thing.{plain}
 use Rattle.weld_eval_values.specs.Fits.{IsIntegerNumber, IsTruth}
 use Rattle.weld_eval.specs.Takes.{OneTakes}
 use Rattle.weld_eval_forms.proofs.Shapes.{neg_number, not_truth as is_truth, cast_kind}
-use Rattle.std.proofs.Common.{List, [], ◌∷◌, length, refl, sym, ◌∙◌, subst, arith}
-use Rattle.weld_tree.specs.ExprTree.{ExprTree, At, many, make_struct, pack_exprs}
-use Rattle.weld_rows.specs.Puts.{AreTwo, IsWrittenPair}
+use Rattle.std.proofs.Common.{List, refl, sym, ◌∙◌}
 use Rattle.weld_data.specs.Value.{list, values, list_of_values-values}
 use Rattle.weld_meaning.specs.Thing.{Thing}
 use Rattle.weld_eval_forms.specs.Legs.{elements_of_thing}
@@ -31,12 +28,3 @@ on_plain o w q = ap (map_out plain) q
 
 pub elements_are : (x : Thing) (vs : List Value) → x ≡ plain (list (values vs)) → vs ≡ elements_of_thing x
 elements_are x vs e = sym (ap elements_of_thing e ∙ list_of_values-values vs)
-
-two_of : (es : List ExprTree) → length es ≡ 2 → AreTwo (pack_exprs es)
-two_of [] h = absurd (omega arith)
-two_of (e ∷ []) h = absurd (omega arith)
-two_of (e ∷ f ∷ []) h = tt
-two_of (e ∷ f ∷ g ∷ es) h = absurd (omega arith)
-
-pub is_written : (a : At) (es : List ExprTree) (n : ExprTree) → n ≡ many a make_struct (pack_exprs es) → length es ≡ 2 → IsWrittenPair n
-is_written a es n is h = subst (λ m. IsWrittenPair m) (sym is) (tt, two_of es h)

@@ -1,36 +1,32 @@
 -- What is known of a node that is a number is known of its parts.
-use Rattle.std.proofs.Common.{◌≡◌, ◌∷◌, ℕ, Bool, true, false, Result, Ok, Err, Option, Some, None, if◌then◌else◌, refl, sym, ap, ◌∙◌, subst}
+use Rattle.std.proofs.Common.{◌≡◌, ◌∷◌, Bool, true, false, Result, Ok, Err, if◌then◌else◌, refl, sym, ap, ◌∙◌, subst}
 use Rattle.weld_data.specs.declared.stop.Stop.{Stop}
 use Rattle.weld_data.specs.declared.stop.Stop.TheVariants.{Fault, Memory}
 use Rattle.weld_data.specs.declared.kind.Kind.{Kind}
 use Rattle.weld_data.specs.declared.kind.Kind.TheVariants as kinds
 use Rattle.weld_data.specs.declared.op.BinOp.{BinOp}
-use Rattle.weld_data.specs.Order.{IsNumber}
 use Rattle.weld_data.specs.Value.{Value, number, list, struct, dict}
-use Rattle.weld_tree.specs.declared.binder.Binder.{Binder}
 use Rattle.weld_tree.specs.declared.expr.TwoForm.{TwoForm}
 use Rattle.weld_tree.specs.ExprView.{view_two}
 use Rattle.weld_tree.specs.TypeTree.{TypeTree, scalar, vec, struct as tuple, dict as mapping, build}
-use Rattle.weld_tree.specs.ExprTree.{ExprTree, At, leaf, one, two, three, many, let_in, loop, iterate, Leaf, int, truth, chars, name, fresh, One, neg, not as not_of, cast, len, field, finish, started, Two, binary, and, or, look_up, key_exists, merge, Three, if_else, select, slice}
-use Rattle.weld_fits.specs.HasValue.{HasValue}
-use Rattle.weld_builders.specs.Outcome.{Outcome, done, fault, and_then, map_out}
-use Rattle.weld_meaning.specs.Environment.{look_for}
+use Rattle.weld_tree.specs.ExprTree.{ExprTree, At, leaf, one, two, three, many, let_in, loop, iterate, int, truth, chars, name, fresh, One, neg, not as not_of, cast, len, field, finish, started, Two, binary, and, or, look_up, key_exists, merge, Three, if_else, select, slice}
+use Rattle.weld_builders.specs.Outcome.{Outcome, done, and_then, map_out}
 use Rattle.weld_meaning.specs.Thing.{Thing, plain, building, several}
 use Rattle.weld_meaning.specs.ThingType.{HasThing}
-use Rattle.weld_meaning.specs.Typing.{Types, HasType, TwoHas, ThreeHas, truth_type}
+use Rattle.weld_meaning.specs.Typing.{Types, HasType, truth_type}
 use Rattle.weld_meaning.specs.Evaluation.{Env, eval, operated, one_thing, two_thing, three_thing, truth_of, truth_value, chosen}
 use Rattle.weld_eval_values.specs.Answers.{Answers}
 use Rattle.weld_eval_values.specs.Fits.{AreOperands, IsTruth}
 use Rattle.weld_eval.specs.Fit.{IsFit}
 use Rattle.weld_eval.specs.ShortView.{view_short}
 use Rattle.weld_eval.specs.declared.short.Short.{Short}
-use Rattle.weld_eval.specs.Takes.{IsScalar, OneTakes, TwoTakes, IsPlain}
-use Rattle.weld_eval.proofs.Children.{gives, fit_first_of_two, fit_second_of_two, fit_first_of_three, fit_second_of_three, fit_third_of_three, fit_one}
+use Rattle.weld_eval.specs.Takes.{IsScalar, OneTakes}
+use Rattle.weld_eval.proofs.Children.{gives}
 use Rattle.weld_eval_forms.proofs.TwoShapes.{operands}
-use Rattle.weld_eval_plain.specs.Nodes.{IsEither, IsEitherForm, IsIf, IsOne, decided}
+use Rattle.weld_eval_plain.specs.Nodes.{IsEither, IsIf, decided}
 use Rattle.weld_eval_plain.proofs.Nodes.{both_take, part_takes, second_decides, first_decides, first_of_either_is_truth, condition_is_truth}
 use Rattle.weld_acts.specs.Act.{AreDirect}
-use Rattle.weld_rows.specs.Numbers.{number_thing, ReadsNumber, numeric, numeric_leaf, numeric_one, numeric_two, IsBinaryForm, IsBinary, IsNumberForm, IsOnNumber, IsNumberThing}
+use Rattle.weld_rows.specs.Numbers.{number_thing, numeric, IsBinaryForm, IsBinary, IsNumberForm, IsOnNumber, IsNumberThing}
 use Rattle.weld_rows.specs.Runs.{Runs, RunsNumber}
 
 scalar_is : (t : TypeTree) (k : Kind) → t ≡ scalar k → IsScalar t

@@ -4,12 +4,12 @@ use Rattle.weld_data.specs.declared.stop.Stop.{Stop}
 use Rattle.weld_data.specs.declared.stop.Stop.TheVariants.{Fault, Memory}
 use Rattle.weld_data.specs.Value.{Value, values}
 use Rattle.weld_tree.specs.declared.binder.Binder.{Binder}
-use Rattle.weld_tree.specs.ExprTree.{ExprTree, At, LegTrees, leaf, one, two, three, many, let_in, loop, iterate}
+use Rattle.weld_tree.specs.ExprTree.{ExprTree, loop}
 use Rattle.weld_fits.specs.HasValue.{HasValue, AllAre}
-use Rattle.weld_builders.specs.Outcome.{Outcome, done, fault, and_then}
+use Rattle.weld_builders.specs.Outcome.{done, fault, and_then}
 use Rattle.weld_meaning.specs.Thing.{Thing, plain, bare_thing}
 use Rattle.weld_meaning.specs.ThingType.{HasThing}
-use Rattle.weld_meaning.specs.Evaluation.{Env, Row, rows_of, whole_number}
+use Rattle.weld_meaning.specs.Evaluation.{Env, rows_of, whole_number}
 use Rattle.weld_eval.specs.Fit.{IsFit}
 use Rattle.weld_eval.specs.RowLists.{rows_in, row_in, or_none}
 use Rattle.weld_eval.proofs.LoopSteps.{row_gives}
@@ -21,6 +21,11 @@ use Rattle.weld_eval.specs.LegsView.{lists_of}
 use Rattle.weld_acts.specs.Act.{Acts, AreDirect, act}
 use Rattle.weld_acts.specs.Ranges.{Evaluation, HoldsRange, RangeAnswer, range_over}
 use Rattle.weld_eval_plain.specs.Nodes.{IsLoop}
+use Rattle.weld_acts.specs.ActFits.{ActFits}
+use Rattle.weld_acts.proofs.RangeLaw.{range_splits, range_has}
+use Rattle.weld_blocks.specs.Block.{IsBlock}
+use Rattle.weld_blocks.specs.Deeds.{do_of, DeedFits}
+use Rattle.weld_blocks.specs.declared.deed.Deed.{Deed}
 use Rattle.weld_acts.proofs.RowActs.{OwnHas, row_acts, row_fits, bare_of_loop}
 use Rattle.weld_rows.specs.RangeOn.{RangeOn}
 use Rattle.weld_rows.specs.RowActs.{row_act, RowActFits}
@@ -178,3 +183,79 @@ pub plain_stops : (T U : Type 0) (stop : Stop) (ev : Evaluation) (from to : ℕ)
     → RowAnswer {T = T} (Err stop) ev.node ev.names (i, v) s t → RangeAnswer {T = U} (Err stop) ev from to start u
 plain_stops T U Fault ev from to start own i s t u v h less e r = range_fault ev.node ev.names ev.lists from to start own i s h less (ap (λ w. row_step ev.node ev.names (i, w) s) (sym e) ∙ r)
 plain_stops T U Memory ev from to start own i s t u v h less e r = tt
+
+-- ---- a part of a range
+
+range_rows : (n : ExprTree) (env : Env) (lists : List (List Value)) (rows : List Value) (from to : ℕ) (s : Thing) → rows_of lists ≡ done rows → range_over n env lists from to s ≡ rows_from n env from (take (to - from) (drop from rows)) s
+range_rows n env lists rows from to s are = ap (λ o. and_then o (λ rs. rows_from n env from (take (to - from) (drop from rs)) s)) are
+
+pub is_ordered : (n : ExprTree) (env : Env) (lists : List (List Value)) (from to : ℕ) (start own : Thing) (i : ℕ) (s : Thing) → RangeOn n env lists from to start own i s → i ≤ to
+is_ordered n env lists from to start own i s h = h.reached
+
+pub range_part : (n : ExprTree) (env : Env) (lists : List (List Value)) (from to : ℕ) (start own : Thing) (i j : ℕ) (s : Thing) → RangeOn n env lists from to start own i s → i ≤ j → j ≤ to → RangeOn n env lists i j s own i s
+range_part n env lists from to start own i j s h low high = record {
+  fit = h.fit;
+  has = h.has;
+  owns = h.owns;
+  rows = h.rows;
+  are = h.are;
+  rows_have = h.rows_have;
+  reached = low;
+  within = omega (arith, h.within);
+  same = range_rows n env lists h.rows i j s h.are;
+}
+
+part_splits : (n : ExprTree) (env : Env) (lists : List (List Value)) (from to : ℕ) (start own : Thing) (i j : ℕ) (s : Thing) → RangeOn n env lists from to start own i s → i ≤ j → j ≤ to
+    → range_over n env lists from to start ≡ and_then (range_over n env lists i j s) (λ t. range_over n env lists j to t)
+part_splits n env lists from to start own i j s h low high =
+    h.same ∙ sym (range_rows n env lists h.rows i to s h.are) ∙ range_splits n env lists h.rows i j to s h.are low high h.within
+
+pub range_part_next : (n : ExprTree) (env : Env) (lists : List (List Value)) (from to : ℕ) (start own : Thing) (i j : ℕ) (s t : Thing) → RangeOn n env lists from to start own i s → i ≤ j → j ≤ to
+    → range_over n env lists i j s ≡ done t → RangeOn n env lists from to start own j t
+range_part_next n env lists from to start own i j s t h low high q = record {
+  fit = h.fit;
+  has = range_has n env lists h.fit h.rows i j s t (record { are = h.are; rows_have = h.rows_have }) h.has q;
+  owns = h.owns;
+  rows = h.rows;
+  are = h.are;
+  rows_have = h.rows_have;
+  reached = high;
+  within = h.within;
+  same = part_splits n env lists from to start own i j s h low high ∙ ap (λ o. and_then o (λ u. range_over n env lists j to u)) q ∙ range_rows n env lists h.rows j to t h.are;
+}
+
+pub range_part_stops : (T U : Type 0) (stop : Stop) (n : ExprTree) (env : Env) (lists : List (List Value)) (from to : ℕ) (start own : Thing) (i j : ℕ) (s t u : Thing) → RangeOn n env lists from to start own i s → i ≤ j → j ≤ to
+    → Acts {T = T} (Err stop) (range_over n env lists i j s) t → Acts {T = U} (Err stop) (range_over n env lists from to start) u
+range_part_stops T U Fault n env lists from to start own i j s t u h low high q = part_splits n env lists from to start own i j s h low high ∙ ap (λ o. and_then o (λ v. range_over n env lists j to v)) q
+range_part_stops T U Memory n env lists from to start own i j s t u h low high q = tt
+
+-- ---- a block
+
+abbrev row_names_of : Binder → Binder → Binder → Env → Thing → List (List Value) → ℕ → Env
+row_names_of b n x env own lists i = (x.sym.0, plain (row_in lists i)) ∷ (n.sym.0, plain (whole_number i)) ∷ (b.sym.0, own) ∷ env
+
+in_block : (m : ExprTree) (env : Env) (own : Thing) (lists : List (List Value)) (from i count : ℕ) (d : Deed) (s : Thing) → IsBlock m env own lists from d count → from ≤ i → i - from < count → RowActFits m env own (i, row_in lists i) s
+    → DeedFits d (i - from) s × (row_act m env own (i, row_in lists i) s ≡ do_of d (i - from) s)
+in_block (loop a ls e b n x f) env own lists from i count d s h low less fits =
+    let same : from + (i - from) ≡ i = omega arith in
+    let here : ActFits f (row_names_of b n x env own lists (from + (i - from))) s = subst (λ k. ActFits f (row_names_of b n x env own lists k) s) (sym same) fits in (
+      h.fits (i - from) less s here,
+      ap (λ k. act f (row_names_of b n x env own lists k) s) (sym same) ∙ h.does (i - from) less s here,
+    )
+in_block _ env own lists from i count d s h low less fits = absurd h
+
+pub block_fits : (m : ExprTree) (env : Env) (lists : List (List Value)) (from to : ℕ) (start own : Thing) (i : ℕ) (s : Thing) (d : Deed) → AreDirect m → IsBlock m env own lists from d (to - from) → from ≤ i → i < to → RangeOn m env lists from to start own i s → DeedFits d (i - from) s
+block_fits m env lists from to start own i s d direct h low less on = (in_block m env own lists from i (to - from) d s h low (omega arith) (range_row_acts m env lists from to start own i s direct on less)).0
+
+block_is : (m : ExprTree) (env : Env) (lists : List (List Value)) (from to : ℕ) (start own : Thing) (i : ℕ) (s : Thing) (d : Deed) → AreDirect m → IsBlock m env own lists from d (to - from) → from ≤ i → i < to → RangeOn m env lists from to start own i s
+    → row_act m env own (i, row_in lists i) s ≡ do_of d (i - from) s
+block_is m env lists from to start own i s d direct h low less on = (in_block m env own lists from i (to - from) d s h low (omega arith) (range_row_acts m env lists from to start own i s direct on less)).1
+
+pub block_next : (m : ExprTree) (env : Env) (lists : List (List Value)) (from to : ℕ) (start own : Thing) (i : ℕ) (s t : Thing) (d : Deed) → AreDirect m → IsBlock m env own lists from d (to - from) → from ≤ i → i < to → RangeOn m env lists from to start own i s
+    → do_of d (i - from) s ≡ done t → RangeOn m env lists from to start own (i + 1) t
+block_next m env lists from to start own i s t d direct h low less on q = range_act_next m env lists from to start own i s t direct on less (block_is m env lists from to start own i s d direct h low less on ∙ q)
+
+pub block_stops : (T U : Type 0) (stop : Stop) (m : ExprTree) (env : Env) (lists : List (List Value)) (from to : ℕ) (start own : Thing) (i : ℕ) (s t u : Thing) (d : Deed) → AreDirect m → IsBlock m env own lists from d (to - from) → from ≤ i → i < to → RangeOn m env lists from to start own i s
+    → Acts {T = T} (Err stop) (do_of d (i - from) s) t → Acts {T = U} (Err stop) (range_over m env lists from to start) u
+block_stops T U Fault m env lists from to start own i s t u d direct h low less on q = range_fault m env lists from to start own i s on less ((on_loop m env lists from to start own i s direct on less).1 ∙ block_is m env lists from to start own i s d direct h low less on ∙ q)
+block_stops T U Memory m env lists from to start own i s t u d direct h low less on q = tt

@@ -1,8 +1,8 @@
 -- Names and fields of names that are read.
-use Rattle.std.proofs.Common.{◌≡◌, ℕ, Option, Some, None, refl, sym, ap, ◌∙◌, subst}
+use Rattle.std.proofs.Common.{◌≡◌, ℕ, Option, Some, sym, ap, ◌∙◌, subst}
 use Rattle.std.specs.Prelude.{IsSome}
 use Rattle.weld_tree.specs.ExprTree.{ExprTree, At, leaf, one, name, One, field}
-use Rattle.weld_builders.specs.Outcome.{Outcome, done, and_then}
+use Rattle.weld_builders.specs.Outcome.{done, and_then}
 use Rattle.weld_meaning.specs.Environment.{look_for}
 use Rattle.weld_meaning.specs.Thing.{Thing}
 use Rattle.weld_meaning.specs.Evaluation.{Env, eval, one_thing, found}

@@ -1,32 +1,28 @@
 -- What is known of a node that is run is known of its parts.
-use Rattle.std.proofs.Common.{◌≡◌, ◌∷◌, ℕ, zero, suc, ◌+◌, ◌*◌, ◌-◌, ◌<◌, ◌≤◌, Bool, true, false, List, [], length, map, drop, take, get_or, Some, Result, Ok, Err, refl, sym, ap, ◌∙◌, subst, arith}
+use Rattle.std.proofs.Common.{◌≡◌, ◌∷◌, ℕ, zero, suc, ◌+◌, ◌*◌, ◌-◌, ◌<◌, ◌≤◌, List, [], length, drop, take, get_or, Result, Ok, refl, sym, ap, ◌∙◌, subst, arith}
 use Rattle.weld_data.specs.Value.{Value}
 use Rattle.weld_tree.specs.declared.binder.Binder.{Binder}
 use Rattle.weld_tree.specs.ExprFalls.{expr_nodes, leg_nodes, legs_nodes}
-use Rattle.weld_tree.specs.ExprTree.{ExprTree, At, leaf, one, two, three, many, let_in, loop, iterate, One, Two, Three, if_else, select, slice, LegTree, whole, strided, LegTrees, no_legs, more_legs}
+use Rattle.weld_tree.specs.ExprTree.{ExprTree, At, leaf, one, two, three, many, let_in, loop, iterate, One, Three, LegTree, whole, strided, LegTrees, no_legs, more_legs}
 use Rattle.weld_builders.specs.Outcome.{Outcome, done, fault, stuck, and_then, map_out}
-use Rattle.weld_meaning.specs.Thing.{Thing, plain}
+use Rattle.weld_meaning.specs.Thing.{Thing}
 use Rattle.weld_meaning.specs.Evaluation.{Env, eval, eval_leg, eval_legs, rows_of, run, number_from}
 use Rattle.weld_eval.specs.Fit.{IsFit, LegsAreFit}
-use Rattle.weld_eval.specs.RowLists.{rows_in}
 use Rattle.weld_eval.specs.Takes.{OneTakes, row_of}
-use Rattle.weld_eval.proofs.Children.{fit_builder}
 use Rattle.weld_data.specs.declared.stop.Stop.{Stop}
 use Rattle.weld_eval_values.specs.Answers.{Answers}
 use Rattle.weld_eval_forms.specs.Legs.{leg_lists, elements_in, RowsAnswer}
 use Rattle.weld_eval_forms.specs.Legs.{rows_in as forms_rows}
 use Rattle.weld_eval.specs.declared.thing.Held.{Held}
-use Rattle.weld_eval_plain.specs.Nodes.{IsIf, IsLoop}
-use Rattle.weld_eval_plain.specs.Rows.{LegsAre, HoldsRows, rows_from, row_step}
+use Rattle.weld_eval_plain.specs.Rows.{LegsAre, rows_from}
 use Rattle.weld_eval_plain.proofs.Nodes.{part_fits, part_takes, then_fits, otherwise_fits, let_value_fits, let_body_fits}
 use Rattle.weld_eval_plain.proofs.Rows.{loop_legs_fit, loop_builder_fits, legs_there, rows_start}
-use Rattle.weld_acts.specs.Act.{AreDirect}
 use Rattle.weld_acts.specs.ActFits.{ActFits}
 use Rattle.weld_acts.specs.Ranges.{HoldsRange, range_over}
 use Rattle.weld_acts.proofs.Direct.{direct_part, direct_then, direct_otherwise, direct_value, direct_let_body, direct_builder}
 use Rattle.weld_acts.proofs.Children.{all_rows}
 use Rattle.weld_rows.specs.RowActs.{count_legs, legs_count, body_nodes}
-use Rattle.weld_rows.specs.Runs.{Runs, RunsNumber}
+use Rattle.weld_rows.specs.Runs.{Runs}
 use Rattle.std.proofs.lemmas.List.{length-map}
 
 pub part_runs : (a : At) (o : One) (e : ExprTree) (env : Env) (n : ExprTree) → n ≡ one a o e → Runs n env → Runs e env

@@ -8,7 +8,7 @@ use Rattle.weld_data.specs.Kind.{InRange}
 use Rattle.weld_data.specs.Value.{number}
 use Rattle.weld_built.specs.Pair.{pair}
 use Rattle.weld_builders.specs.Outcome.{Outcome, done, fault}
-use Rattle.weld_tree.specs.ExprTree.{ExprTree, leaf, one, two, three, many, let_in, loop, iterate, Leaf, int, truth, chars, name, fresh, One, neg, not as not_of, cast, len, field, finish, started, Two, binary, and, or, look_up, key_exists, merge, Three, if_else, select, slice}
+use Rattle.weld_tree.specs.ExprTree.{ExprTree, leaf, one, two, three, many, let_in, loop, iterate, Leaf, int, truth, chars, name, fresh, One, neg, not as not_of, cast, len, field, finish, started, Two, binary, and, or, look_up, key_exists, merge, if_else, select, slice}
 use Rattle.weld_data.specs.Order.{IsNumber}
 use Rattle.weld_meaning.specs.Thing.{Thing, plain, building, several}
 use Rattle.weld_eval.specs.ShortView.{view_short}

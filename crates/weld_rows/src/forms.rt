@@ -14,12 +14,12 @@ ghost use Rattle.weld_data.specs.View.{view_column};
 ghost use Rattle.weld_eval_forms.specs.Legs.{elements_in, IsVector};
 ghost use Rattle.weld_eval_plain.specs.Nodes.{decided};
 ghost use Rattle.weld_eval_values.specs.Answers.{Answers};
-ghost use Rattle.weld_rows.specs.Puts.{IsWrittenPair};
+ghost use Rattle.weld_blocks.specs.Puts.{IsWrittenPair};
 ghost use Rattle.weld_tree.specs.ExprTree.{binary};
 ghost use Rattle.weld_rows.specs.Numbers.{IsBinaryForm, number_thing, numeric, numeric_leaf, numeric_one, numeric_two, IsOnNumber, IsNumberThing};
 
-use crate::scalar::{cast, contrary, negated};
 use std::alloc::Global;
+use weld_blocks::scalar::{cast, contrary, negated};
 use weld_data::{BinOp, Column, Stop, Val};
 use weld_eval::frame::Frame;
 use weld_eval::legs::Legs;
@@ -134,7 +134,7 @@ pub(crate) fn column_of<'a>(x: &'a Held<'a>) -> &'a Column
 }
 
 /// Whether an expression is a struct of two parts that is written out.
-#[tactic(auto, using(crate::proofs::FormLemmas::is_written))]
+#[tactic(auto, using(weld_blocks::proofs::Merges::is_written))]
 pub(crate) fn is_pair(e: &Expr) -> bool
     ensures { result ≡ true → IsWrittenPair e.now }
 {

@@ -2,12 +2,11 @@
 //! number and without a builder for each row.
 #![tactic(auto)]
 
+mod blocks;
 mod forms;
 mod program;
-mod puts;
 mod range;
 mod reads;
-pub mod scalar;
 mod walk;
 
 pub use program::eval_program;

@@ -17,18 +17,21 @@ ghost use Rattle.weld_eval_plain.specs.Rows.{LegsAre};
 ghost use Rattle.weld_eval_values.specs.Answers.{Answers};
 ghost use Rattle.weld_tree.specs.ExprTree.{pack_exprs};
 ghost use Rattle.weld_rows.specs.Numbers.{number_thing, AnswersKind, TriesNumber, IsBinary, IsNumberForm};
-ghost use Rattle.weld_rows.specs.Puts.{PutFits, IsWrittenPair, IsTwo, IsTriple};
+ghost use Rattle.weld_blocks.specs.Puts.{PutFits, IsWrittenPair, IsTwo, IsTriple};
+ghost use Rattle.weld_rows.specs.RangeOn.{RangeOn};
 ghost use Rattle.weld_rows.specs.RowActs.{RowActFits, row_act, ActAll, legs_count};
 ghost use Rattle.weld_rows.specs.Runs.{Runs, RunsNumber};
 
+use crate::blocks::do_block;
 use crate::forms::{
     column_of, decides, discard, is_numeric, is_pair, let_go, link, made, no_legs, number_in,
     one_number, operator_of, with_builder, with_number, with_row,
 };
-use crate::puts::{put_held, put_number, put_pair};
 use crate::reads::{leaf_number, leaf_pair};
-use crate::scalar::{operated, truth_of, whole_number};
 use std::alloc::Global;
+use weld_blocks::block_of;
+use weld_blocks::puts::{put_held, put_number, put_pair};
+use weld_blocks::scalar::{operated, truth_of, whole_number};
 use weld_data::{Kind, Stop};
 use weld_eval::forms::{leaf, number as number_held};
 use weld_eval::frame::{Frame, bind};
@@ -424,10 +427,16 @@ fn reach(
     }
 }
 
-/// The rows of a loop from a number up to, not including, another, in place. The builder's own name
-/// stands for one that has nothing merged, which is never looked at.
+/// How many rows a block has at most: what is worked out for it stays in the nearest memory of the processor.
+const BLOCK: usize = 1024;
+
+/// A loop of fewer rows is walked row by row: a block of them isn't worth what it takes.
+const FEW: usize = 8;
+
+/// The rows of a loop from a number up to, not including, another, in place, block by block where its body allows that. The
+/// builder's own name stands for one that has nothing merged, which is never looked at.
 #[cycle(rows)]
-#[tactic(auto, using(crate::proofs::RangeSteps::range_start, crate::proofs::RangeSteps::range_there, crate::proofs::RangeSteps::range_row_acts, crate::proofs::RangeSteps::range_act_next, crate::proofs::RangeSteps::range_act_stops, crate::proofs::RangeSteps::range_end))]
+#[tactic(auto, using(crate::proofs::RangeSteps::range_start))]
 pub fn run_rows(
     e: &Expr,
     frame: &Frame,
@@ -446,16 +455,147 @@ pub fn run_rows(
         Ok(own) => own,
         Err(_) => return Err(Stop::Memory),
     };
+    let answer = run_blocks(e, frame, &own, legs, from, to, builder, alloc);
+    let_go(own);
+    answer
+}
+
+/// The same, where what the builder's own name stands for is at hand.
+#[cycle(rows)]
+#[tactic(auto, using(crate::proofs::RangeSteps::range_part, crate::proofs::RangeSteps::range_part_next, crate::proofs::RangeSteps::range_part_stops, crate::proofs::RangeSteps::range_end))]
+fn run_blocks(
+    e: &Expr,
+    frame: &Frame,
+    own: &Owned,
+    legs: &Legs,
+    from: usize,
+    to: usize,
+    builder: &mut Owned,
+    alloc: Global,
+) -> Result<(), Stop>
+    requires on { RangeOn e.now (env_of frame.now) (lists_of legs.now) from to (thing_of builder.old) (thing_of own.now) from (thing_of builder.old) }
+    requires direct { AreDirect e.now }
+    requires form { IsLoop e.now }
+    ensures { Acts result (range_over e.now (env_of frame.now) (lists_of legs.now) from to (thing_of builder.old)) (thing_of builder.new) }
+{
+    let mut reached = from;
+    let mut tries = to - from >= FEW;
+    'pieces: while reached < to {
+        let end = block_end(reached, to);
+        match run_block(e, &*frame, own, &*legs, reached, end, tries, builder, alloc) {
+            Ok(was_block) => tries = was_block,
+            Err(stop) => return Err(stop),
+        }
+        reached = end;
+    }
+    Ok(())
+}
+
+/// Where a block ends that begins at a row before the last one.
+fn block_end(from: usize, to: usize) -> usize
+    requires { from < to }
+    ensures more { from < result }
+    ensures within { result ≤ to }
+{
+    if to - from < BLOCK { to } else { from + BLOCK }
+}
+
+/// The rows of a block: answers whether they were worked out at once, so that it is worth to try the next.
+#[cycle(rows)]
+fn run_block(
+    e: &Expr,
+    frame: &Frame,
+    own: &Owned,
+    legs: &Legs,
+    from: usize,
+    to: usize,
+    tries: bool,
+    builder: &mut Owned,
+    alloc: Global,
+) -> Result<bool, Stop>
+    requires on { RangeOn e.now (env_of frame.now) (lists_of legs.now) from to (thing_of builder.old) (thing_of own.now) from (thing_of builder.old) }
+    requires direct { AreDirect e.now }
+    requires form { IsLoop e.now }
+    ensures { Acts result (range_over e.now (env_of frame.now) (lists_of legs.now) from to (thing_of builder.old)) (thing_of builder.new) }
+{
+    if tries {
+        try_block(e, frame, own, legs, from, to, builder, alloc)
+    } else {
+        walk_block(e, frame, own, legs, from, to, builder, alloc)
+    }
+}
+
+/// The rows of a block, worked out at once where its body allows that.
+#[cycle(rows)]
+#[tactic(auto, using(crate::proofs::RangeSteps::is_ordered))]
+fn try_block(
+    e: &Expr,
+    frame: &Frame,
+    own: &Owned,
+    legs: &Legs,
+    from: usize,
+    to: usize,
+    builder: &mut Owned,
+    alloc: Global,
+) -> Result<bool, Stop>
+    requires on { RangeOn e.now (env_of frame.now) (lists_of legs.now) from to (thing_of builder.old) (thing_of own.now) from (thing_of builder.old) }
+    requires direct { AreDirect e.now }
+    requires form { IsLoop e.now }
+    ensures { Acts result (range_over e.now (env_of frame.now) (lists_of legs.now) from to (thing_of builder.old)) (thing_of builder.new) }
+{
+    match block_of(e, &*frame, own, &*legs, from, to - from, alloc) {
+        Some(deed) => do_block(e, frame, own, legs, from, to, deed, builder),
+        None => walk_block(e, frame, own, legs, from, to, builder, alloc),
+    }
+}
+
+/// The rows of a block, walked one by one.
+#[cycle(rows)]
+fn walk_block(
+    e: &Expr,
+    frame: &Frame,
+    own: &Owned,
+    legs: &Legs,
+    from: usize,
+    to: usize,
+    builder: &mut Owned,
+    alloc: Global,
+) -> Result<bool, Stop>
+    requires on { RangeOn e.now (env_of frame.now) (lists_of legs.now) from to (thing_of builder.old) (thing_of own.now) from (thing_of builder.old) }
+    requires direct { AreDirect e.now }
+    requires form { IsLoop e.now }
+    ensures { Acts result (range_over e.now (env_of frame.now) (lists_of legs.now) from to (thing_of builder.old)) (thing_of builder.new) }
+{
+    match walk_rows(e, frame, own, legs, from, to, builder, alloc) {
+        Ok(()) => Ok(false),
+        Err(stop) => Err(stop),
+    }
+}
+
+/// Rows, walked one by one.
+#[cycle(rows)]
+#[tactic(auto, using(crate::proofs::RangeSteps::range_there, crate::proofs::RangeSteps::range_row_acts, crate::proofs::RangeSteps::range_act_next, crate::proofs::RangeSteps::range_act_stops, crate::proofs::RangeSteps::range_end))]
+fn walk_rows(
+    e: &Expr,
+    frame: &Frame,
+    own: &Owned,
+    legs: &Legs,
+    from: usize,
+    to: usize,
+    builder: &mut Owned,
+    alloc: Global,
+) -> Result<(), Stop>
+    requires on { RangeOn e.now (env_of frame.now) (lists_of legs.now) from to (thing_of builder.old) (thing_of own.now) from (thing_of builder.old) }
+    requires direct { AreDirect e.now }
+    requires form { IsLoop e.now }
+    ensures { Acts result (range_over e.now (env_of frame.now) (lists_of legs.now) from to (thing_of builder.old)) (thing_of builder.new) }
+{
     for number in from..to {
-        match run_row(e, &*frame, &own, &*legs, number, builder, alloc) {
+        match run_row(e, &*frame, own, &*legs, number, builder, alloc) {
             Ok(()) => {}
-            Err(stop) => {
-                let_go(own);
-                return Err(stop);
-            }
+            Err(stop) => return Err(stop),
         }
     }
-    let_go(own);
     Ok(())
 }
 
@@ -507,7 +647,7 @@ pub fn act(e: &Expr, frame: &Frame, builder: &mut Owned, alloc: Global) -> Resul
 
 /// A merge: what its builder does, then the item.
 #[cycle(rows)]
-#[tactic(auto, using(weld_acts::proofs::Children::merge_part_acts, weld_acts::proofs::Children::merge_part_faults, crate::proofs::ActLemmas::item_runs, crate::proofs::ActLemmas::item_puts, crate::proofs::ActLemmas::merge_by_item))]
+#[tactic(auto, using(weld_acts::proofs::Children::merge_part_acts, weld_acts::proofs::Children::merge_part_faults, crate::proofs::ActLemmas::item_runs, weld_blocks::proofs::Merges::item_puts, crate::proofs::ActLemmas::merge_by_item))]
 fn act_merge(e: &Expr, frame: &Frame, builder: &mut Owned, alloc: Global) -> Result<(), Stop>
     requires acts { ActFits e.now (env_of frame.now) (thing_of builder.old) }
     requires form { IsTwo e.now }
@@ -537,7 +677,7 @@ fn act_first(e: &Expr, frame: &Frame, builder: &mut Owned, alloc: Global) -> Res
 
 /// Merges an item: a number without a value made.
 #[cycle(rows)]
-#[tactic(auto, using(crate::proofs::ActLemmas::put_number_item, crate::proofs::ActLemmas::put_is, crate::proofs::ActLemmas::put_stops))]
+#[tactic(auto, using(weld_blocks::proofs::Merges::put_number_item, weld_blocks::proofs::Merges::put_is, crate::proofs::ActLemmas::put_stops))]
 fn put(item: &Expr, frame: &Frame, builder: &mut Owned, alloc: Global) -> Result<(), Stop>
     requires runs { Runs item.now (env_of frame.now) }
     requires fits { PutFits item.now (env_of frame.now) (thing_of builder.old) }
@@ -575,7 +715,7 @@ fn tried(e: &Expr, frame: &Frame, alloc: Global) -> Result<Option<Short>, Stop>
 
 /// Merges an item that isn't a number by its looks.
 #[cycle(rows)]
-#[tactic(auto, using(crate::proofs::ActLemmas::put_number_item, crate::proofs::ActLemmas::put_is))]
+#[tactic(auto, using(weld_blocks::proofs::Merges::put_number_item, weld_blocks::proofs::Merges::put_is))]
 fn put_other(item: &Expr, frame: &Frame, builder: &mut Owned, alloc: Global) -> Result<(), Stop>
     requires runs { Runs item.now (env_of frame.now) }
     requires fits { PutFits item.now (env_of frame.now) (thing_of builder.old) }
@@ -603,7 +743,7 @@ fn put_compound(item: &Expr, frame: &Frame, builder: &mut Owned, alloc: Global) 
 
 /// Merges the value that an item comes to.
 #[cycle(rows)]
-#[tactic(auto, using(crate::proofs::ActLemmas::put_plain, crate::proofs::ActLemmas::put_thing, crate::proofs::ActLemmas::put_is, crate::proofs::ActLemmas::put_made_stops))]
+#[tactic(auto, using(weld_blocks::proofs::Merges::put_plain, weld_blocks::proofs::Merges::put_thing, weld_blocks::proofs::Merges::put_is, crate::proofs::ActLemmas::put_made_stops))]
 fn put_made(item: &Expr, frame: &Frame, builder: &mut Owned, alloc: Global) -> Result<(), Stop>
     requires runs { Runs item.now (env_of frame.now) }
     requires fits { PutFits item.now (env_of frame.now) (thing_of builder.old) }
@@ -617,7 +757,7 @@ fn put_made(item: &Expr, frame: &Frame, builder: &mut Owned, alloc: Global) -> R
 
 /// Merges a key and its item that are written as a struct.
 #[cycle(rows)]
-#[tactic(auto, using(crate::proofs::ActLemmas::written_length, crate::proofs::ActLemmas::pair_key_runs, crate::proofs::ActLemmas::pair_item_runs, crate::proofs::ActLemmas::pair_is, crate::proofs::ActLemmas::pair_key_stops, crate::proofs::ActLemmas::pair_item_stops, crate::proofs::ActLemmas::put_number_item, crate::proofs::ActLemmas::put_is))]
+#[tactic(auto, using(weld_blocks::proofs::Merges::written_length, crate::proofs::ActLemmas::pair_key_runs, crate::proofs::ActLemmas::pair_item_runs, weld_blocks::proofs::Merges::pair_is, crate::proofs::ActLemmas::pair_key_stops, crate::proofs::ActLemmas::pair_item_stops, weld_blocks::proofs::Merges::put_number_item, weld_blocks::proofs::Merges::put_is))]
 fn put_written(item: &Expr, frame: &Frame, builder: &mut Owned, alloc: Global) -> Result<(), Stop>
     requires runs { Runs item.now (env_of frame.now) }
     requires fits { PutFits item.now (env_of frame.now) (thing_of builder.old) }

@@ -1,34 +1,34 @@
-use Rattle.std.proofs.Common.{◌≡◌, ◌∙◌, ◌∷◌, ◌+◌, ◌-◌, ◌<◌, true, List, length, drop, get_or, refl, ap, sym, subst, arith}
-use Rattle.weld_data.specs.View.{view_val, view_column}
+use Rattle.std.proofs.Common.{◌≡◌, ◌∙◌, ◌∷◌, ◌+◌, ◌-◌, ◌<◌, ◌≤◌, Bool, true, List, length, drop, get_or, refl, ap, sym, subst, arith}
+use Rattle.weld_data.specs.View.{view_column}
 use Rattle.weld_eval.specs.declared.thing.Owned.{Owned}
 use Rattle.weld_eval.specs.declared.thing.Fields.{Fields}
 use Rattle.weld_tree.specs.ExprTree.{ExprTree}
 use Rattle.weld_acts.specs.Act.{Acts, act, act_all}
 use Rattle.weld_rows.specs.RowActs.{row_act, RowActFits, body_nodes}
-use Rattle.weld_tree.specs.ExprFalls.{expr_nodes, exprs_nodes}
+use Rattle.weld_tree.specs.ExprFalls.{expr_nodes}
 use Rattle.weld_tree.specs.ExprTree.{Two, one, two, three, many, let_in, loop, pack_exprs, pack_legs}
 use Rattle.weld_tree.specs.ExprView.{view_form, view_one, view_two, view_three, view_many}
 use Rattle.weld_tree.specs.declared.expr.Form.{Form}
-use Rattle.weld_builders.specs.Outcome.{Outcome, done}
-use Rattle.weld_meaning.specs.Thing.{Thing, plain, more_things, fields_of}
-use Rattle.weld_meaning.specs.Evaluation.{Env, eval, whole_number}
-use Rattle.weld_eval_values.specs.Answers.{Answers}
+use Rattle.weld_builders.specs.Outcome.{done}
+use Rattle.weld_meaning.specs.Thing.{plain, more_things, fields_of}
+use Rattle.weld_meaning.specs.Evaluation.{Env, whole_number}
 use Rattle.weld_eval.specs.FrameView.{env_of}
 use Rattle.weld_eval.specs.LegsView.{lists_of}
 use Rattle.weld_eval.specs.RowLists.{row_in}
 use Rattle.weld_eval.specs.RowView.{row_value}
 use Rattle.weld_eval.specs.ShortView.{view_short}
 use Rattle.weld_eval.specs.ThingView.{thing_of, things_of, held_of}
-use Rattle.weld_eval_forms.specs.Legs.{leg_lists, AreVectors}
+use Rattle.weld_eval_forms.specs.Legs.{leg_lists}
 use Rattle.weld_eval_forms.proofs.Rows.{vector_at}
 use Rattle.weld_acts.specs.ActFits.{ActFits, ActsFit}
 use Rattle.weld_acts.proofs.Children.{let_acts, struct_acts, struct_several, acts_at, acts_after}
 use Rattle.weld_rows.specs.Numbers.{numeric}
 use Rattle.weld_rows.proofs.Numbers.{numeric_runs, number_given, either_first, either_second, either_truth, left_runs, right_runs, binary_form, binary_answers, are_operands, choice_condition_runs, choice_is_truth, value_condition_runs, value_is_truth, then_runs, otherwise_runs, on_part_runs, on_takes}
 use Rattle.weld_rows.proofs.Values.{part_run_takes, over_count, over_ready, as_many, reach_less, linked, all_linked, expr_some}
-use Rattle.weld_rows.proofs.ActLemmas.{item_runs, item_puts, act_over_count, act_over_ready, fields_fewer, fields_are, fields_end, some_left, several_there, reads_some, choice_runs, choice_truth, put_number_item, put_plain, put_is, pair_is, pair_item_stops}
+use Rattle.weld_rows.proofs.ActLemmas.{item_runs, act_over_count, act_over_ready, fields_fewer, fields_end, some_left, several_there, reads_some, choice_runs, choice_truth, pair_item_stops}
+use Rattle.weld_blocks.proofs.Merges.{item_puts, put_number_item, put_plain, put_is, pair_is}
 use Rattle.weld_built.specs.Pair.{pair}
-use Rattle.weld_rows.proofs.RangeSteps.{row_names, row_same, range_start, range_there, range_row_acts, range_act_stops, range_act_next}
+use Rattle.weld_rows.proofs.RangeSteps.{row_names, row_same, range_start, range_there, range_row_acts, range_act_stops, range_act_next, range_part, range_part_next, range_part_stops}
 use Rattle.weld_rows.proofs.walk.+rows.Goals as goal
 
 pub value_of_one-one-requires : goal.value_of_one-one-requires
@@ -227,17 +227,14 @@ put-put_number-requires t c = put_number_item c.args.item.now (env_of c.args.fra
 pub put_made-put_held-requires-clause-plain : goal.put_made-put_held-requires-clause-plain
 put_made-put_held-requires-clause-plain t c = put_plain c.args.item.now (env_of c.args.frame.now) (thing_of c.args.builder.now) (held_of c.in-Ok.x) c.requires.fits c.in-Ok.ensures
 
-pub run_rows-loop-number-init : goal.run_rows-loop-number-init
-run_rows-loop-number-init t c = range_start c.args.e.now (env_of c.args.frame.now) (lists_of c.args.legs.now) c.args.from c.args.to (thing_of c.args.builder.now) (thing_of c.in-Ok.own) c.requires.rows c.in-Ok.ensures
+pub walk_rows-run_row-requires : goal.walk_rows-run_row-requires
+walk_rows-run_row-requires t c = (omega arith, (range_there c.args.e.now (env_of c.args.frame.now) (lists_of c.args.legs.now) c.args.from c.args.to _ _ c.loop-number.number (thing_of c.loop-number.builder) c.loop-number.invariant c.loop-number-test.true, range_row_acts c.args.e.now (env_of c.args.frame.now) (lists_of c.args.legs.now) c.args.from c.args.to _ _ c.loop-number.number (thing_of c.loop-number.builder) c.requires.direct c.loop-number.invariant c.loop-number-test.true))
 
-pub run_rows-run_row-requires : goal.run_rows-run_row-requires
-run_rows-run_row-requires t c = (omega arith, (range_there c.args.e.now (env_of c.args.frame.now) (lists_of c.args.legs.now) c.args.from c.args.to _ _ c.loop-number.number (thing_of c.loop-number.builder) c.loop-number.invariant c.loop-number-test.true, range_row_acts c.args.e.now (env_of c.args.frame.now) (lists_of c.args.legs.now) c.args.from c.args.to _ _ c.loop-number.number (thing_of c.loop-number.builder) c.requires.direct c.loop-number.invariant c.loop-number-test.true))
+pub walk_rows-returns-in-Err : goal.walk_rows-returns-in-Err
+walk_rows-returns-in-Err t c = range_act_stops (Unit {0}) (Unit {0}) c.in-Err.stop c.args.e.now (env_of c.args.frame.now) (lists_of c.args.legs.now) c.args.from c.args.to _ _ c.loop-number.number (thing_of c.loop-number.builder) (thing_of c.run_row.new.builder) (thing_of c.run_row.new.builder) c.requires.direct c.loop-number.invariant c.loop-number-test.true c.in-Err.ensures
 
-pub run_rows-returns-in-Err-run_row : goal.run_rows-returns-in-Err-run_row
-run_rows-returns-in-Err-run_row t c = range_act_stops (Unit {0}) (Unit {0}) c.in-Err-run_row.stop c.args.e.now (env_of c.args.frame.now) (lists_of c.args.legs.now) c.args.from c.args.to _ _ c.loop-number.number (thing_of c.loop-number.builder) (thing_of c.run_row.new.builder) (thing_of c.run_row.new.builder) c.requires.direct c.loop-number.invariant c.loop-number-test.true c.in-Err-run_row.ensures
-
-pub run_rows-loop-number-preserved : goal.run_rows-loop-number-preserved
-run_rows-loop-number-preserved t c = range_act_next c.args.e.now (env_of c.args.frame.now) (lists_of c.args.legs.now) c.args.from c.args.to _ _ c.loop-number.number (thing_of c.loop-number.builder) (thing_of c.run_row.new.builder) c.requires.direct c.loop-number.invariant c.loop-number-test.true c.in-Ok-run_row.ensures
+pub walk_rows-loop-number-preserved : goal.walk_rows-loop-number-preserved
+walk_rows-loop-number-preserved t c = range_act_next c.args.e.now (env_of c.args.frame.now) (lists_of c.args.legs.now) c.args.from c.args.to _ _ c.loop-number.number (thing_of c.loop-number.builder) (thing_of c.run_row.new.builder) c.requires.direct c.loop-number.invariant c.loop-number-test.true c.in-Ok.ensures
 
 pub put_written-returns-in-Err-tried : goal.put_written-returns-in-Err-tried
 put_written-returns-in-Err-tried t c =
@@ -264,3 +261,26 @@ put_written-returns-in-Some-Some t c =
 
 pub put_other-put_pair-requires : goal.put_other-put_pair-requires
 put_other-put_pair-requires t c = put_number_item c.args.item.now (env_of c.args.frame.now) (thing_of c.args.builder.now) (pair (view_short c.in-Some.found.0) (view_short c.in-Some.found.1)) c.requires.fits c.in-Some.ensures
+
+-- ---- blocks
+
+pub run_rows-run_blocks-answer-requires : goal.run_rows-run_blocks-answer-requires
+run_rows-run_blocks-answer-requires t c =
+    (omega arith, (range_start c.args.e.now (env_of c.args.frame.now) (lists_of c.args.legs.now) c.args.from c.args.to (thing_of c.args.builder.now) (thing_of c.in-Ok.own) c.requires.rows c.in-Ok.ensures, (c.requires.direct, c.requires.form)))
+
+pub run_blocks-run_block-requires : goal.run_blocks-run_block-requires
+run_blocks-run_block-requires t c =
+    let low : c.pieces.reached ≤ c.block_end-end.result = omega (arith, c.block_end-end.ensures.more) in
+    (omega arith, (range_part c.args.e.now (env_of c.args.frame.now) (lists_of c.args.legs.now) c.args.from c.args.to (thing_of c.args.builder.now) (thing_of c.args.own.now) c.pieces.reached c.block_end-end.result (thing_of c.pieces.builder) c.pieces.invariant low c.block_end-end.ensures.within, (c.requires.direct, c.requires.form)))
+
+pub run_blocks-returns-in-Err : goal.run_blocks-returns-in-Err
+run_blocks-returns-in-Err t c =
+    let low : c.pieces.reached ≤ c.block_end-end.result = omega (arith, c.block_end-end.ensures.more) in
+    range_part_stops Bool (Unit {0}) c.in-Err.stop c.args.e.now (env_of c.args.frame.now) (lists_of c.args.legs.now) c.args.from c.args.to (thing_of c.args.builder.now) (thing_of c.args.own.now) c.pieces.reached c.block_end-end.result (thing_of c.pieces.builder)
+    (thing_of c.run_block.new.builder) (thing_of c.run_block.new.builder) c.pieces.invariant low c.block_end-end.ensures.within c.in-Err.ensures
+
+pub run_blocks-pieces-preserved : goal.run_blocks-pieces-preserved
+run_blocks-pieces-preserved t c =
+    let low : c.pieces.reached ≤ c.block_end-end.result = omega (arith, c.block_end-end.ensures.more) in
+    range_part_next c.args.e.now (env_of c.args.frame.now) (lists_of c.args.legs.now) c.args.from c.args.to (thing_of c.args.builder.now) (thing_of c.args.own.now) c.pieces.reached c.block_end-end.result (thing_of c.pieces.builder)
+    (thing_of c.run_block.new.builder) c.pieces.invariant low c.block_end-end.ensures.within c.in-Ok.ensures

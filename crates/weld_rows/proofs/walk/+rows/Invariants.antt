@@ -1,4 +1,4 @@
-use Rattle.std.proofs.Common.{◌≡◌, ◌+◌, ◌*◌, drop, length}
+use Rattle.std.proofs.Common.{◌+◌, ◌-◌, ◌*◌, drop, length}
 use Rattle.weld_tree.specs.ExprFalls.{expr_nodes, exprs_nodes}
 use Rattle.weld_tree.specs.ExprTree.{pack_exprs}
 use Rattle.weld_eval.specs.FrameView.{env_of}
@@ -114,7 +114,22 @@ abbrev pub decreases-reach : goal.decreases-reach
 decreases-reach l = 64 * body_nodes l.e.now + 40 + l.left
 
 abbrev pub decreases-run_rows : goal.decreases-run_rows
-decreases-run_rows l = 64 * body_nodes l.e.now + 33
+decreases-run_rows l = 64 * body_nodes l.e.now + 38
+
+abbrev pub decreases-run_blocks : goal.decreases-run_blocks
+decreases-run_blocks l = 64 * body_nodes l.e.now + 37
+
+abbrev pub decreases-run_block : goal.decreases-run_block
+decreases-run_block l = 64 * body_nodes l.e.now + 36
+
+abbrev pub decreases-try_block : goal.decreases-try_block
+decreases-try_block l = 64 * body_nodes l.e.now + 35
+
+abbrev pub decreases-walk_block : goal.decreases-walk_block
+decreases-walk_block l = 64 * body_nodes l.e.now + 34
+
+abbrev pub decreases-walk_rows : goal.decreases-walk_rows
+decreases-walk_rows l = 64 * body_nodes l.e.now + 33
 
 abbrev pub decreases-run_row : goal.decreases-run_row
 decreases-run_row l = 64 * body_nodes l.e.now + 32
@@ -124,5 +139,11 @@ decreases-act_fields l = 64 * exprs_nodes (pack_exprs (drop l.number l.parts.now
 
 -- the builder has come so far
 
-abbrev pub invariant-run_rows-loop-number : goal.invariant-run_rows-loop-number
-invariant-run_rows-loop-number l = RangeOn l.e (env_of l.frame) (lists_of l.legs) l.from l.to (thing_of l.fn.builder) (thing_of l.own) l.number (thing_of l.builder)
+abbrev pub invariant-walk_rows-loop-number : goal.invariant-walk_rows-loop-number
+invariant-walk_rows-loop-number l = RangeOn l.e (env_of l.frame) (lists_of l.legs) l.from l.to (thing_of l.fn.builder) (thing_of l.own) l.number (thing_of l.builder)
+
+abbrev pub invariant-run_blocks-pieces : goal.invariant-run_blocks-pieces
+invariant-run_blocks-pieces l = RangeOn l.e (env_of l.frame) (lists_of l.legs) l.from l.to (thing_of l.fn.builder) (thing_of l.own) l.reached (thing_of l.builder)
+
+abbrev pub decreases-run_blocks-pieces : goal.decreases-run_blocks-pieces
+decreases-run_blocks-pieces l = l.to - l.reached

@@ -1,0 +1,9 @@
+pub mod BodyLemmas
+pub mod ColumnLemmas
+pub mod Doing
+pub mod Gathering
+pub mod LeafLemmas
+pub mod Merges
+pub mod PairLemmas
+pub mod PutLemmas
+pub mod Scalars

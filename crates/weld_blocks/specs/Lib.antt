@@ -1,0 +1,5 @@
+pub mod Block
+pub mod Deeds
+pub mod Numbers
+pub mod Puts
+pub mod Scope

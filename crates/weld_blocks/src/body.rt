@@ -1,0 +1,236 @@
+//! What a loop's body does on the rows of a block.
+
+ghost use Rattle.std.specs.Prelude.{◌≡◌, true, IfSome};
+ghost use Rattle.weld_eval.specs.FrameView.{env_of};
+ghost use Rattle.weld_eval.specs.LegsView.{lists_of};
+ghost use Rattle.weld_eval.specs.ThingView.{thing_of};
+ghost use Rattle.weld_blocks.specs.Block.{MayBeBlock};
+ghost use Rattle.weld_blocks.specs.Deeds.{IsDeed, MayBeDeed, MayBeItem, IsBefore, IsMergeTree, IsQuiet, IsStructTree};
+ghost use Rattle.weld_eval_plain.specs.Nodes.{IsIf};
+ghost use Rattle.weld_blocks.specs.Scope.{scope_env};
+
+use crate::columns::{name_of, numbers};
+use crate::deed::{Deed, Deeds};
+use crate::pairs::pair_named;
+use crate::scope::{Rows, Scope, of_rows, with_numbers};
+use std::alloc::Global;
+use weld_eval::frame::Frame;
+use weld_eval::legs::Legs;
+use weld_eval::thing::Owned;
+use weld_tree::{Expr, Form, ManyForm, ThreeForm, TwoForm};
+
+/// What the body of a loop does on so many rows from one on, where all that it merges is numbers, or structs of two, whose
+/// parts `numbers` works out; it merges into its own builder, into fields of it, or as `if` chooses. There is none where there is
+/// no memory for it.
+pub fn block_of(
+    e: &Expr,
+    frame: &Frame,
+    own: &Owned,
+    legs: &Legs,
+    from: usize,
+    count: usize,
+    alloc: Global,
+) -> Option<Deed>
+    ensures { MayBeBlock e.now (env_of frame.now) (thing_of own.now) (lists_of legs.now) from result count }
+{
+    match &e.form {
+        Form::For(_, _, own_binder, count_binder, row_binder, body) => {
+            let rows = Rows {
+                frame: &*frame,
+                own: &*own,
+                legs: &*legs,
+                own_name: own_binder.sym,
+                count_name: count_binder.sym,
+                row_name: row_binder.sym,
+                from,
+            };
+            let scope = of_rows(&rows);
+            deed_of(body, &scope, count, alloc)
+        }
+        _ => None,
+    }
+}
+
+/// What an expression of builder type does.
+#[cycle(bodies)]
+fn deed_of(e: &Expr, scope: &Scope, count: usize, alloc: Global) -> Option<Deed>
+    ensures { MayBeDeed e.now (scope_env scope.now) result count }
+{
+    match &e.form {
+        Form::Leaf(_) => Some(Deed::Nothing),
+        Form::One(_, _) => Some(Deed::Nothing),
+        Form::Two(TwoForm::Merge, _, _) => of_merge(e, scope, count, alloc),
+        Form::Three(ThreeForm::If, _, _, _) => of_choice(e, scope, count, alloc),
+        Form::Many(ManyForm::Struct, _) => of_struct(e, scope, count, alloc),
+        Form::Let(_, _, _) => of_let(e, scope, count, alloc),
+        _ => None,
+    }
+}
+
+/// A merge into a builder to which nothing else is done.
+fn of_merge(e: &Expr, scope: &Scope, count: usize, alloc: Global) -> Option<Deed>
+    requires { IsMergeTree e.now }
+    ensures { MayBeDeed e.now (scope_env scope.now) result count }
+{
+    match &e.form {
+        Form::Two(_, first, item) => {
+            if is_quiet(first) {
+                item_of(item, scope, count, alloc)
+            } else {
+                None
+            }
+        }
+        _ => unreachable!(),
+    }
+}
+
+/// Whether nothing is done to the builder: it is a name or a field.
+fn is_quiet(e: &Expr) -> bool
+    ensures { result ≡ true → IsQuiet e.now }
+{
+    match &e.form {
+        Form::Leaf(_) => true,
+        Form::One(_, _) => true,
+        _ => false,
+    }
+}
+
+/// What is merged: a number, or a struct of two.
+fn item_of(item: &Expr, scope: &Scope, count: usize, alloc: Global) -> Option<Deed>
+    ensures { MayBeItem item.now (scope_env scope.now) result count }
+{
+    match numbers(item, scope, count, alloc) {
+        Some(numbers) => Some(Deed::Number(numbers)),
+        None => pair_of(item, scope, count, alloc),
+    }
+}
+
+/// A struct of two numbers: written out, or the row of two legs.
+#[tactic(auto, using(crate::proofs::PairLemmas::row_pair))]
+fn pair_of(item: &Expr, scope: &Scope, count: usize, alloc: Global) -> Option<Deed>
+    ensures { MayBeItem item.now (scope_env scope.now) result count }
+{
+    match name_of(item) {
+        Some(name) => pair_named(scope, name, count, alloc),
+        None => written_pair(item, scope, count, alloc),
+    }
+}
+
+/// A struct of two numbers that is written out.
+#[tactic(auto, using(crate::proofs::BodyLemmas::written_pair_gives))]
+fn written_pair(item: &Expr, scope: &Scope, count: usize, alloc: Global) -> Option<Deed>
+    ensures { MayBeItem item.now (scope_env scope.now) result count }
+{
+    match &item.form {
+        Form::Many(ManyForm::Struct, parts) => {
+            let parts = parts.as_slice();
+            if parts.len() != 2 {
+                return None;
+            }
+            let keys = match numbers(&parts[0], scope, count, alloc) {
+                Some(keys) => keys,
+                None => return None,
+            };
+            match numbers(&parts[1], scope, count, alloc) {
+                Some(numbers) => Some(Deed::Pair(keys, numbers)),
+                None => None,
+            }
+        }
+        _ => None,
+    }
+}
+
+/// An `if`: of both arms what they do.
+#[cycle(bodies)]
+fn of_choice(e: &Expr, scope: &Scope, count: usize, alloc: Global) -> Option<Deed>
+    requires { IsIf e.now }
+    ensures { MayBeDeed e.now (scope_env scope.now) result count }
+{
+    match &e.form {
+        Form::Three(_, condition, then, otherwise) => {
+            let truths = match numbers(condition, scope, count, alloc) {
+                Some(truths) => truths,
+                None => return None,
+            };
+            let then = match boxed_deed(then, scope, count, alloc) {
+                Some(then) => then,
+                None => return None,
+            };
+            match boxed_deed(otherwise, scope, count, alloc) {
+                Some(otherwise) => Some(Deed::Choice(truths, then, otherwise)),
+                None => None,
+            }
+        }
+        _ => unreachable!(),
+    }
+}
+
+/// The same as `deed_of`, in a box.
+#[cycle(bodies)]
+fn boxed_deed(e: &Expr, scope: &Scope, count: usize, alloc: Global) -> Option<Box<Deed>>
+    ensures { IfSome result (λ d. IsDeed e.now (scope_env scope.now) d.value count) }
+{
+    match deed_of(e, scope, count, alloc) {
+        Some(deed) => match Box::new(alloc, deed) {
+            Ok(deed) => Some(deed),
+            Err(_) => None,
+        },
+        None => None,
+    }
+}
+
+/// A struct of builders, field by field, the last one first.
+#[cycle(bodies)]
+#[tactic(auto, using(crate::proofs::BodyLemmas::no_more_fields))]
+fn of_struct(e: &Expr, scope: &Scope, count: usize, alloc: Global) -> Option<Deed>
+    requires { IsStructTree e.now }
+    ensures { MayBeDeed e.now (scope_env scope.now) result count }
+{
+    match &e.form {
+        Form::Many(_, parts) => {
+            let mut deeds = Deeds::End;
+            let mut left = parts.len();
+            'fields: while left > 0 {
+                left -= 1;
+                deeds = match boxed_deed(&parts.as_slice()[left], scope, count, alloc) {
+                    Some(first) => match before(first, deeds, alloc) {
+                        Some(more) => more,
+                        None => return None,
+                    },
+                    None => return None,
+                };
+            }
+            Some(Deed::Fields(deeds))
+        }
+        _ => unreachable!(),
+    }
+}
+
+/// What is done to the fields with one before them.
+fn before(first: Box<Deed>, rest: Deeds, alloc: Global) -> Option<Deeds>
+    ensures { IfSome result (λ ds. IsBefore first.value rest ds) }
+{
+    match Box::new(alloc, rest) {
+        Ok(rest) => Some(Deeds::And(first, rest)),
+        Err(_) => None,
+    }
+}
+
+/// A `let` of numbers.
+#[cycle(bodies)]
+#[tactic(auto, using(crate::proofs::BodyLemmas::let_does))]
+fn of_let(e: &Expr, scope: &Scope, count: usize, alloc: Global) -> Option<Deed>
+    ensures { MayBeDeed e.now (scope_env scope.now) result count }
+{
+    match &e.form {
+        Form::Let(binder, first, body) => {
+            let bound = match numbers(first, &*scope, count, alloc) {
+                Some(bound) => bound,
+                None => return None,
+            };
+            let inner = with_numbers(binder.sym, &bound, &*scope);
+            deed_of(body, &inner, count, alloc)
+        }
+        _ => None,
+    }
+}

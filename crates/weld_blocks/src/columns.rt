@@ -1,0 +1,292 @@
+//! The numbers that an expression comes to on the rows of a block.
+
+ghost use Rattle.std.specs.Prelude.{◌≡◌, IfSome, true, false};
+ghost use Rattle.weld_builders.specs.Outcome.{done};
+ghost use Rattle.weld_meaning.specs.Evaluation.{leaf_thing, one_thing, operated as operated_value, truth_value};
+ghost use Rattle.weld_meaning.specs.Thing.{plain};
+ghost use Rattle.weld_data.specs.Value.{number};
+ghost use Rattle.weld_eval.specs.ShortView.{view_short};
+ghost use Rattle.weld_eval_plain.specs.Nodes.{IsIf};
+ghost use Rattle.weld_tree.specs.ExprView.{view_leaf, view_one};
+ghost use Rattle.weld_blocks.specs.Numbers.{number_at, MayGive, MayBeNumbers, IsChosen, IsName};
+ghost use Rattle.weld_blocks.specs.Scope.{scope_env};
+
+use crate::gather::gather;
+use crate::leaves::{constant, field_named, named};
+use crate::numbers::Numbers;
+use crate::operations::{Altered, Chosen, Operated, is_integer};
+use crate::scope::{Scope, with_numbers};
+use std::alloc::Global;
+use weld_data::{BinOp, Kind, Num, wrap};
+use weld_eval::short::Short;
+use weld_tree::{Expr, Form, LeafForm, OneForm, Sym, ThreeForm, TwoForm};
+
+/// The numbers that an expression comes to on so many rows, where it is made of literals, names, fields of rows, operators,
+/// `if` and `let`, no row of it faults, also in arms that aren't chosen, and there is memory for them.
+#[cycle(columns)]
+#[tactic(auto, using(crate::proofs::ColumnLemmas::leaf_numbers))]
+pub fn numbers(e: &Expr, scope: &Scope, count: usize, alloc: Global) -> Option<Numbers>
+    ensures { MayBeNumbers e.now (scope_env scope.now) result count }
+{
+    match &e.form {
+        Form::Leaf(form) => of_leaf(form, scope, count, alloc),
+        Form::One(OneForm::Field(_), _) => of_field(e, scope, count, alloc),
+        Form::One(_, _) => of_one(e, scope, count, alloc),
+        Form::Two(TwoForm::Binary(_), _, _) => of_binary(e, scope, count, alloc),
+        Form::Two(TwoForm::And, _, _) => of_and(e, scope, count, alloc),
+        Form::Two(TwoForm::Or, _, _) => of_or(e, scope, count, alloc),
+        Form::Three(ThreeForm::If, _, _, _) => of_if(e, scope, count, alloc),
+        Form::Let(_, _, _) => of_let(e, scope, count, alloc),
+        _ => None,
+    }
+}
+
+/// The numbers of a literal or a name.
+#[tactic(auto, using(crate::proofs::ColumnLemmas::constant_gives, crate::proofs::ColumnLemmas::name_gives))]
+fn of_leaf(form: &LeafForm, scope: &Scope, count: usize, alloc: Global) -> Option<Numbers>
+    ensures { MayGive (λ place v. leaf_thing (view_leaf form.now) (scope_env scope.now place) ≡ done (plain v)) result count }
+{
+    match form {
+        LeafForm::Int(kind, value) => match literal(*kind, *value) {
+            Some(number) => constant(number, count, alloc),
+            None => None,
+        },
+        LeafForm::Truth(truth) => constant(Short::of_truth(*truth), count, alloc),
+        LeafForm::Name(name) => named(scope, *name, count, alloc),
+        LeafForm::Chars(_) => None,
+        LeafForm::Builder(_) => None,
+    }
+}
+
+/// The number of a literal, where it is one of its kind, which every program keeps.
+fn literal(kind: Kind, value: i128) -> Option<Short>
+    ensures { IfSome result (λ n. view_short n ≡ number kind value) }
+{
+    if !is_integer(kind) {
+        return None;
+    }
+    let wrapped = wrap(kind, value);
+    if wrapped != value {
+        return None;
+    }
+    Some(Short::of_num(Num {
+        kind,
+        value: wrapped,
+    }))
+}
+
+/// The numbers of a field of a name.
+#[tactic(auto, using(crate::proofs::ColumnLemmas::field_numbers))]
+fn of_field(e: &Expr, scope: &Scope, count: usize, alloc: Global) -> Option<Numbers>
+    ensures { MayBeNumbers e.now (scope_env scope.now) result count }
+{
+    match &e.form {
+        Form::One(OneForm::Field(field), part) => match name_of(part) {
+            Some(name) => field_named(*field, scope, name, count, alloc),
+            None => None,
+        },
+        _ => None,
+    }
+}
+
+/// The name that an expression is.
+pub(crate) fn name_of(e: &Expr) -> Option<Sym>
+    ensures { IfSome result (λ name. IsName e.now name.0) }
+{
+    match &e.form {
+        Form::Leaf(LeafForm::Name(name)) => Some(*name),
+        _ => None,
+    }
+}
+
+/// The numbers of a form of one part.
+#[cycle(columns)]
+#[tactic(auto, using(crate::proofs::ColumnLemmas::altered_numbers))]
+fn of_one(e: &Expr, scope: &Scope, count: usize, alloc: Global) -> Option<Numbers>
+    ensures { MayBeNumbers e.now (scope_env scope.now) result count }
+{
+    match &e.form {
+        Form::One(form, part) => {
+            let part = match numbers(part, scope, count, alloc) {
+                Some(part) => part,
+                None => return None,
+            };
+            altered(form, &part, count, alloc)
+        }
+        _ => None,
+    }
+}
+
+/// What a form of one part makes of numbers.
+fn altered(form: &OneForm, part: &Numbers, count: usize, alloc: Global) -> Option<Numbers>
+    ensures { MayGive (λ place v. one_thing (view_one form.now) (plain (number_at part.now place)) ≡ done (plain v)) result count }
+{
+    let of = Altered { form, part };
+    gather(alloc, count, &of)
+}
+
+/// The numbers of an operator between two parts.
+#[cycle(columns)]
+#[tactic(auto, using(crate::proofs::ColumnLemmas::operated_numbers))]
+fn of_binary(e: &Expr, scope: &Scope, count: usize, alloc: Global) -> Option<Numbers>
+    ensures { MayBeNumbers e.now (scope_env scope.now) result count }
+{
+    match &e.form {
+        Form::Two(TwoForm::Binary(op), first, second) => {
+            let left = match numbers(first, scope, count, alloc) {
+                Some(left) => left,
+                None => return None,
+            };
+            let right = match numbers(second, scope, count, alloc) {
+                Some(right) => right,
+                None => return None,
+            };
+            operated(*op, &left, &right, count, alloc)
+        }
+        _ => None,
+    }
+}
+
+/// What an operator makes of numbers.
+fn operated(
+    op: BinOp,
+    left: &Numbers,
+    right: &Numbers,
+    count: usize,
+    alloc: Global,
+) -> Option<Numbers>
+    ensures { MayGive (λ place v. operated_value op (number_at left.now place) (number_at right.now place) ≡ done v) result count }
+{
+    let of = Operated { op, left, right };
+    gather(alloc, count, &of)
+}
+
+/// The numbers of `&&`: of the right side where the left one is true.
+#[cycle(columns)]
+#[tactic(auto, using(crate::proofs::ColumnLemmas::and_numbers))]
+fn of_and(e: &Expr, scope: &Scope, count: usize, alloc: Global) -> Option<Numbers>
+    ensures { MayBeNumbers e.now (scope_env scope.now) result count }
+{
+    match &e.form {
+        Form::Two(TwoForm::And, first, second) => {
+            let condition = match numbers(first, scope, count, alloc) {
+                Some(condition) => condition,
+                None => return None,
+            };
+            let then = match numbers(second, scope, count, alloc) {
+                Some(then) => then,
+                None => return None,
+            };
+            both(&condition, &then, count, alloc)
+        }
+        _ => None,
+    }
+}
+
+/// The second truth value where the first one is true, else false.
+#[tactic(auto, using(crate::proofs::ColumnLemmas::both_given))]
+fn both(condition: &Numbers, then: &Numbers, count: usize, alloc: Global) -> Option<Numbers>
+    ensures { MayGive (λ place v. IsChosen (number_at condition.now place) (number_at then.now place) (truth_value false) v) result count }
+{
+    match constant(Short::of_truth(false), count, alloc) {
+        Some(otherwise) => chosen(condition, then, &otherwise, count, alloc),
+        None => None,
+    }
+}
+
+/// The numbers of `||`: of the right side where the left one is false.
+#[cycle(columns)]
+#[tactic(auto, using(crate::proofs::ColumnLemmas::or_numbers))]
+fn of_or(e: &Expr, scope: &Scope, count: usize, alloc: Global) -> Option<Numbers>
+    ensures { MayBeNumbers e.now (scope_env scope.now) result count }
+{
+    match &e.form {
+        Form::Two(TwoForm::Or, first, second) => {
+            let condition = match numbers(first, scope, count, alloc) {
+                Some(condition) => condition,
+                None => return None,
+            };
+            let otherwise = match numbers(second, scope, count, alloc) {
+                Some(otherwise) => otherwise,
+                None => return None,
+            };
+            either(&condition, &otherwise, count, alloc)
+        }
+        _ => None,
+    }
+}
+
+/// True where the first truth value is, else the second one.
+#[tactic(auto, using(crate::proofs::ColumnLemmas::either_given))]
+fn either(condition: &Numbers, otherwise: &Numbers, count: usize, alloc: Global) -> Option<Numbers>
+    ensures { MayGive (λ place v. IsChosen (number_at condition.now place) (truth_value true) (number_at otherwise.now place) v) result count }
+{
+    match constant(Short::of_truth(true), count, alloc) {
+        Some(then) => chosen(condition, &then, otherwise, count, alloc),
+        None => None,
+    }
+}
+
+/// The numbers of an `if`. Both arms are worked out, so neither may fault on a row.
+#[cycle(columns)]
+#[tactic(auto, using(crate::proofs::ColumnLemmas::if_numbers))]
+fn of_if(e: &Expr, scope: &Scope, count: usize, alloc: Global) -> Option<Numbers>
+    requires { IsIf e.now }
+    ensures { MayBeNumbers e.now (scope_env scope.now) result count }
+{
+    match &e.form {
+        Form::Three(_, condition, then, otherwise) => {
+            let condition = match numbers(condition, scope, count, alloc) {
+                Some(condition) => condition,
+                None => return None,
+            };
+            let then = match numbers(then, scope, count, alloc) {
+                Some(then) => then,
+                None => return None,
+            };
+            let otherwise = match numbers(otherwise, scope, count, alloc) {
+                Some(otherwise) => otherwise,
+                None => return None,
+            };
+            chosen(&condition, &then, &otherwise, count, alloc)
+        }
+        _ => unreachable!(),
+    }
+}
+
+/// One of two numbers, as truth values say.
+fn chosen(
+    condition: &Numbers,
+    then: &Numbers,
+    otherwise: &Numbers,
+    count: usize,
+    alloc: Global,
+) -> Option<Numbers>
+    ensures { MayGive (λ place v. IsChosen (number_at condition.now place) (number_at then.now place) (number_at otherwise.now place) v) result count }
+{
+    let of = Chosen {
+        condition,
+        then,
+        otherwise,
+    };
+    gather(alloc, count, &of)
+}
+
+/// The numbers of a `let` of numbers.
+#[cycle(columns)]
+#[tactic(auto, using(crate::proofs::ColumnLemmas::let_numbers))]
+fn of_let(e: &Expr, scope: &Scope, count: usize, alloc: Global) -> Option<Numbers>
+    ensures { MayBeNumbers e.now (scope_env scope.now) result count }
+{
+    match &e.form {
+        Form::Let(binder, first, body) => {
+            let bound = match numbers(first, &*scope, count, alloc) {
+                Some(bound) => bound,
+                None => return None,
+            };
+            let inner = with_numbers(binder.sym, &bound, &*scope);
+            numbers(body, &inner, count, alloc)
+        }
+        _ => None,
+    }
+}

@@ -1,0 +1,73 @@
+//! What is merged row by row, once the numbers of a block are known.
+
+ghost use Rattle.weld_acts.specs.Act.{Acts};
+ghost use Rattle.weld_eval.specs.ThingView.{thing_of, things_of};
+ghost use Rattle.weld_blocks.specs.Deeds.{DeedFits, DeedsFit, do_of, do_all, DoesAll};
+
+use crate::numbers::Numbers;
+use crate::puts::{put_number, put_pair};
+use crate::scalar::truth_of;
+use weld_data::Stop;
+use weld_eval::thing::{Fields, Owned};
+
+/// What the body of a loop does to the builder on each row of a block: nothing, a merge of a number or of two as a struct, one of
+/// two such as a truth value says, or one for each field of a struct of builders.
+#[cycle(deed)]
+#[derive(Drop)]
+pub enum Deed {
+    Nothing,
+    Number(Numbers),
+    Pair(Numbers, Numbers),
+    Choice(Numbers, Box<Deed>, Box<Deed>),
+    Fields(Deeds),
+}
+
+/// What is done to each field, the first field first.
+#[cycle(deed)]
+#[derive(Drop)]
+pub enum Deeds {
+    End,
+    And(Box<Deed>, Box<Deeds>),
+}
+
+/// Does it on the row of a place in the block, from 0.
+#[cycle(doing)]
+pub fn do_deed(deed: &Deed, place: usize, builder: &mut Owned) -> Result<(), Stop>
+    requires { DeedFits deed.now place (thing_of builder.old) }
+    ensures { Acts result (do_of deed.now place (thing_of builder.old)) (thing_of builder.new) }
+{
+    match deed {
+        Deed::Number(numbers) => put_number(builder, numbers.at(place)),
+        Deed::Nothing => Ok(()),
+        Deed::Pair(keys, numbers) => put_pair(builder, keys.at(place), numbers.at(place)),
+        Deed::Choice(truths, then, otherwise) => {
+            if truth_of(truths.at(place)) {
+                do_deed(then, place, builder)
+            } else {
+                do_deed(otherwise, place, builder)
+            }
+        }
+        Deed::Fields(deeds) => match builder {
+            Owned::Several(fields) => do_deeds(deeds, place, fields),
+            _ => unreachable!(),
+        },
+    }
+}
+
+/// The same field by field.
+#[cycle(doing)]
+fn do_deeds(deeds: &Deeds, place: usize, fields: &mut Fields) -> Result<(), Stop>
+    requires { DeedsFit deeds.now place (things_of fields.old) }
+    ensures { DoesAll result (do_all deeds.now place (things_of fields.old)) (things_of fields.new) }
+{
+    match deeds {
+        Deeds::End => Ok(()),
+        Deeds::And(deed, rest) => match fields {
+            Fields::And(first, more) => match do_deed(deed, place, first) {
+                Ok(()) => do_deeds(rest, place, more),
+                Err(stop) => Err(stop),
+            },
+            Fields::End => unreachable!(),
+        },
+    }
+}

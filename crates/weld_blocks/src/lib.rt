@@ -1,0 +1,18 @@
+//! Blocks of the rows of a loop: what its body merges is worked out for many rows at once, each expression for all of them
+//! before the next, and then merged row by row.
+#![tactic(auto)]
+
+pub mod body;
+pub mod columns;
+pub mod deed;
+mod gather;
+mod leaves;
+pub mod numbers;
+mod operations;
+mod pairs;
+pub mod puts;
+pub mod scalar;
+pub mod scope;
+
+pub use body::block_of;
+pub use deed::{Deed, do_deed};

@@ -1,0 +1,63 @@
+//! Numbers of one kind.
+
+ghost use Rattle.std.specs.Prelude.{◌≡◌, ℕ, pos, true, get_or};
+ghost use Rattle.weld_data.specs.Kind.{InRange};
+
+use std::alloc::Global;
+use weld_data::Kind;
+use weld_eval::short::Short;
+
+/// Numbers of one kind, one for each row of a block, the first row first. Each lies in the kind's range.
+#[derive(Drop)]
+pub struct Numbers {
+    pub kind: Kind,
+    pub(crate) items: Vec<i64>,
+    pub(crate) ghost in_range: { (place : ℕ) → InRange kind (get_or items.items place (pos 0)) },
+}
+
+impl Numbers {
+    ghost use Rattle.std.specs.Prelude.{◌≡◌, ◌<◌, IfSome};
+    ghost use Rattle.weld_eval.specs.ShortView.{view_short};
+    ghost use Rattle.weld_blocks.specs.Numbers.{number_at, count_of, AreSame};
+
+    /// How many numbers there are. It takes no memory.
+    #[inline(always)]
+    pub fn len(&self) -> usize
+        ensures { result ≡ count_of self.now }
+    {
+        self.items.len()
+    }
+
+    /// The number at a place, from 0. It takes no memory.
+    #[inline(always)]
+    pub fn at(&self, place: usize) -> Short
+        requires { place < count_of self.now }
+        ensures { view_short result ≡ number_at self.now place }
+    {
+        Short {
+            kind: self.kind,
+            value: self.items[place],
+        }
+    }
+
+    /// The same numbers, where there is memory for them.
+    pub fn copy(&self, alloc: Global) -> Option<Numbers>
+        ensures { IfSome result (λ copy. AreSame copy self.now) }
+    {
+        match Vec::from_slice(alloc, &self.items) {
+            Ok(items) => Some(Numbers {
+                kind: self.kind,
+                items,
+            }),
+            Err(_) => None,
+        }
+    }
+}
+
+/// Whether two kinds are the same.
+#[inline(always)]
+pub(crate) fn is_same(kind: Kind, other: Kind) -> bool
+    ensures { result ≡ true → kind ≡ other }
+{
+    kind == other
+}

@@ -1,0 +1,187 @@
+//! What gives the numbers of operators, choices and forms of one part.
+
+ghost use Rattle.std.specs.Prelude.{◌≡◌, IfSome};
+ghost use Rattle.weld_data.specs.Value.{Value};
+ghost use Rattle.weld_builders.specs.Outcome.{done};
+ghost use Rattle.weld_meaning.specs.Thing.{plain};
+ghost use Rattle.weld_meaning.specs.Evaluation.{operated as operated_value, one_thing, whole_number as whole_number_value};
+ghost use Rattle.weld_data.specs.Operation.{TakesKind};
+ghost use Rattle.weld_data.specs.Kind.{IsInteger};
+ghost use Rattle.weld_tree.specs.ExprView.{view_one};
+ghost use Rattle.weld_eval.specs.ShortView.{view_short};
+ghost use Rattle.weld_blocks.specs.Numbers.{number_at, IsChosen};
+ghost use Rattle.std.specs.Prelude.{true};
+
+use crate::gather::Gives;
+use crate::numbers::Numbers;
+use crate::scalar::{cast, contrary, negated, operated, truth_of, whole_number};
+use weld_data::{BinOp, Kind};
+use weld_eval::short::Short;
+use weld_tree::OneForm;
+
+/// One number at each place.
+#[derive(Clone, Copy)]
+pub(crate) struct Constant {
+    pub(crate) number: Short,
+}
+
+impl Gives for Constant {
+    ghost gives = { λ c place v. v ≡ view_short c.number };
+
+    #[inline(always)]
+    fn at(&self, _place: usize) -> Option<Short> {
+        Some(self.number)
+    }
+}
+
+/// The numbers of rows from one on.
+#[derive(Clone, Copy)]
+pub(crate) struct Counted {
+    pub(crate) from: usize,
+}
+
+impl Gives for Counted {
+    ghost use Rattle.std.specs.Prelude.{◌+◌};
+
+    ghost gives = { λ c place v. v ≡ whole_number_value (c.from + place) };
+
+    #[inline(always)]
+    fn at(&self, place: usize) -> Option<Short> {
+        match self.from.checked_add(place) {
+            Some(number) => Some(whole_number(number)),
+            None => None,
+        }
+    }
+}
+
+/// What an operator makes of two numbers at each place.
+#[derive(Clone, Copy)]
+pub(crate) struct Operated<'a> {
+    pub(crate) op: BinOp,
+    pub(crate) left: &'a Numbers,
+    pub(crate) right: &'a Numbers,
+}
+
+impl<'a> Gives for Operated<'a> {
+    ghost gives = { λ o place v. operated_value o.op (number_at o.left.now place) (number_at o.right.now place) ≡ done v };
+
+    #[inline(always)]
+    fn at(&self, place: usize) -> Option<Short> {
+        if place < self.left.len() && place < self.right.len() {
+            operation_of(self.op, self.left.at(place), self.right.at(place))
+        } else {
+            None
+        }
+    }
+}
+
+/// What an operator makes of two numbers, where they are of one kind that it takes and it doesn't divide by 0.
+#[inline(always)]
+fn operation_of(op: BinOp, x: Short, y: Short) -> Option<Short>
+    ensures { IfSome result (λ n. operated_value op (view_short x) (view_short y) ≡ done (view_short n)) }
+{
+    if x.kind == y.kind && takes(op, x.kind) {
+        match operated(op, x, y) {
+            Ok(n) => Some(n),
+            Err(_) => None,
+        }
+    } else {
+        None
+    }
+}
+
+/// Whether the operator takes numbers of the kind: truth values can only be tested for equality.
+#[inline(always)]
+fn takes(op: BinOp, kind: Kind) -> bool
+    ensures { result ≡ true → TakesKind op kind }
+{
+    match op {
+        BinOp::Eq | BinOp::Ne => true,
+        _ => is_integer(kind),
+    }
+}
+
+/// Whether the kind is one of integers.
+#[inline(always)]
+pub(crate) fn is_integer(kind: Kind) -> bool
+    ensures { result ≡ true → IsInteger kind }
+{
+    match kind {
+        Kind::Bool => false,
+        _ => true,
+    }
+}
+
+/// One of two numbers at each place, as a truth value says.
+#[derive(Clone, Copy)]
+pub(crate) struct Chosen<'a> {
+    pub(crate) condition: &'a Numbers,
+    pub(crate) then: &'a Numbers,
+    pub(crate) otherwise: &'a Numbers,
+}
+
+impl<'a> Gives for Chosen<'a> {
+    ghost gives = { λ c place v. IsChosen (number_at c.condition.now place) (number_at c.then.now place) (number_at c.otherwise.now place) v };
+
+    #[inline(always)]
+    fn at(&self, place: usize) -> Option<Short> {
+        if place < self.condition.len() && place < self.then.len() && place < self.otherwise.len() {
+            choice_of(
+                self.condition.at(place),
+                self.then.at(place),
+                self.otherwise.at(place),
+            )
+        } else {
+            None
+        }
+    }
+}
+
+/// One of two numbers, where the condition is a truth value.
+#[inline(always)]
+fn choice_of(condition: Short, then: Short, otherwise: Short) -> Option<Short>
+    ensures { IfSome result (λ n. IsChosen (view_short condition) (view_short then) (view_short otherwise) (view_short n)) }
+{
+    if condition.kind == Kind::Bool {
+        if truth_of(condition) {
+            Some(then)
+        } else {
+            Some(otherwise)
+        }
+    } else {
+        None
+    }
+}
+
+/// What a form of one part makes of a number at each place.
+#[derive(Clone, Copy)]
+pub(crate) struct Altered<'a> {
+    pub(crate) form: &'a OneForm,
+    pub(crate) part: &'a Numbers,
+}
+
+impl<'a> Gives for Altered<'a> {
+    ghost gives = { λ a place v. one_thing (view_one a.form.now) (plain (number_at a.part.now place)) ≡ done (plain v) };
+
+    #[inline(always)]
+    fn at(&self, place: usize) -> Option<Short> {
+        if place < self.part.len() {
+            alteration_of(self.form, self.part.at(place))
+        } else {
+            None
+        }
+    }
+}
+
+/// What a form of one part makes of a number, where it is `-`, `!` or a cast and the number is one that it takes.
+#[inline(always)]
+fn alteration_of(form: &OneForm, x: Short) -> Option<Short>
+    ensures { IfSome result (λ n. one_thing (view_one form.now) (plain (view_short x)) ≡ done (plain (view_short n))) }
+{
+    match form {
+        OneForm::Neg if is_integer(x.kind) => Some(negated(x)),
+        OneForm::Not if x.kind == Kind::Bool => Some(contrary(x)),
+        OneForm::Cast(kind) if is_integer(*kind) => Some(cast(*kind, x)),
+        _ => None,
+    }
+}

@@ -1,0 +1,46 @@
+//! The names that the rows of a block see.
+
+ghost use Rattle.std.specs.Prelude.{◌≡◌, ◌∷◌, ℕ};
+ghost use Rattle.weld_meaning.specs.Thing.{plain};
+ghost use Rattle.weld_blocks.specs.Numbers.{number_at};
+ghost use Rattle.weld_blocks.specs.Scope.{scope_env, row_env};
+
+use crate::numbers::Numbers;
+use weld_eval::frame::Frame;
+use weld_eval::legs::Legs;
+use weld_eval::thing::Owned;
+use weld_tree::Sym;
+
+/// The rows of a loop from a number on: the names outside, what the loop's own builder's name stands for, the legs, and the
+/// names of the builder, the row's number and the row.
+#[derive(Clone, Copy)]
+pub struct Rows<'a> {
+    pub frame: &'a Frame<'a>,
+    pub own: &'a Owned,
+    pub legs: &'a Legs<'a>,
+    pub own_name: Sym,
+    pub count_name: Sym,
+    pub row_name: Sym,
+    pub from: usize,
+}
+
+/// The names of such rows, and of numbers that were bound since, the newest first.
+#[derive(Clone, Copy)]
+pub enum Scope<'a> {
+    Rows(&'a Rows<'a>),
+    Number(Sym, &'a Numbers, &'a Scope<'a>),
+}
+
+/// The names of rows. It takes no memory.
+pub(crate) fn of_rows<'a>(rows: &'a Rows<'a>) -> Scope<'a>
+    ensures { (place : ℕ) → scope_env result place ≡ row_env rows.now place }
+{
+    Scope::Rows(rows)
+}
+
+/// The names with one more, which stands for numbers. It takes no memory.
+pub(crate) fn with_numbers<'a>(name: Sym, numbers: &'a Numbers, rest: &'a Scope<'a>) -> Scope<'a>
+    ensures { (place : ℕ) → scope_env result place ≡ (name.0, plain (number_at numbers.now place)) ∷ scope_env rest.now place }
+{
+    Scope::Number(name, numbers, rest)
+}
