@@ -1,14 +1,7 @@
 -- The vectors of legs as a chain.
-use Rattle.std.proofs.Common.{◌≡◌, ℕ, zero, suc, ◌+◌, ◌-◌, ◌<◌, ◌≤◌, List, [], ◌∷◌, ◌++◌, length, map, take, get_or, refl, sym, ap, ◌∙◌, Result, Ok, Err, subst, append_assoc, append-nil, arith}
-use Rattle.weld_data.specs.declared.stop.Stop.{Stop}
-use Rattle.weld_data.specs.declared.stop.Stop.TheVariants.{Fault, Memory}
-use Rattle.weld_acts.specs.Ranges.{RangeAnswer, range_over}
-use Rattle.weld_tiles.specs.declared.tile.Tile.{Tile}
-use Rattle.weld_exec.specs.Run.{ActionAnswer}
-use Rattle.weld_data.specs.Value.{Value, list, values, list_of_values, Values}
-use Rattle.weld_tree.specs.ExprTree.{ExprTree}
-use Rattle.weld_meaning.specs.Thing.{Thing, plain, bare_thing}
-use Rattle.weld_meaning.specs.Evaluation.{Env}
+use Rattle.std.proofs.Common.{◌≡◌, ℕ, zero, suc, ◌-◌, ◌<◌, ◌≤◌, List, [], ◌∷◌, ◌++◌, length, take, get_or, refl, sym, ap, ◌∙◌, subst, append_assoc, append-nil, arith}
+use Rattle.weld_data.specs.Value.{Value, list, values, list_of_values}
+use Rattle.weld_meaning.specs.Thing.{Thing, plain}
 use Rattle.weld_eval.specs.declared.thing.Held.{Held}
 use Rattle.weld_eval.specs.ThingView.{held_of}
 use Rattle.weld_eval_forms.specs.Legs.{elements_in, elements_of_thing, leg_lists, IsVector, AreVectors}
@@ -51,11 +44,3 @@ take_all (h ∷ hs) = ap (λ l. h ∷ l) (take_all hs)
 pub all_lists : (hs ks : List Held) (n : ℕ) (ls : List (List Value)) → ks ≡ hs → n ≡ length hs → leg_lists hs ≡ ls → leg_lists (take n ks) ++ [] ≡ ls
 all_lists hs ks n ls same long is =
     append-nil (leg_lists (take n ks)) ∙ ap (λ k. leg_lists (take n k)) same ∙ ap (λ m. leg_lists (take m hs)) long ∙ ap (λ k. leg_lists k) (take_all hs) ∙ is
-
--- what the rows of a tile answer, by the lists and the builder of the evaluation
-pub tile_lists : (n : ExprTree) (env : Env) (ls ms : List (List Value)) (tile : Tile) (x s : Thing) → ls ≡ ms → x ≡ bare_thing s → range_over n env ms tile.lo tile.hi (bare_thing s) ≡ range_over n env ls tile.lo tile.hi x
-tile_lists n env ls ms tile x s same is = ap (λ l. range_over n env l tile.lo tile.hi (bare_thing s)) (sym same) ∙ ap (λ y. range_over n env ls tile.lo tile.hi y) (sym is)
-
-pub tile_stop : (T : Type 0) (stop : Stop) (n : ExprTree) (env : Env) (ls ms : List (List Value)) (tile : Tile) (x y s : Thing) → ls ≡ ms → x ≡ bare_thing s → RangeAnswer {T = T} (Err stop) (record { node = n; names = env; lists = ls; start = x }) tile.lo tile.hi x y → ActionAnswer (Err stop) n env ms s tile
-tile_stop T Fault n env ls ms tile x y s same is h = tile_lists n env ls ms tile x s same is ∙ h
-tile_stop T Memory n env ls ms tile x y s same is h = tt

@@ -1,5 +1,5 @@
 -- The tiles of the loop at which a run stands, and what goes behind it.
-use Rattle.std.proofs.Common.{◌≡◌, ℕ, ◌+◌, ◌<◌, ◌≤◌, List, length, slice_get, Some, Err, sym, ap, ◌∙◌, subst, arith}
+use Rattle.std.proofs.Common.{◌≡◌, ℕ, ◌+◌, ◌<◌, ◌≤◌, List, length, slice_get, Some, Result, Ok, Err, sym, ap, ◌∙◌, subst, arith}
 use Rattle.weld_data.specs.Value.{Value}
 use Rattle.weld_data.specs.declared.stop.Stop.{Stop}
 use Rattle.weld_data.specs.declared.stop.Stop.TheVariants.{Fault, Memory}
@@ -23,7 +23,7 @@ use Rattle.weld_plan.specs.Leads.{IsLoopAt, below_loop, loop_lists, Leads}
 use Rattle.weld_plan.specs.PlanView.{view_steps}
 use Rattle.weld_plan.specs.declared.plan.Plan.{Plan}
 use Rattle.weld_exec.specs.Stacked.{IsSomething, HasPile, AreThereAt}
-use Rattle.weld_exec.specs.Run.{IsLoopNext, node_of, evaluation_of, rows_at, arguments_of, locals, scope, body_outcome, program_meaning, steps_left, rest_left, AtLoop, ActionAnswer}
+use Rattle.weld_exec.specs.Run.{IsLoopNext, node_of, evaluation_of, rows_at, arguments_of, locals, scope, body_outcome, program_meaning, steps_left, rest_left, AtLoop, TileAnswer}
 use Rattle.weld_exec.specs.declared.env.Env.{Env as State}
 use Rattle.weld_exec.proofs.Looping.{loop_means, loop_next, goes_done, goes_fault, tail_of}
 
@@ -76,31 +76,30 @@ begins p e at s h is = subst (IsSoFar (evaluation_of p e) 0) (sym is) (so_far_st
 pub tile_of : (p : Plan) (e : State) (at : LoopId) (lo hi : ℕ) → AtLoop p e at → lo ≤ hi → hi ≤ rows_at e → IsTileOf (evaluation_of p e) lo hi
 tile_of p e at lo hi h low high = record { count = rows_at e; holds = h.holds; ordered = low; within = high }
 
-pub tile_ready : (p : Plan) (e : State) (at : LoopId) (n : ExprTree) (g : Env) (s : Thing) (pile : Things) (lo hi : ℕ) → AtLoop p e at → lo ≤ hi → hi ≤ rows_at e → n ≡ node_of p e → g ≡ scope p e → things_of e.stack ≡ more_things s pile
-    → HoldsRange n g (loop_lists n g pile) lo hi (bare_thing s)
-tile_ready p e at n g s pile lo hi h low high is gs st =
-    subst (λ d. HoldsRange d g (loop_lists d g pile) lo hi (bare_thing s)) (sym is)
-    (subst (λ k. HoldsRange (node_of p e) k (loop_lists (node_of p e) k pile) lo hi (bare_thing s)) (sym gs)
-    (subst (λ u. HoldsRange (node_of p e) (scope p e) (loop_lists (node_of p e) (scope p e) (rest_of u)) lo hi (bare_thing (first_of u))) st (tile_holds (evaluation_of p e) (rows_at e) lo hi h.holds low high)))
-
 pub pile_ready : (p : Plan) (e : State) (at : LoopId) (n : ExprTree) (g : Env) (s : Thing) (pile : Things) → AtLoop p e at → n ≡ node_of p e → g ≡ scope p e → things_of e.stack ≡ more_things s pile → HasPile n g pile
 pile_ready p e at n g s pile h is gs st =
     subst (λ d. HasPile d g pile) (sym is) (subst (λ k. HasPile (node_of p e) k pile) (sym gs) (subst (λ u. HasPile (node_of p e) (scope p e) (rest_of u)) st (has_pile (node_of p e) (scope p e) (first_of (things_of e.stack)) (rest_of (things_of e.stack)) h.is_loop)))
 
-same_range : (p : Plan) (e : State) (n : ExprTree) (g : Env) (s : Thing) (pile : Things) (lo hi : ℕ) → n ≡ node_of p e → g ≡ scope p e → things_of e.stack ≡ more_things s pile
-    → range_over (node_of p e) (scope p e) (loop_lists (node_of p e) (scope p e) (rest_of (things_of e.stack))) lo hi (bare_thing (first_of (things_of e.stack))) ≡ range_over n g (loop_lists n g pile) lo hi (bare_thing s)
-same_range p e n g s pile lo hi is gs st =
-    ap (λ u. range_over (node_of p e) (scope p e) (loop_lists (node_of p e) (scope p e) (rest_of u)) lo hi (bare_thing (first_of u))) st
-    ∙ ap (λ k. range_over (node_of p e) k (loop_lists (node_of p e) k pile) lo hi (bare_thing s)) (sym gs)
-    ∙ ap (λ d. range_over d g (loop_lists d g pile) lo hi (bare_thing s)) (sym is)
+-- the rows of the evaluation at which the run stands, by what stands there
+range_same : (p : Plan) (e : State) (n : ExprTree) (g : Env) (s x : Thing) (pile : Things) (lo hi : ℕ) → n ≡ node_of p e → g ≡ scope p e → things_of e.stack ≡ more_things s pile
+    → range_over (node_of p e) (scope p e) (loop_lists (node_of p e) (scope p e) (rest_of (things_of e.stack))) lo hi x ≡ range_over n g (loop_lists n g pile) lo hi x
+range_same p e n g s x pile lo hi is gs st =
+    ap (λ u. range_over (node_of p e) (scope p e) (loop_lists (node_of p e) (scope p e) (rest_of u)) lo hi x) st
+    ∙ ap (λ k. range_over (node_of p e) k (loop_lists (node_of p e) k pile) lo hi x) (sym gs)
+    ∙ ap (λ d. range_over d g (loop_lists d g pile) lo hi x) (sym is)
 
-pub action_is : (p : Plan) (e : State) (n : ExprTree) (g : Env) (s d : Thing) (pile : Things) (lo hi : ℕ) → n ≡ node_of p e → g ≡ scope p e → things_of e.stack ≡ more_things s pile → range_over n g (loop_lists n g pile) lo hi (bare_thing s) ≡ done d
-    → IsAction (evaluation_of p e) lo hi d
-action_is p e n g s d pile lo hi is gs st q = same_range p e n g s pile lo hi is gs st ∙ q
+pub range_ready : (p : Plan) (e : State) (n : ExprTree) (g : Env) (s x : Thing) (pile : Things) (lo hi : ℕ) → n ≡ node_of p e → g ≡ scope p e → things_of e.stack ≡ more_things s pile
+    → HoldsRange (node_of p e) (scope p e) (loop_lists (node_of p e) (scope p e) (rest_of (things_of e.stack))) lo hi x → HoldsRange n g (loop_lists n g pile) lo hi x
+range_ready p e n g s x pile lo hi is gs st h =
+    subst (λ d. HoldsRange d g (loop_lists d g pile) lo hi x) (sym is)
+    (subst (λ k. HoldsRange (node_of p e) k (loop_lists (node_of p e) k pile) lo hi x) (sym gs)
+    (subst (λ u. HoldsRange (node_of p e) (scope p e) (loop_lists (node_of p e) (scope p e) (rest_of u)) lo hi x) st h))
 
-pub action_fault : (p : Plan) (e : State) (n : ExprTree) (g : Env) (s : Thing) (pile : Things) (lo hi : ℕ) → n ≡ node_of p e → g ≡ scope p e → things_of e.stack ≡ more_things s pile → range_over n g (loop_lists n g pile) lo hi (bare_thing s) ≡ fault
-    → range_over (node_of p e) (scope p e) (loop_lists (node_of p e) (scope p e) (rest_of (things_of e.stack))) lo hi (bare_thing (first_of (things_of e.stack))) ≡ fault
-action_fault p e n g s pile lo hi is gs st q = same_range p e n g s pile lo hi is gs st ∙ q
+pub range_answers : (T : Type 0) (r : Result T Stop) (p : Plan) (e : State) (n : ExprTree) (g : Env) (s x y : Thing) (pile : Things) (lo hi : ℕ) → n ≡ node_of p e → g ≡ scope p e → things_of e.stack ≡ more_things s pile
+    → RangeAnswer {T = T} r (record { node = n; names = g; lists = loop_lists n g pile; start = x }) lo hi x y → RangeAnswer {T = T} r (evaluation_of p e) lo hi x y
+range_answers T (Ok v) p e n g s x y pile lo hi is gs st h = range_same p e n g s x pile lo hi is gs st ∙ h
+range_answers T (Err Fault) p e n g s x y pile lo hi is gs st h = range_same p e n g s x pile lo hi is gs st ∙ h
+range_answers T (Err Memory) p e n g s x y pile lo hi is gs st h = tt
 
 pub tile_means : (p : Plan) (e : State) (at : LoopId) (lo hi : ℕ) → AtLoop p e at → lo ≤ hi → hi ≤ rows_at e → range_over (node_of p e) (scope p e) (loop_lists (node_of p e) (scope p e) (rest_of (things_of e.stack))) lo hi (bare_thing (first_of (things_of e.stack))) ≡ fault
     → program_meaning p e ≡ fault
@@ -109,10 +108,24 @@ tile_means p e at lo hi h low high q =
     ap value_out (goes_fault (λ t. Leads h.rest 0 (arguments_of p e) (locals e) (more_things t (below_loop ev.node (rest_of (things_of e.stack)))) (body_outcome p e)) (eval ev.node ev.names) (body_outcome p e) h.goes_on
     (loop_means ev.node ev.names ev.start (rest_of (things_of e.stack)) h.is_loop ∙ loop_faults ev (rows_at e) lo hi h.holds.rows h.holds h.holds.are h.counted low high q))
 
-pub tile_stop : (T : Type 0) (stop : Stop) (p : Plan) (e : State) (at : LoopId) (n : ExprTree) (g : Env) (s : Thing) (pile : Things) (tile : Tile) → AtLoop p e at → tile.lo ≤ tile.hi → tile.hi ≤ rows_at e → n ≡ node_of p e → g ≡ scope p e → things_of e.stack ≡ more_things s pile
-    → ActionAnswer (Err stop) n g (loop_lists n g pile) s tile → OnFault {T = T} (Err stop) (program_meaning p e ≡ fault)
-tile_stop T Fault p e at n g s pile tile h low high is gs st q = tile_means p e at tile.lo tile.hi h low high (action_fault p e n g s pile tile.lo tile.hi is gs st q)
-tile_stop T Memory p e at n g s pile tile h low high is gs st q = tt
+-- what lets rows be run from the builder that has nothing merged
+pub bare_ready : (p : Plan) (e : State) (at : LoopId) (x : Thing) (lo hi : ℕ) → AtLoop p e at → lo ≤ hi → hi ≤ rows_at e → x ≡ bare_thing (evaluation_of p e).start
+    → HoldsRange (evaluation_of p e).node (evaluation_of p e).names (evaluation_of p e).lists lo hi x
+bare_ready p e at x lo hi h low high is =
+    subst (λ s. HoldsRange (evaluation_of p e).node (evaluation_of p e).names (evaluation_of p e).lists lo hi s) (sym is) (tile_holds (evaluation_of p e) (rows_at e) lo hi h.holds low high)
+
+pub bare_action : (p : Plan) (e : State) (x d : Thing) (lo hi : ℕ) → x ≡ bare_thing (evaluation_of p e).start → range_over (evaluation_of p e).node (evaluation_of p e).names (evaluation_of p e).lists lo hi x ≡ done d → IsAction (evaluation_of p e) lo hi d
+bare_action p e x d lo hi is q = ap (λ s. range_over (evaluation_of p e).node (evaluation_of p e).names (evaluation_of p e).lists lo hi s) (sym is) ∙ q
+
+-- where they stop
+pub bare_answers : (T : Type 0) (stop : Stop) (p : Plan) (e : State) (x y : Thing) (tile : Tile) → x ≡ bare_thing (evaluation_of p e).start → RangeAnswer {T = T} (Err stop) (evaluation_of p e) tile.lo tile.hi x y → TileAnswer (Err stop) (evaluation_of p e) tile
+bare_answers T Fault p e x y tile is q = ap (λ s. range_over (evaluation_of p e).node (evaluation_of p e).names (evaluation_of p e).lists tile.lo tile.hi s) (sym is) ∙ q
+bare_answers T Memory p e x y tile is q = tt
+
+pub bare_stops : (T U : Type 0) (stop : Stop) (p : Plan) (e : State) (at : LoopId) (x y : Thing) (lo hi : ℕ) → AtLoop p e at → lo ≤ hi → hi ≤ rows_at e → x ≡ bare_thing (evaluation_of p e).start
+    → RangeAnswer {T = T} (Err stop) (evaluation_of p e) lo hi x y → OnFault {T = U} (Err stop) (program_meaning p e ≡ fault)
+bare_stops T U Fault p e at x y lo hi h low high is q = tile_means p e at lo hi h low high (ap (λ s. range_over (evaluation_of p e).node (evaluation_of p e).names (evaluation_of p e).lists lo hi s) (sym is) ∙ q)
+bare_stops T U Memory p e at x y lo hi h low high is q = tt
 
 -- ---- rows of a range
 

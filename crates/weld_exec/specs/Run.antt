@@ -11,13 +11,12 @@ use Rattle.weld_meaning.specs.Thing.{Thing, more_things, first_of, rest_of, bare
 use Rattle.weld_meaning.specs.Evaluation.{Env, eval}
 use Rattle.weld_meaning.specs.Meaning.{with_arguments, meaning}
 use Rattle.weld_eval.specs.NamesView.{env_of_names}
-use Rattle.weld_eval.specs.ThingView.{thing_of, things_of}
+use Rattle.weld_eval.specs.ThingView.{things_of}
 use Rattle.weld_acts.specs.Ranges.{Evaluation, HoldsRange, IsAction, range_over}
 use Rattle.weld_tiles.specs.declared.tile.Tile.{Tile}
 use Rattle.weld_tile_parts.specs.declared.piece.TilePart.{TilePart}
 use Rattle.weld_tile_parts.specs.declared.piece.Piece.{Piece}
 use Rattle.weld_tile_parts.specs.Parts.{part_thing, part_evaluation, piece_thing, piece_evaluation}
-use Rattle.weld_eval.specs.declared.thing.Owned.{Owned}
 use Rattle.weld_plan.specs.StepTree.{StepTree, run_loop}
 use Rattle.weld_plan.specs.Leads.{GoesOn, IsLoopAt, below_loop, loop_lists, Leads}
 use Rattle.weld_plan.specs.PlanView.{view_steps, IsPlan}
@@ -131,12 +130,6 @@ abbrev pub PieceAnswer : Result Piece Stop → Evaluation → Tile → Type 0
 PieceAnswer (Ok piece) ev tile = IsAction ev tile.lo tile.hi (piece_thing piece) × (piece.tile ≡ tile) × (piece_evaluation piece ≡ ev)
 PieceAnswer (Err Fault) ev tile = range_over ev.node ev.names ev.lists tile.lo tile.hi (bare_thing ev.start) ≡ fault
 PieceAnswer (Err Memory) ev tile = Unit {0}
-
--- what the rows of a tile answer
-abbrev pub ActionAnswer : Result Owned Stop → ExprTree → Env → List (List Value) → Thing → Tile → Type 0
-ActionAnswer (Ok x) n env lists start tile = range_over n env lists tile.lo tile.hi (bare_thing start) ≡ done (thing_of x)
-ActionAnswer (Err Fault) n env lists start tile = range_over n env lists tile.lo tile.hi (bare_thing start) ≡ fault
-ActionAnswer (Err Memory) n env lists start tile = Unit {0}
 
 -- ---- steps
 

@@ -11,4 +11,4 @@ mod steps;
 pub mod tile;
 
 pub use env::{Env, Next};
-pub use tile::{run_tile, tile_part};
+pub use tile::{bare_part, part_of, run_in, run_tile, tile_part};

@@ -18,10 +18,35 @@ use weld_rows::run_range;
 use weld_tiles::Tile;
 use weld_tree::Expr;
 
-/// Hands a builder through the rows of a tile, over these vectors before those of further legs. After a stop it is
-/// only good to be dropped.
+/// Hands a builder through the rows of a tile, over these vectors. After a stop it is only good to be dropped.
+pub(crate) fn run_rows(
+    node: &Expr,
+    frame: &Frame,
+    vectors: &[Held],
+    tile: Tile,
+    builder: &mut Owned,
+    alloc: Global,
+) -> Result<(), Stop>
+    requires vectors { AreVectors vectors.now }
+    requires holds { HoldsRange node.now (env_of frame.now) (leg_lists vectors.now) tile.lo tile.hi (thing_of builder.old) }
+    ensures { RangeAnswer result (record { node = node.now; names = env_of frame.now; lists = leg_lists vectors.now; start = thing_of builder.old }) tile.lo tile.hi (thing_of builder.old) (thing_of builder.new) }
+{
+    let end = no_legs();
+    run_tile_rows(
+        node,
+        frame,
+        vectors,
+        vectors.len(),
+        &end,
+        tile,
+        builder,
+        alloc,
+    )
+}
+
+/// The same over these vectors before those of further legs.
 #[tactic(auto, using(crate::proofs::Ranges::vector_at, crate::proofs::Ranges::none_taken, crate::proofs::Ranges::one_taken))]
-pub(crate) fn run_tile_rows(
+fn run_tile_rows(
     node: &Expr,
     frame: &Frame,
     vectors: &[Held],
@@ -63,7 +88,7 @@ pub(crate) fn run_tile_rows(
 }
 
 /// No legs. It takes no memory.
-pub(crate) fn no_legs<'a>() -> Legs<'a>
+fn no_legs<'a>() -> Legs<'a>
     ensures { lists_of result ≡ [] }
 {
     Legs::End

@@ -1,8 +1,8 @@
 //! The tiles of a loop.
 
-ghost use Rattle.std.specs.Prelude.{◌≡◌, ◌≤◌};
+ghost use Rattle.std.specs.Prelude.{◌≡◌, ◌≤◌, IfOk};
 ghost use Rattle.weld_builders.specs.Outcome.{fault};
-ghost use Rattle.weld_acts.specs.Ranges.{Evaluation, IsAction, HoldsRange};
+ghost use Rattle.weld_acts.specs.Ranges.{Evaluation, IsAction, HoldsRange, RangeAnswer};
 ghost use Rattle.weld_eval.specs.FrameView.{env_of};
 ghost use Rattle.weld_eval.specs.ThingView.{thing_of, things_of};
 ghost use Rattle.weld_eval_values.specs.Answers.{OnFault};
@@ -11,13 +11,13 @@ ghost use Rattle.weld_tile_parts.specs.Kept.{IsTileOf};
 ghost use Rattle.weld_tile_parts.specs.Parts.{part_thing, part_evaluation};
 ghost use Rattle.weld_exec.specs.Stacked.{HasPile};
 ghost use Rattle.weld_meaning.specs.Thing.{bare_thing as bare_of};
-ghost use Rattle.weld_exec.specs.Run.{AtLoop, evaluation_of, rows_at, program_meaning, TileAnswer, PieceAnswer, ActionAnswer};
+ghost use Rattle.weld_exec.specs.Run.{AtLoop, evaluation_of, rows_at, program_meaning, TileAnswer, PieceAnswer};
 
 use crate::env::{Env, loop_at};
 use crate::evaluate::{parameters, within};
 use crate::gather::vectors_of;
-use crate::range::{no_legs, run_tile_rows};
-use std::alloc::Global;
+use crate::range::run_rows;
+use std::alloc::{AllocError, Global};
 use weld_data::Stop;
 use weld_eval::frame::Frame;
 use weld_eval::thing::{Fields, Owned, bare_thing};
@@ -42,16 +42,16 @@ pub fn tile_part(
     ensures action { TileAnswer result (evaluation_of plan.now env.now) tile }
     ensures means { OnFault result (program_meaning plan.now env.now ≡ fault) }
 {
-    let _at = at;
-    let node = loop_at(plan, env.at);
-    let base = parameters(plan.program, env.inputs);
-    let frame = within(&env.names, &base);
-    match &env.stack {
-        Fields::And(start, pile) => match over_tile(node, &frame, start, pile, tile, alloc) {
-            Ok(part) => Ok(part_of(plan, env, tile, part)),
-            Err(stop) => Err(stop),
-        },
-        Fields::End => unreachable!(),
+    let mut part = match bare_part(plan, env, at, alloc) {
+        Ok(part) => part,
+        Err(_) => return Err(Stop::Memory),
+    };
+    match run_in(alloc, plan, env, at, tile, &mut part) {
+        Ok(()) => Ok(part_of(plan, env, at, tile, part)),
+        Err(stop) => {
+            let_go(part);
+            Err(stop)
+        }
     }
 }
 
@@ -75,51 +75,82 @@ pub fn run_tile(
     }
 }
 
-/// What the rows of a tile make of the builder that has nothing merged.
-fn over_tile<'a>(
+/// The builder that has nothing merged, of the loop at which the run stands.
+pub fn bare_part(plan: &Plan, env: &Env, at: LoopId, alloc: Global) -> Result<Owned, AllocError>
+    requires { AtLoop plan.now env.now at }
+    ensures { IfOk result (λ part. thing_of part ≡ bare_of (evaluation_of plan.now env.now).start) }
+{
+    let _plan = plan;
+    let _at = at;
+    match &env.stack {
+        Fields::And(start, _) => bare_thing(start, alloc),
+        Fields::End => unreachable!(),
+    }
+}
+
+/// Hands a builder through the rows of a tile of the loop at which the run stands. It faults exactly where one of them does.
+/// After a stop the builder is only good to be dropped.
+pub fn run_in(
+    alloc: Global,
+    plan: &Plan,
+    env: &Env,
+    at: LoopId,
+    tile: Tile,
+    part: &mut Owned,
+) -> Result<(), Stop>
+    requires at { AtLoop plan.now env.now at }
+    requires holds { HoldsRange (evaluation_of plan.now env.now).node (evaluation_of plan.now env.now).names (evaluation_of plan.now env.now).lists tile.lo tile.hi (thing_of part.old) }
+    ensures { RangeAnswer result (evaluation_of plan.now env.now) tile.lo tile.hi (thing_of part.old) (thing_of part.new) }
+{
+    let _at = at;
+    let node = loop_at(plan, env.at);
+    let base = parameters(plan.program, env.inputs);
+    let frame = within(&env.names, &base);
+    match &env.stack {
+        Fields::And(_, pile) => over_pile(node, &frame, pile, tile, part, alloc),
+        Fields::End => unreachable!(),
+    }
+}
+
+/// The same, over the vectors of the loop's legs, which stand in the pile or are read where they stand.
+fn over_pile<'a>(
     node: &Expr,
     frame: &'a Frame<'a>,
-    start: &Owned,
     pile: &'a Fields,
     tile: Tile,
+    part: &mut Owned,
     alloc: Global,
-) -> Result<Owned, Stop>
+) -> Result<(), Stop>
     requires pile { HasPile node.now (env_of frame.now) (things_of pile.now) }
-    requires holds { HoldsRange node.now (env_of frame.now) (loop_lists node.now (env_of frame.now) (things_of pile.now)) tile.lo tile.hi (bare_of (thing_of start.now)) }
-    ensures { ActionAnswer result node.now (env_of frame.now) (loop_lists node.now (env_of frame.now) (things_of pile.now)) (thing_of start.now) tile }
+    requires holds { HoldsRange node.now (env_of frame.now) (loop_lists node.now (env_of frame.now) (things_of pile.now)) tile.lo tile.hi (thing_of part.old) }
+    ensures { RangeAnswer result (record { node = node.now; names = env_of frame.now; lists = loop_lists node.now (env_of frame.now) (things_of pile.now); start = thing_of part.old }) tile.lo tile.hi (thing_of part.old) (thing_of part.new) }
 {
-    let vectors = match vectors_of(node, pile, frame, alloc) {
-        Ok(vectors) => vectors,
-        Err(stop) => return Err(stop),
-    };
-    let mut part = match bare_thing(start, alloc) {
-        Ok(part) => part,
-        Err(_) => return Err(Stop::Memory),
-    };
-    let end = no_legs();
-    match run_tile_rows(
-        node,
-        &*frame,
-        &vectors,
-        vectors.len(),
-        &end,
-        tile,
-        &mut part,
-        alloc,
-    ) {
-        Ok(()) => Ok(part),
-        Err(stop) => {
-            let_go(part);
-            Err(stop)
-        }
+    match vectors_of(node, pile, frame, alloc) {
+        Ok(vectors) => run_rows(node, &*frame, &vectors, tile, part, alloc),
+        Err(stop) => Err(stop),
     }
 }
 
 /// Lets a builder go.
 fn let_go(_builder: Owned) {}
 
-/// The part of a tile of the evaluation at which the run stands. It takes no memory.
-fn part_of(_plan: &Plan, _env: &Env, tile: Tile, thing: Owned) -> TilePart
+/// The part of rows of the loop at which the run stands, which is what they make of the builder that has nothing merged. It
+/// takes no memory.
+pub fn part_of(plan: &Plan, env: &Env, at: LoopId, tile: Tile, thing: Owned) -> TilePart
+    requires at { AtLoop plan.now env.now at }
+    requires ordered { tile.lo ≤ tile.hi }
+    requires within { tile.hi ≤ rows_at env.now }
+    requires action { IsAction (evaluation_of plan.now env.now) tile.lo tile.hi (thing_of thing) }
+    ensures tile { result.tile ≡ tile }
+    ensures thing { part_thing result ≡ thing_of thing }
+    ensures evaluation { part_evaluation result ≡ evaluation_of plan.now env.now }
+{
+    let _at = at;
+    part_in(plan, env, tile, thing)
+}
+
+/// The part of a tile of an evaluation. It takes no memory.
+fn part_in(_plan: &Plan, _env: &Env, tile: Tile, thing: Owned) -> TilePart
     ghost at: { Evaluation }
     requires tile { IsTileOf at tile.lo tile.hi }
     requires action { IsAction at tile.lo tile.hi (thing_of thing) }

@@ -1,4 +1,6 @@
 mod Counting
+mod Cutting
 mod Following
 mod Sent
 mod Shared
+mod Stretching

@@ -1,4 +1,4 @@
--- Threads may share a plan, where its run stands, and what runs the tiles of a loop.
+-- Threads may share a plan, where its run stands, what runs the stretches of a loop, and these.
 use denote.Ref.{NamedLft, ShrRef}
 use denote.Struct.Field.{shr_ref_field, row_field}
 use denote.Param.Send.{IsSync, view_sync, shr_sync, sendable}
@@ -33,7 +33,9 @@ use Rattle.weld_data.proofs.kind.Kind.TheSendSync as Kinds
 use Rattle.weld_data.proofs.op.MergeOp.TheSendSync as MergeOps
 use Rattle.weld_data.proofs.value.Pairs.TheLaws.TheKnot
 use denote.RattleType.{RattleType}
+use Rattle.weld_share.specs.contracts.stretch.Stretch as Stretch
 use Rattle.weld_share.specs.contracts.tiled.Tiled as Tiled
+use Rattle.weld_tiles.proofs.tile.Tile.TheSendSync as TileSends
 use Rattle.weld_data.proofs.op.BinOp.TheSendSync as BinOps
 use Rattle.weld_data.proofs.num.Num.TheSendSync as Nums
 use Rattle.weld_data.proofs.text.Text.TheSendSync as Texts
@@ -129,8 +131,12 @@ step_sync ℓ = search (Crossing.crosses, expr_sync, one_form_sync, leaves, send
 plan_sync : (ℓ : NamedLft) → IsSync (Plan.the_row ℓ)
 plan_sync ℓ = search (Crossing.crosses, program_sync, step_sync, sendable) depth 60 fits 100000
 
--- any thread may run the tiles of a loop
+-- any thread may run the stretches of a loop
 pub tiled_sync : (ℓ κ : NamedLft) (G : RattleType) → IsSync G → IsSync (Tiled.the_row ℓ κ G)
 tiled_sync ℓ κ G s =
     declared_sync (Tiled.the_type ℓ κ G)
     (Globals.the_sync, (as_row_sync (shr_ref_field ℓ (Plan.the_row κ) tt) (shr_sync _ _ _ (plan_sync κ)), (as_row_sync (shr_ref_field ℓ (Env.the_row κ) tt) (shr_sync _ _ _ (env_sync κ)), (LoopIds.the_sync, (as_row_sync (row_field (ShrRef ℓ.mir ℓ.lft G)) (shr_sync _ _ _ s), tt)))))
+
+-- and see them
+pub stretch_sync : (ℓ : NamedLft) → IsSync (Stretch.the_row ℓ)
+stretch_sync ℓ = search (Crossing.crosses, TileSends.the_field_sync, TileSends.the_sync, sendable) depth 60 fits 100000

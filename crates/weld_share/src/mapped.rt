@@ -18,9 +18,9 @@ use weld_plan::Plan;
 use weld_ports::Gate;
 
 /// The value of the plan's program on inputs of its parameters' types, and what the run counted. The rows of each shared loop
-/// are cut into tiles of at most `cut` rows; these are mapped over the processors, and what they make is joined in their
-/// order. The gate is told of each tile before it is run. `workers` chooses nothing. It faults exactly where the meaning is a
-/// fault. It may want memory. What is counted is the same for all workers.
+/// are cut into tiles of at most `cut` rows. Stretches of neighbouring tiles, as many at a time as there are `workers`, are
+/// mapped over the processors, and what they make is joined in their order. The gate is told of each tile before it is run. It
+/// faults exactly where the meaning is a fault. It may want memory. What is counted is the same for all workers.
 pub fn run_mapped<G: Gate>(
     rt: &(impl Threads + Sync),
     alloc: Global,
@@ -38,7 +38,6 @@ pub fn run_mapped<G: Gate>(
     ensures value { Answers (λ r. view_val r.0) result (meaning plan.now.program.now inputs.now) }
     ensures note { IfOk result (λ r. IsNote plan.now.program.now inputs.now cut r.1) }
 {
-    let _workers = workers;
     let mut env = match Env::new(alloc, plan, inputs) {
         Ok(env) => env,
         Err(_) => return Err(Stop::Memory),
@@ -47,7 +46,9 @@ pub fn run_mapped<G: Gate>(
     loop {
         match env.advance(plan, alloc) {
             Ok(Next::Done(value)) => return Ok((value, note)),
-            Ok(Next::Loop(at)) => match run_loop(rt, alloc, plan, &mut env, at, cut, gate) {
+            Ok(Next::Loop(at)) => match run_loop(
+                rt, alloc, plan, &mut env, at, workers, cut, gate,
+            ) {
                 Ok((tiles, rows)) => {
                     note.tiles += tiles as u128;
                     note.turns += u128::from(rows);

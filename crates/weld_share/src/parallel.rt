@@ -1,51 +1,51 @@
-//! Tiles mapped over the processors.
+//! Stretches of tiles mapped over the processors.
 
 ghost use Rattle.std.specs.Prelude.{IfOk, All};
 ghost use Rattle.std.specs.List.{AllZip};
 ghost use Rattle.std.specs.declared.result.Result.{Result};
 ghost use Rattle.weld_data.specs.declared.stop.Stop.{Stop};
-ghost use Rattle.weld_tiles.specs.declared.tile.Tile.{Tile};
 ghost use Rattle.weld_tile_parts.specs.declared.piece.TilePart.{TilePart};
+ghost use Rattle.weld_share.specs.declared.stretch.Stretch.{Stretch};
 
+use crate::stretch::Stretch;
 use rayon::prelude::*;
 use std::alloc::{AllocError, Global};
 use std::thread::Threads;
 use weld_data::Stop;
 use weld_tile_parts::TilePart;
-use weld_tiles::Tile;
 
-/// What can run tiles, in any thread.
-pub(crate) trait RunsTiles: Sync {
-    // Holds of a tile that it can run.
-    ghost takes: { Self → Tile → Type 0 };
+/// What can run stretches, in any thread.
+pub(crate) trait RunsStretches: Sync {
+    // Holds of a stretch that it can run.
+    ghost takes: { Self → Stretch → Type 0 };
 
-    // Holds of a tile and what it may answer.
-    ghost answers: { Self → Tile → Result TilePart Stop → Type 0 };
+    // Holds of a stretch and what it may answer.
+    ghost answers: { Self → Stretch → Result TilePart Stop → Type 0 };
 
-    /// What the tile makes.
-    fn run(&self, tile: Tile) -> Result<TilePart, Stop>
-        requires { takes self.now tile }
-        ensures { answers self.now tile result };
+    /// What the rows of the stretch make.
+    fn run(&self, stretch: &Stretch) -> Result<TilePart, Stop>
+        requires { takes self.now stretch.now }
+        ensures { answers self.now stretch.now result };
 }
 
-/// What each tile makes, in order, the tiles mapped over the processors.
-pub(crate) fn map_tiles<T: RunsTiles>(
+/// What each stretch makes, in order, the stretches mapped over the processors. Where there is one alone, no thread is started.
+pub(crate) fn map_stretches<T: RunsStretches>(
     rt: &(impl Threads + Sync),
     alloc: Global,
     runs: &T,
-    tiles: &[Tile],
+    stretches: &[Stretch],
 ) -> Result<Vec<Result<TilePart, Stop>>, AllocError>
-    requires { All (T.takes runs.now) tiles.now }
-    ensures { IfOk result (λ answers. AllZip (T.answers runs.now) tiles.now answers.items) }
+    requires { All (T.takes runs.now) stretches.now }
+    ensures { IfOk result (λ answers. AllZip (T.answers runs.now) stretches.now answers.items) }
 {
-    tiles
+    stretches
         .par_iter()
         .with_min_len(1)
         .map(
-            |tile: &Tile| -> Result<TilePart, Stop>
-                requires { T.takes runs.now tile.now }
-                ensures { T.answers runs.entry.now tile.now result }
-            { runs.run(*tile) },
+            |stretch: &Stretch| -> Result<TilePart, Stop>
+                requires { T.takes runs.now stretch.now }
+                ensures { T.answers runs.entry.now stretch.now result }
+            { runs.run(stretch) },
         )
         .collect(rt, alloc)
 }

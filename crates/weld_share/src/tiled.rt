@@ -1,43 +1,29 @@
-//! One loop, by tiles that are run apart.
+//! One loop, by stretches of tiles that are run apart.
 
 ghost use Rattle.std.specs.Prelude.{◌≡◌, ◌∷◌, ◌≤◌, ◌<◌, ◌+◌, ◌^◌, ◌++◌, ℕ, IfOk, OnOk, All};
 ghost use Rattle.weld_builders.specs.Outcome.{fault};
 ghost use Rattle.weld_eval_values.specs.Answers.{OnFault};
-ghost use Rattle.weld_tiles.specs.Tiling.{Follows, IsRun, IsTiling};
+ghost use Rattle.weld_tiles.specs.Tiling.{Follows, IsTiling};
 ghost use Rattle.weld_tiles.specs.declared.tile.Tile.{Tile};
 ghost use Rattle.weld_tile_parts.specs.Parts.{joined_evaluation, IsWhole};
 ghost use Rattle.weld_exec.specs.Run.{env_inputs, program_meaning, IsReady, left_of, evaluation_of, rows_at, rows_left, AtLoop, TileAnswer};
 ghost use Rattle.weld_share.specs.Counts.{AreCut};
-ghost use Rattle.weld_share.specs.Mapped.{IsWithin, IsAnswer, AreAnswers};
+ghost use Rattle.weld_share.specs.Mapped.{IsAnswer, AreAnswers};
+ghost use Rattle.weld_share.specs.Stretches.{IsStretchOf, AreStretches};
 
-use crate::parallel::{RunsTiles, map_tiles};
+use crate::parallel::{RunsStretches, map_stretches};
+use crate::stretch::{Stretch, stretches};
 use std::alloc::Global;
 use std::thread::Threads;
 use weld_data::Stop;
-use weld_exec::{Env, tile_part};
+use weld_exec::{Env, bare_part, part_of, run_in};
 use weld_meaning::LoopId;
 use weld_plan::Plan;
 use weld_ports::Gate;
 use weld_tile_parts::{Joined, TilePart};
 use weld_tiles::{Tile, tiles};
 
-/// The least number of tiles that are run before what they make is joined. It is well above the number of processors, so that
-/// each can be busy.
-const BATCH: usize = 64;
-
-/// The rows that are run before what they make is joined, where more tiles than the least have them. What tiles make is held
-/// until then, so a batch is no larger; a small one would not be worth the start of its threads.
-const BATCH_ROWS: u32 = 262_144;
-
-/// How many tiles of at most so many rows are run before what they make is joined. It takes no memory.
-fn batch_size(cut: u32) -> usize
-    requires { 1 ≤ cut }
-    ensures { 1 ≤ result }
-{
-    BATCH.max((BATCH_ROWS / cut) as usize)
-}
-
-/// The loop at which a run stands, whose tiles any thread may run. The gate is told of each before it is run.
+/// The loop at which a run stands, whose stretches any thread may run. The gate is told of each tile before it is run.
 #[derive(Drop)]
 struct Tiled<'a, 'b, G> {
     alloc: Global,
@@ -47,24 +33,34 @@ struct Tiled<'a, 'b, G> {
     gate: &'a G,
 }
 
-impl<'a, 'b, G: Gate> RunsTiles for Tiled<'a, 'b, G> {
-    ghost takes = { λ r t. AtLoop r.plan.now r.env.now r.at × IsWithin (rows_at r.env.now) t };
+impl<'a, 'b, G: Gate> RunsStretches for Tiled<'a, 'b, G> {
+    ghost takes = { λ r s. AtLoop r.plan.now r.env.now r.at × IsStretchOf (rows_at r.env.now) s };
 
-    ghost answers = { λ r t answer. IsAnswer r.plan.now r.env.now t answer };
+    ghost answers = { λ r s answer. IsAnswer r.plan.now r.env.now s.whole answer };
 
-    fn run(&self, tile: Tile) -> Result<TilePart, Stop> {
-        self.gate.before(tile.number);
-        tile_part(self.alloc, self.plan, self.env, self.at, tile)
+    fn run(&self, stretch: &Stretch) -> Result<TilePart, Stop> {
+        let mut part = match bare_part(self.plan, self.env, self.at, self.alloc) {
+            Ok(part) => part,
+            Err(_) => return Err(Stop::Memory),
+        };
+        for tile in stretch.tiles {
+            self.gate.before(tile.number);
+            match run_in(self.alloc, self.plan, self.env, self.at, *tile, &mut part) {
+                Ok(()) => {}
+                Err(stop) => return Err(stop),
+            }
+        }
+        Ok(part_of(self.plan, self.env, self.at, stretch.whole, part))
     }
 }
 
-/// Joins what tiles have made, in their order, to the builder that has come to the first of them. The first stop in that order
-/// is the answer. `behind` are the tiles that come after these.
+/// Joins what stretches have made, in their order, to the builder that has come to the first of them. The first stop in that
+/// order is the answer. `behind` are the stretches that come after these.
 fn enter_all(
     plan: &Plan,
     env: &Env,
     answers: Vec<Result<TilePart, Stop>>,
-    behind: &[Tile],
+    behind: &[Stretch],
     mut joined: Joined,
 ) -> Result<Joined, Stop>
     requires whole { IsWhole joined }
@@ -72,7 +68,7 @@ fn enter_all(
     requires answers { AreAnswers plan.now env.now joined.next joined.end (rows_at env.now) behind.now answers.items }
     ensures whole { IfOk result (λ j. IsWhole j) }
     ensures evaluation { IfOk result (λ j. joined_evaluation j ≡ evaluation_of plan.now env.now) }
-    ensures behind { IfOk result (λ j. IsRun j.next j.end (rows_at env.now) behind.now) }
+    ensures behind { IfOk result (λ j. AreStretches j.next j.end (rows_at env.now) behind.now) }
     ensures fault { OnFault result (program_meaning plan.now env.now ≡ fault) }
 {
     let _behind = behind;
@@ -85,7 +81,7 @@ fn enter_all(
     Ok(joined)
 }
 
-/// Joins what the next tile has made.
+/// Joins what the next stretch has made.
 fn enter_one(
     plan: &Plan,
     env: &Env,
@@ -120,10 +116,13 @@ pub(crate) fn run_loop<G: Gate>(
     plan: &Plan,
     env: &mut Env,
     at: LoopId,
+    workers: u32,
     cut: u32,
     gate: &G,
 ) -> Result<(usize, u64), Stop>
     requires at { AtLoop plan.now env.old at }
+    requires some_worker { 1 ≤ workers }
+    requires workers { workers ≤ 64 }
     requires cut { 1 ≤ cut }
     ensures ready { OnOk result (IsReady plan.now env.new) }
     ensures left { OnOk result (left_of plan.now env.new < left_of plan.now env.old) }
@@ -138,7 +137,7 @@ pub(crate) fn run_loop<G: Gate>(
         Ok(list) => list,
         Err(_) => return Err(Stop::Memory),
     };
-    let joined = match join_tiles(rt, alloc, plan, &*env, at, list.as_slice(), cut, gate) {
+    let joined = match join_tiles(rt, alloc, plan, &*env, at, list.as_slice(), workers, gate) {
         Ok(joined) => joined,
         Err(stop) => return Err(stop),
     };
@@ -156,17 +155,26 @@ fn join_tiles<G: Gate>(
     env: &Env,
     at: LoopId,
     tiles: &[Tile],
-    cut: u32,
+    workers: u32,
     gate: &G,
 ) -> Result<Joined, Stop>
     requires at { AtLoop plan.now env.now at }
     requires tiling { IsTiling tiles.now (rows_at env.now) }
-    requires cut { 1 ≤ cut }
+    requires some_worker { 1 ≤ workers }
+    requires workers { workers ≤ 64 }
     ensures whole { IfOk result (λ j. IsWhole j) }
     ensures evaluation { IfOk result (λ j. joined_evaluation j ≡ evaluation_of plan.now env.now) }
     ensures all { IfOk result (λ j. j.end ≡ rows_at env.now) }
     ensures fault { OnFault result (program_meaning plan.now env.now ≡ fault) }
 {
+    let stretches = match stretches(alloc, tiles, env.rows_of(plan, at), workers) {
+        Ok(stretches) => stretches,
+        Err(_) => return Err(Stop::Memory),
+    };
+    let start = match env.begin(plan, at, alloc) {
+        Ok(start) => start,
+        Err(_) => return Err(Stop::Memory),
+    };
     let run = Tiled {
         alloc,
         plan,
@@ -174,42 +182,63 @@ fn join_tiles<G: Gate>(
         at,
         gate,
     };
-    let mut joined = match env.begin(plan, at, alloc) {
-        Ok(start) => start,
-        Err(_) => return Err(Stop::Memory),
-    };
-    let mut left = tiles;
-    'batches: while !left.is_empty() {
-        let (batch, behind) = left.split_at(left.len().min(batch_size(cut)));
-        joined = match join_batch(rt, alloc, &run, batch, behind, joined) {
+    join_stretches(rt, alloc, &run, &stretches, workers as usize, start)
+}
+
+/// The builder at the start, joined with what stretches make, of which so many are run before what they make is joined.
+fn join_stretches<G: Gate>(
+    rt: &(impl Threads + Sync),
+    alloc: Global,
+    run: &Tiled<G>,
+    stretches: &[Stretch],
+    batch_len: usize,
+    start: Joined,
+) -> Result<Joined, Stop>
+    requires at { AtLoop run.now.plan.now run.now.env.now run.now.at }
+    requires whole { IsWhole start }
+    requires evaluation { joined_evaluation start ≡ evaluation_of run.now.plan.now run.now.env.now }
+    requires stretches { AreStretches start.next start.end (rows_at run.now.env.now) stretches.now }
+    requires some { 1 ≤ batch_len }
+    ensures whole { IfOk result (λ j. IsWhole j) }
+    ensures evaluation { IfOk result (λ j. joined_evaluation j ≡ evaluation_of run.now.plan.now run.now.env.now) }
+    ensures all { IfOk result (λ j. j.end ≡ rows_at run.now.env.now) }
+    ensures fault { OnFault result (program_meaning run.now.plan.now run.now.env.now ≡ fault) }
+{
+    let mut joined = start;
+    let mut at = 0;
+    'batches: while at < stretches.len() {
+        let (_, left) = stretches.split_at(at);
+        let (batch, behind) = left.split_at(left.len().min(batch_len));
+        joined = match join_batch(rt, alloc, run, batch, behind, joined) {
             Ok(joined) => joined,
             Err(stop) => return Err(stop),
         };
-        left = behind;
+        at += batch.len();
     }
     Ok(joined)
 }
 
-/// The builder that has come to the first of some tiles, joined with what these make. `behind` are the tiles that come after them.
+/// The builder that has come to the first of some stretches, joined with what these make. `behind` are the stretches that come
+/// after them.
 #[tactic(auto, using(crate::proofs::Following::batch_answers))]
 fn join_batch<G: Gate>(
     rt: &(impl Threads + Sync),
     alloc: Global,
     run: &Tiled<G>,
-    batch: &[Tile],
-    behind: &[Tile],
+    batch: &[Stretch],
+    behind: &[Stretch],
     joined: Joined,
 ) -> Result<Joined, Stop>
     requires at { AtLoop run.now.plan.now run.now.env.now run.now.at }
     requires whole { IsWhole joined }
     requires evaluation { joined_evaluation joined ≡ evaluation_of run.now.plan.now run.now.env.now }
-    requires tiles { IsRun joined.next joined.end (rows_at run.now.env.now) (batch.now ++ behind.now) }
+    requires stretches { AreStretches joined.next joined.end (rows_at run.now.env.now) (batch.now ++ behind.now) }
     ensures whole { IfOk result (λ j. IsWhole j) }
     ensures evaluation { IfOk result (λ j. joined_evaluation j ≡ evaluation_of run.now.plan.now run.now.env.now) }
-    ensures behind { IfOk result (λ j. IsRun j.next j.end (rows_at run.now.env.now) behind.now) }
+    ensures behind { IfOk result (λ j. AreStretches j.next j.end (rows_at run.now.env.now) behind.now) }
     ensures fault { OnFault result (program_meaning run.now.plan.now run.now.env.now ≡ fault) }
 {
-    match map_tiles(rt, alloc, run, batch) {
+    match map_stretches(rt, alloc, run, batch) {
         Ok(answers) => enter_all(run.plan, run.env, answers, behind, joined),
         Err(_) => Err(Stop::Memory),
     }

@@ -34,6 +34,17 @@ impl Recorder {
         }
         self.others.load(Ordering::SeqCst) == 0
     }
+
+    /// Whether it was told of none of these twice, and of no other.
+    pub(crate) fn was_told_of_none_twice(&self, tiles: u64) -> bool {
+        for (number, told) in self.told.iter().enumerate() {
+            let times = u64::from((number as u64) < tiles);
+            if told.load(Ordering::SeqCst) > times {
+                return false;
+            }
+        }
+        self.others.load(Ordering::SeqCst) == 0
+    }
 }
 
 impl Gate for Recorder {

@@ -23,7 +23,7 @@ static WORKERS: [u32; 4] = [1, 2, 8, 64];
 const MOST_TILES: usize = 16;
 
 /// Whether a run with so many workers and this cut, which makes so many tiles, comes to what is wanted, counts what
-/// there is, and tells the gate of each tile once.
+/// there is, and tells the gate of each tile once. Where it faults, the tiles behind the one that does aren't all run.
 fn is_run_so(
     rt: &(impl Threads + Sync),
     alloc: Global,
@@ -44,17 +44,17 @@ fn is_run_so(
     }
     typed_programs_are_never_stuck();
     let gate = Recorder::new(alloc, MOST_TILES)?;
-    let is_so = match run_plan(rt, alloc, plan, arguments, workers, cut, &gate) {
-        Ok((value, note)) => {
+    match run_plan(rt, alloc, plan, arguments, workers, cut, &gate) {
+        Ok((value, note)) => Ok(
             note.loops == job.loops
                 && note.tiles == u128::from(tiles)
                 && note.turns == job.rows
                 && is_written(alloc, &value, ty, job.wanted)?
-        }
-        Err(Stop::Fault) => job.wanted == "fault",
-        Err(Stop::Memory) => return Err(Fail::from("memory was wanting")),
-    };
-    Ok(is_so && gate.was_told_of_each_once(tiles))
+                && gate.was_told_of_each_once(tiles),
+        ),
+        Err(Stop::Fault) => Ok(job.wanted == "fault" && gate.was_told_of_none_twice(tiles)),
+        Err(Stop::Memory) => Err(Fail::from("memory was wanting")),
+    }
 }
 
 /// Whether the runs with this cut are so, whatever the number of workers.

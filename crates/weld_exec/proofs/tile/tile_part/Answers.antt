@@ -1,25 +1,17 @@
-use Rattle.std.proofs.Common.{◌≡◌, ◌++◌, sym, ap, ◌∙◌}
-use Rattle.weld_meaning.specs.Evaluation.{Env}
-use Rattle.weld_meaning.specs.Thing.{more_things}
-use Rattle.weld_eval.specs.FrameView.{env_of}
-use Rattle.weld_eval.specs.ThingView.{thing_of, things_of}
-use Rattle.weld_eval.specs.declared.thing.Owned.{Owned}
-use Rattle.weld_eval.specs.declared.thing.Fields.{Fields}
+use denote.Builtin.{unit}
+use Rattle.weld_eval.specs.ThingView.{thing_of}
 use Rattle.weld_tile_parts.specs.declared.piece.TilePart.{TilePart}
-use Rattle.weld_exec.specs.Run.{scope, locals}
-use Rattle.weld_exec.proofs.Tiling.{tile_ready, tile_stop}
+use Rattle.weld_exec.proofs.Tiling.{bare_ready, bare_action, bare_answers, bare_stops}
 use Rattle.weld_exec.proofs.tile.tile_part.Goals as goal
 
-pub over_tile-requires-clause-holds : goal.over_tile-requires-clause-holds
-over_tile-requires-clause-holds c =
-    let scoped : env_of c.within-frame.result ≡ scope c.args.plan.now c.args.env.now = c.within-frame.ensures ∙ ap (λ (g : Env). locals c.args.env.now ++ g) c.parameters-base.ensures in
-    let stack : things_of c.args.env.now.stack ≡ more_things (thing_of c.deref.result.now) (things_of c.deref-in-And.result.now) =
-    ap things_of c.in-And.is ∙ ap (λ (x : Owned). more_things (thing_of x) (things_of c.in-And.pile.value)) (sym c.deref.ensures) ∙ ap (λ (u : Fields). more_things (thing_of c.deref.result.now) (things_of u)) (sym c.deref-in-And.ensures) in
-    tile_ready c.args.plan.now c.args.env.now c.args.at c.loop_at-node.result.now (env_of c.within-frame.result) (thing_of c.deref.result.now) (things_of c.deref-in-And.result.now) c.args.tile.lo c.args.tile.hi c.requires.at c.requires.ordered c.requires.within c.loop_at-node.ensures scoped stack
+pub run_in-requires-clause-holds : goal.run_in-requires-clause-holds
+run_in-requires-clause-holds c = bare_ready c.args.plan.now c.args.env.now c.args.at (thing_of c.in-Ok.part) c.args.tile.lo c.args.tile.hi c.requires.at c.requires.ordered c.requires.within c.in-Ok.ensures
 
-pub returns-in-Err-clause-means : goal.returns-in-Err-clause-means
-returns-in-Err-clause-means c =
-    let scoped : env_of c.within-frame.result ≡ scope c.args.plan.now c.args.env.now = c.within-frame.ensures ∙ ap (λ (g : Env). locals c.args.env.now ++ g) c.parameters-base.ensures in
-    let stack : things_of c.args.env.now.stack ≡ more_things (thing_of c.deref.result.now) (things_of c.deref-in-And.result.now) =
-    ap things_of c.in-And.is ∙ ap (λ (x : Owned). more_things (thing_of x) (things_of c.in-And.pile.value)) (sym c.deref.ensures) ∙ ap (λ (u : Fields). more_things (thing_of c.deref.result.now) (things_of u)) (sym c.deref-in-And.ensures) in
-    tile_stop TilePart c.in-Err.stop c.args.plan.now c.args.env.now c.args.at c.loop_at-node.result.now (env_of c.within-frame.result) (thing_of c.deref.result.now) (things_of c.deref-in-And.result.now) c.args.tile c.requires.at c.requires.ordered c.requires.within c.loop_at-node.ensures scoped stack c.in-Err.ensures
+pub part_of-requires-clause-action : goal.part_of-requires-clause-action
+part_of-requires-clause-action c = bare_action c.args.plan.now c.args.env.now (thing_of c.in-Ok.part) (thing_of c.run_in.new.part) c.args.tile.lo c.args.tile.hi c.in-Ok.ensures c.in-Ok-run_in.ensures
+
+pub returns-in-Err-run_in-clause-action : goal.returns-in-Err-run_in-clause-action
+returns-in-Err-run_in-clause-action c = bare_answers unit.Denot c.in-Err-run_in.stop c.args.plan.now c.args.env.now (thing_of c.in-Ok.part) (thing_of c.run_in.new.part) c.args.tile c.in-Ok.ensures c.in-Err-run_in.ensures
+
+pub returns-in-Err-run_in-clause-means : goal.returns-in-Err-run_in-clause-means
+returns-in-Err-run_in-clause-means c = bare_stops unit.Denot TilePart c.in-Err-run_in.stop c.args.plan.now c.args.env.now c.args.at (thing_of c.in-Ok.part) (thing_of c.run_in.new.part) c.args.tile.lo c.args.tile.hi c.requires.at c.requires.ordered c.requires.within c.in-Ok.ensures c.in-Err-run_in.ensures

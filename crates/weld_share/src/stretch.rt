@@ -1,0 +1,70 @@
+//! Stretches: neighbouring tiles of a loop that one thread runs into one part.
+
+ghost use Rattle.std.specs.Prelude.{◌≡◌, ◌≤◌, ◌<◌, ◌++◌, ℕ, List, length, IfOk};
+ghost use Rattle.weld_tiles.specs.Tiling.{IsRun, IsTiling};
+ghost use Rattle.weld_tiles.specs.declared.tile.Tile.{Tile};
+ghost use Rattle.weld_share.specs.Stretches.{AreStretches};
+
+use std::alloc::{AllocError, Global};
+use weld_tiles::Tile;
+
+/// About how many rows a stretch has at most. What a stretch makes is held until those of its batch are joined, and so is no
+/// more than so many rows make. It is joined entry by entry, on one thread, so a stretch is long: the entry of a key that
+/// stands in all of its tiles is joined once for them.
+const STRETCH_ROWS: u64 = 262_144;
+
+/// Neighbouring tiles that one thread runs into one part. The tile `whole` has the rows of all of them, and the number of the
+/// stretch among those of the loop, from 0.
+#[derive(Drop)]
+pub(crate) struct Stretch<'a> {
+    pub(crate) whole: Tile,
+    pub(crate) tiles: &'a [Tile],
+}
+
+/// How many tiles a stretch has, of so many tiles that have so many rows together: each of the workers is to have one of each
+/// batch, and all of about the same length. It takes no memory.
+fn stretch_len(tiles: usize, rows: u64, workers: u32) -> usize
+    requires some_worker { 1 ≤ workers }
+    requires workers { workers ≤ 64 }
+    ensures { 1 ≤ result }
+{
+    let batches = rows.div_ceil(STRETCH_ROWS * u64::from(workers)).max(1);
+    let batch = tiles.div_ceil(batches as usize);
+    batch.div_ceil(workers as usize).max(1)
+}
+
+/// The tiles of a loop's rows as stretches.
+pub(crate) fn stretches<'a>(
+    alloc: Global,
+    tiles: &'a [Tile],
+    rows: u64,
+    workers: u32,
+) -> Result<Vec<Stretch<'a>>, AllocError>
+    requires tiling { IsTiling tiles.now rows }
+    requires some_worker { 1 ≤ workers }
+    requires workers { workers ≤ 64 }
+    ensures { IfOk result (λ list. AreStretches 0 0 rows list.items) }
+{
+    let len = stretch_len(tiles.len(), rows, workers);
+    let mut list = Vec::new(alloc);
+    let mut left = tiles;
+    let mut lo = 0;
+    'cut: while !left.is_empty() {
+        let (run, behind) = left.split_at(left.len().min(len));
+        let hi = end_of(run);
+        let number = list.len() as u64;
+        let whole = Tile { number, lo, hi };
+        list.push(Stretch { whole, tiles: run })?;
+        left = behind;
+        lo = hi;
+    }
+    Ok(list)
+}
+
+/// Where the last of some tiles ends. It takes no memory.
+fn end_of(tiles: &[Tile]) -> u64
+    requires { 0 < length tiles.now }
+    ensures { (n lo rows : ℕ) → (behind : List Tile) → IsRun n lo rows (tiles.now ++ behind) → IsRun n lo result tiles.now × ((m : ℕ) × IsRun m result rows behind) × (lo < result) }
+{
+    tiles[tiles.len() - 1].hi
+}
