@@ -1,0 +1,174 @@
+// The plain programs beside which `weld run` is measured, and the jobs for both. `make NAME ROWS` writes a job, `run NAME`
+// reads one on standard input and writes the same answer as `weld run`: the text is read a byte at a time into vectors, then
+// comes one loop.
+use std::collections::BTreeMap;
+use std::io::{Read, Write, stdin, stdout};
+
+struct Random(u64);
+impl Random {
+    fn next(&mut self) -> u64 {
+        self.0 ^= self.0 << 13;
+        self.0 ^= self.0 >> 7;
+        self.0 ^= self.0 << 17;
+        self.0
+    }
+    fn below(&mut self, n: u64) -> u64 {
+        (self.next() >> 11) % n
+    }
+}
+
+const JOBS: [(&str, &str, usize); 9] = [
+    ("squares", "|v: vec[i64]| result(for(v, merger[i64,+], |b,i,x| merge(b, x * x)))", 8_000_000),
+    ("guarded", "|v: vec[i64]| result(for(v, merger[i64,+], |b,i,x| if(x > 3L, merge(b, x), b)))", 8_000_000),
+    ("dot", "|v: vec[i64], w: vec[i64]| result(for(zip(v, w), merger[i64,+], |b,i,x| merge(b, x.$0 * x.$1)))", 4_000_000),
+    ("dict10", "|k: vec[i64], v: vec[i64]| result(for(zip(k, v), dictmerger[i64,i64,+], |b,i,x| merge(b, x)))", 6_000_000),
+    ("dict100k", "|k: vec[i64], v: vec[i64]| result(for(zip(k, v), dictmerger[i64,i64,+], |b,i,x| merge(b, x)))", 4_500_000),
+    ("cells", "|k: vec[i64], c: vec[i64]| result(for(k, vecmerger[i64,+](c), |b,i,x| merge(b, {x % 10L, 1L})))", 8_000_000),
+    ("groups", "|k: vec[i64], v: vec[i64]| result(for(zip(k, v), groupbuilder[i64,i64], |b,i,x| merge(b, x)))", 4_500_000),
+    ("nested", "|m: vec[vec[i64]]| result(for(m, merger[i64,+], |b,i,r| merge(b, result(for(r, merger[i64,+], |c,j,x| merge(c, x))))))", 800_000),
+    ("strings", "|w: vec[vec[i8]]| result(for(w, dictmerger[vec[i8],i64,+], |b,i,x| merge(b, {x, 1L})))", 4_500_000),
+];
+
+fn numbers(out: &mut Vec<u8>, rows: usize, mut next: impl FnMut() -> i64) {
+    out.extend(b"%value\n[");
+    for i in 0..rows {
+        if i > 0 {
+            out.push(b',');
+        }
+        write!(out, "{}", next()).unwrap();
+    }
+    out.extend(b"]\n");
+}
+
+fn make(name: &str, rows: usize) {
+    let text = JOBS.iter().find(|j| j.0 == name).unwrap().1;
+    let mut r = Random(88172645463325252);
+    let mut out = Vec::new();
+    out.extend(text.as_bytes());
+    out.extend(b"\n%%\n");
+    let mut small = |r: &mut Random| { let d = r.below(6) as u32 + 3; r.below(10u64.pow(d)) as i64 - 10 };
+    match name {
+        "squares" | "guarded" => numbers(&mut out, rows, || small(&mut r)),
+        "dot" => { numbers(&mut out, rows, || small(&mut r)); numbers(&mut out, rows, || small(&mut r)) }
+        "dict10" => { numbers(&mut out, rows, || r.below(10) as i64); numbers(&mut out, rows, || small(&mut r)) }
+        "dict100k" | "groups" => { numbers(&mut out, rows, || r.below(100_000) as i64); numbers(&mut out, rows, || small(&mut r)) }
+        "cells" => { numbers(&mut out, rows, || r.below(1_000_000) as i64); out.extend(b"%value\n[0,0,0,0,0,0,0,0,0,0]\n") }
+        "nested" => {
+            out.extend(b"%value\n[");
+            for i in 0..rows {
+                if i > 0 { out.push(b','); }
+                out.push(b'[');
+                for j in 0..10 { if j > 0 { out.push(b','); } write!(out, "{}", small(&mut r)).unwrap(); }
+                out.push(b']');
+            }
+            out.extend(b"]\n");
+        }
+        _ => {
+            out.extend(b"%value\n[");
+            for i in 0..rows {
+                if i > 0 { out.push(b','); }
+                write!(out, "\"{}{}\"", ["cobalt", "newt", "weld", "row"][r.below(4) as usize], r.below(250_000)).unwrap();
+            }
+            out.extend(b"]\n");
+        }
+    }
+    stdout().write_all(&out).unwrap();
+}
+
+struct Reader<'a> { text: &'a [u8], at: usize }
+impl<'a> Reader<'a> {
+    fn skip_to(&mut self, b: u8) {
+        while self.text[self.at] != b { self.at += 1; }
+        self.at += 1;
+    }
+    fn number(&mut self) -> i64 {
+        let negative = self.text[self.at] == b'-';
+        if negative { self.at += 1; }
+        let mut x = 0i64;
+        while self.text[self.at].is_ascii_digit() {
+            x = x.wrapping_mul(10).wrapping_add((self.text[self.at] - b'0') as i64);
+            self.at += 1;
+        }
+        if negative { x.wrapping_neg() } else { x }
+    }
+    // behind the opening bracket
+    fn list<T>(&mut self, mut item: impl FnMut(&mut Self) -> T) -> Vec<T> {
+        let mut v = Vec::new();
+        if self.text[self.at] == b']' { self.at += 1; return v; }
+        loop {
+            v.push(item(self));
+            self.at += 1;
+            if self.text[self.at - 1] == b']' { return v; }
+        }
+    }
+    fn numbers(&mut self) -> Vec<i64> {
+        self.skip_to(b'[');
+        self.list(|r| r.number())
+    }
+}
+
+fn run(name: &str) {
+    let mut text = Vec::new();
+    stdin().read_to_end(&mut text).unwrap();
+    let mut r = Reader { text: &text, at: 0 };
+    while !r.text[r.at..].starts_with(b"\n%%\n") { r.at += 1; }
+    r.at += 4;
+    let mut out = Vec::new();
+    match name {
+        "squares" => { let v = r.numbers(); let mut s = 0i64; for &x in &v { s = s.wrapping_add(x.wrapping_mul(x)); } writeln!(out, "{s}").unwrap() }
+        "guarded" => { let v = r.numbers(); let mut s = 0i64; for &x in &v { if x > 3 { s = s.wrapping_add(x); } } writeln!(out, "{s}").unwrap() }
+        "dot" => { let v = r.numbers(); let w = r.numbers(); let mut s = 0i64; for (&x, &y) in v.iter().zip(&w) { s = s.wrapping_add(x.wrapping_mul(y)); } writeln!(out, "{s}").unwrap() }
+        "dict10" | "dict100k" => {
+            let k = r.numbers(); let v = r.numbers(); let mut d = BTreeMap::new();
+            for (&k, &x) in k.iter().zip(&v) { let e = d.entry(k).or_insert(0i64); *e = e.wrapping_add(x); }
+            out.extend(b"dict{");
+            for (i, (k, x)) in d.iter().enumerate() { if i > 0 { out.push(b','); } write!(out, "{k}:{x}").unwrap(); }
+            out.extend(b"}\n");
+        }
+        "cells" => {
+            let k = r.numbers(); let mut c = r.numbers();
+            for &x in &k { let e = &mut c[(x % 10) as usize]; *e = e.wrapping_add(1); }
+            out.push(b'[');
+            for (i, x) in c.iter().enumerate() { if i > 0 { out.push(b','); } write!(out, "{x}").unwrap(); }
+            out.extend(b"]\n");
+        }
+        "groups" => {
+            let k = r.numbers(); let v = r.numbers(); let mut d: BTreeMap<i64, Vec<i64>> = BTreeMap::new();
+            for (&k, &x) in k.iter().zip(&v) { d.entry(k).or_default().push(x); }
+            out.extend(b"dict{");
+            for (i, (k, l)) in d.iter().enumerate() {
+                if i > 0 { out.push(b','); }
+                write!(out, "{k}:[").unwrap();
+                for (j, x) in l.iter().enumerate() { if j > 0 { out.push(b','); } write!(out, "{x}").unwrap(); }
+                out.push(b']');
+            }
+            out.extend(b"}\n");
+        }
+        "nested" => {
+            r.skip_to(b'[');
+            let m = r.list(|r| { r.at += 1; r.list(|r| r.number()) });
+            let mut s = 0i64;
+            for l in &m { let mut t = 0i64; for &x in l { t = t.wrapping_add(x); } s = s.wrapping_add(t); }
+            writeln!(out, "{s}").unwrap()
+        }
+        _ => {
+            r.skip_to(b'[');
+            let w = r.list(|r| { r.at += 1; let from = r.at; while r.text[r.at] != b'"' { r.at += 1; } r.at += 1; r.text[from..r.at - 1].to_vec() });
+            let mut d: BTreeMap<Vec<u8>, i64> = BTreeMap::new();
+            for x in &w { *d.entry(x.clone()).or_insert(0) += 1; }
+            out.extend(b"dict{");
+            for (i, (k, x)) in d.iter().enumerate() { if i > 0 { out.push(b','); } out.push(b'"'); out.extend(k); write!(out, "\":{x}").unwrap(); }
+            out.extend(b"}\n");
+        }
+    }
+    stdout().write_all(&out).unwrap();
+}
+
+fn main() {
+    let words: Vec<String> = std::env::args().collect();
+    match words[1].as_str() {
+        "make" => { let name = words[2].as_str(); make(name, words.get(3).map_or_else(|| JOBS.iter().find(|j| j.0 == name).unwrap().2, |n| n.parse().unwrap())) }
+        "names" => for j in JOBS { println!("{}", j.0) },
+        _ => run(&words[2]),
+    }
+}
