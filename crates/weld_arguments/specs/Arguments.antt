@@ -1,5 +1,5 @@
 -- Which arguments a job's data give a program, and else what is wrong with them first, by this project's profile of Weld.
-use Rattle.std.specs.Prelude.{◌≡◌, ◌⊎◌, ℕ, ◌+◌, Bool, true, false, List, [], ◌∷◌}
+use Rattle.std.specs.Prelude.{◌≡◌, ◌⊎◌, ℕ, ◌+◌, Bool, true, false, List, [], ◌∷◌, Option, Some, None}
 use Rattle.weld_data.specs.Value.{Value}
 use Rattle.weld_tree.specs.TypeTree.{TypeTree}
 use Rattle.weld_tree.specs.declared.binder.Binder.{Binder}
@@ -15,13 +15,23 @@ use Rattle.weld_arguments.specs.declared.stop.DataStop.{DataStop}
 use Rattle.weld_arguments.specs.declared.stop.DataStop.TheVariants.{Unfit, Memory}
 use Rattle.weld_values.specs.declared.fault.DataFault.{DataFault}
 use Rattle.weld_values.specs.declared.fault.DataFault.TheVariants as faults
+use Rattle.weld_table.specs.declared.wanted.Wanted.TheVariants.{Fields}
+use Rattle.weld_table.specs.declared.fault.TableFault.{TableFault}
+use Rattle.weld_table.specs.declared.fault.TableFault.TheVariants as tables
+use Rattle.weld_table.specs.Table.{TableReads, TableFails, columns_in}
 
 -- ---- one block
 
--- the block gives this value of the type: it is a value block, and its content reads as the value
+-- a table of columns of these cells, by position, gives this value; where the parameter's type is no table's, none does
+abbrev pub TableGives : Option (List TypeTree) → List ℕ → Value → Type 0
+TableGives None content v = ⊥
+TableGives (Some ts) content v = TableReads content (Fields ts) v
+
+-- the block gives this value of the type: it is a value block, and its content reads as the value; or the type is a table's,
+-- the block is a table, and its records give the value
 abbrev pub Gives : BlockForm → List ℕ → TypeTree → Value → Type 0
 Gives forms.Value content t v = ReadsAs content t v
-Gives forms.Table content t v = ⊥
+Gives forms.Table content t v = TableGives (columns_in t) content v
 Gives forms.Other content t v = ⊥
 
 -- the code of why a content doesn't read; want of memory has none
@@ -31,10 +41,24 @@ IsCode faults.Range code = code ≡ codes_of.Range
 IsCode faults.Repeat code = code ≡ codes_of.Repeat
 IsCode faults.Memory code = ⊥
 
--- the block gives no value of the type, for the reason of this code: it is no value block, or its content doesn't read
+-- the code of why a table gives no value; want of memory has none
+abbrev pub IsTableCode : TableFault → Code → Type 0
+IsTableCode tables.Form code = code ≡ codes_of.Form
+IsTableCode tables.Length code = code ≡ codes_of.Length
+IsTableCode tables.Syntax code = code ≡ codes_of.Syntax
+IsTableCode tables.Range code = code ≡ codes_of.Range
+IsTableCode tables.Memory code = ⊥
+
+-- a table of such columns gives no value, for the reason of this code; where the type is no table's, that is FORM
+abbrev pub NoTable : Option (List TypeTree) → List ℕ → Code → Type 0
+NoTable None content code = code ≡ codes_of.Form
+NoTable (Some ts) content code = (fault : TableFault) × TableFails content (Fields ts) fault × IsTableCode fault code
+
+-- the block gives no value of the type, for the reason of this code: its header is neither a value's nor a table's, its
+-- content doesn't read, or its records give no table of the type
 abbrev pub Fails : BlockForm → List ℕ → TypeTree → Code → Type 0
 Fails forms.Value content t code = (fault : DataFault) × WhyNot content t fault × IsCode fault code
-Fails forms.Table content t code = code ≡ codes_of.Form
+Fails forms.Table content t code = NoTable (columns_in t) content code
 Fails forms.Other content t code = code ≡ codes_of.Form
 
 -- ---- the blocks

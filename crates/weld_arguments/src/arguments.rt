@@ -70,8 +70,9 @@ fn read_blocks(alloc: Global, params: &[Binder], blocks: &[Block]) -> Result<Val
 /// builder in it.
 ///
 /// `Unfit` tells of stray bytes before the blocks by the number 0 and FORM; of a parameter without a block by its number
-/// and MISSING; of a block that is no `%value` by FORM; of a content that doesn't read as the parameter's type by SYNTAX,
-/// RANGE or REPEAT, as `read_value` does; and of a block more than there are parameters by EXTRA.
+/// and MISSING; of a block that is neither a value nor a table of the parameter's type by FORM; of a value that doesn't read
+/// as that type by SYNTAX, RANGE or REPEAT, as `read_value` does; of a table by FORM, LENGTH, SYNTAX or RANGE, as `read_table`
+/// does; and of a block more than there are parameters by EXTRA.
 pub fn read_arguments(alloc: Global, params: &Binders, job: &Job) -> Result<Vals, DataStop>
     requires { ParamsFit params.now }
     ensures arguments { IfOk result (Arguments params.now job.now) }

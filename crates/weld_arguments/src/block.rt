@@ -3,12 +3,14 @@
 ghost use Rattle.std.specs.Prelude.{◌≡◌, ℕ, IfOk, IfErr};
 ghost use Rattle.weld_data.specs.View.{view_val};
 ghost use Rattle.weld_values.specs.Judging.{IsReadable};
-ghost use Rattle.weld_arguments.specs.Arguments.{Gives, Fails, Tells};
+ghost use Rattle.weld_arguments.specs.Arguments.{Gives, Fails, IsTableCode, Tells};
 
 use crate::stop::DataStop;
 use std::alloc::Global;
 use weld_data::Val;
 use weld_job::{Block, BlockForm};
+use weld_table::laws::table_types_have_columns;
+use weld_table::{TableFault, Wanted, read_table};
 use weld_tree::{Code, Ty};
 use weld_values::{DataFault, read_value};
 
@@ -27,6 +29,37 @@ fn read_content(alloc: Global, content: &[u8], ty: &Ty, number: u64) -> Result<V
     }
 }
 
+/// The code of a table's fault, beside want of memory.
+fn told(fault: TableFault, number: u64) -> DataStop
+    ensures { Tells (λ (n : ℕ) (code : _). (n ≡ number) × IsTableCode fault code) result }
+{
+    match fault {
+        TableFault::Form => DataStop::Unfit(number, Code::Form),
+        TableFault::Length => DataStop::Unfit(number, Code::Length),
+        TableFault::Syntax => DataStop::Unfit(number, Code::Syntax),
+        TableFault::Range => DataStop::Unfit(number, Code::Range),
+        TableFault::Memory => DataStop::Memory,
+    }
+}
+
+/// The value of the type that the content of a table block gives, its columns taken by position.
+fn read_records(alloc: Global, content: &[u8], ty: &Ty, number: u64) -> Result<Val, DataStop>
+    ensures value { IfOk result (λ v. Gives BlockForm.Table content.now ty.now (view_val v)) }
+    ensures unfit { IfErr result (Tells (λ (n : ℕ) (code : _). (n ≡ number) × Fails BlockForm.Table content.now ty.now code)) }
+{
+    table_types_have_columns();
+    let Ok(found) = Wanted::of_type(alloc, ty) else {
+        return Err(DataStop::Memory);
+    };
+    let Some(wanted) = found else {
+        return Err(DataStop::Unfit(number, Code::Form));
+    };
+    match read_table(alloc, content, &wanted) {
+        Ok(value) => Ok(value),
+        Err(fault) => Err(told(fault, number)),
+    }
+}
+
 /// The value of the type that the block gives, which has this number.
 pub(crate) fn read_block(
     alloc: Global,
@@ -40,7 +73,7 @@ pub(crate) fn read_block(
 {
     match block.form {
         BlockForm::Value => read_content(alloc, block.content.as_slice(), ty, number),
-        BlockForm::Table => Err(DataStop::Unfit(number, Code::Form)),
+        BlockForm::Table => read_records(alloc, block.content.as_slice(), ty, number),
         BlockForm::Other => Err(DataStop::Unfit(number, Code::Form)),
     }
 }

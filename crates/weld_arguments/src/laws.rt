@@ -9,6 +9,9 @@ ghost use Rattle.weld_meaning.specs.Typing.{ParamsFit};
 ghost use Rattle.weld_meaning.specs.Meaning.{ArgumentsFit};
 ghost use Rattle.weld_arguments.specs.Arguments.{Arguments, IsUnfit};
 
+use weld_table::laws::{
+    each_table_reads_or_not, one_table, table_types_have_columns, tables_have_their_type,
+};
 use weld_values::laws::{
     each_text_reads_or_not, one_reading, read_values_have_the_type, well_formed_types_are_readable,
 };
@@ -21,6 +24,7 @@ pub fn one_answer()
     ensures unfit { (params : List Binder) (job : Job) (n m : ℕ) (code other : Code) → IsUnfit params job n code → IsUnfit params job m other → (n ≡ m) × (code ≡ other) }
 {
     one_reading();
+    one_table();
 }
 
 /// They give arguments, or something is wrong with them.
@@ -29,6 +33,8 @@ pub fn each_job_fits_or_not()
         → ((vs : List Value) × Arguments params job vs) ⊎ ((n : ℕ) × (code : Code) × IsUnfit params job n code) }
 {
     each_text_reads_or_not();
+    each_table_reads_or_not();
+    table_types_have_columns();
     well_formed_types_are_readable();
 }
 
@@ -37,5 +43,7 @@ pub fn arguments_have_their_types()
     ensures { (params : List Binder) (job : Job) (vs : List Value) → ParamsFit params → Arguments params job vs → ArgumentsFit params vs }
 {
     read_values_have_the_type();
+    tables_have_their_type();
+    table_types_have_columns();
     well_formed_types_are_readable();
 }

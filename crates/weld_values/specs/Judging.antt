@@ -2,8 +2,10 @@
 use Rattle.std.specs.Prelude.{◌≡◌, ◌++◌, ◌⊎◌, ◌<ℤ◌, ◌≤ℤ◌, ◌<◌, ◌^◌, ℕ, ℤ, pos, neg_ℤ, List, [], ◌∷◌, Some, map, All}
 use Rattle.weld_data.specs.Wrapped.{wrapped}
 use Rattle.weld_data.specs.declared.kind.Kind.TheVariants.{I8}
-use Rattle.weld_data.specs.Value.{Value, Values, and_value, list, values, Entries, entries}
+use Rattle.weld_data.specs.Value.{Value, Values, and_value, list, values, entries}
 use Rattle.weld_tree.specs.TypeTree.{TypeTree, TypeTrees, scalar, vec, struct as struct_of, dict as dict_of, build, no_types, more_types}
+use Rattle.weld_values.specs.declared.fault.DataFault.{DataFault}
+use Rattle.weld_values.specs.declared.fault.DataFault.TheVariants as faults
 use Rattle.weld_values.specs.declared.flaw.Flaw.{Flaw}
 use Rattle.weld_values.specs.declared.flaw.Flaw.TheVariants.{Fine, Repeat, Range}
 use Rattle.weld_values.specs.Tokens.{byte_at}
@@ -164,3 +166,10 @@ pub record EntriesRead (t : TypeTree) (R : Part (Value × Value)) (text : List �
 -- no entries stand after the opening brace
 abbrev pub EntriesUnread : Part (Value × Value) → List ℕ → Type 0
 EntriesUnread R text = (ys : List (Value × Value)) (rest : List ℕ) → Enclosed R 125 (byte_at 125 text) ys text rest → ⊥
+
+-- a reason why a text is no scalar: only its form or its range can be one
+abbrev pub IsOfCell : DataFault → Type 0
+IsOfCell faults.Syntax = Unit {0}
+IsOfCell faults.Range = Unit {0}
+IsOfCell faults.Repeat = ⊥
+IsOfCell faults.Memory = ⊥

@@ -1,8 +1,9 @@
 //! Scalars, each read straight into the array of its kind.
 
-ghost use Rattle.std.specs.Prelude.{◌≡◌, ℤ, List, ℕ, pos, Option, Some, None, IfSome, IfNone, IfOk, OnOk, ◌<◌, ◌++◌, length, map};
+ghost use Rattle.std.specs.Prelude.{◌≡◌, ℤ, pos, None, IfSome, ℕ, IfNone, IfOk, OnOk, ◌<◌, ◌++◌, length, map};
 ghost use Rattle.weld_data.specs.Value.{Value, number};
 ghost use Rattle.weld_data.specs.Operation.{truth};
+ghost use Rattle.weld_data.specs.declared.kind.Kind.{Kind};
 ghost use Rattle.weld_data.specs.declared.kind.Kind.TheVariants as kinds;
 ghost use Rattle.weld_values.specs.Grammar.{scalar_at, truth_at, Found};
 ghost use Rattle.weld_values.specs.Judging.{IsClamped, Judged, IsRead, IsReadInto};
@@ -13,15 +14,15 @@ use std::alloc::AllocError;
 use weld_data::Items;
 
 /// A scalar of one kind, as an array of that kind keeps it.
-pub(crate) trait Cell: Copy + Drop {
-    ghost value: { Self → Value };
+pub trait Cell: Copy + Drop {
+    ghost kind: { Kind };
 
-    ghost at: { List ℕ → Option (Value × List ℕ) };
+    ghost value: { Self → Value };
 
     /// The scalar at the front of the text, and what follows it.
     fn read(text: &[u8]) -> Option<(Self, Flaw, &[u8])>
-        ensures found { IfSome result (λ found. IsRead (Found at) text.now found.1 (value found.0) found.2.now) }
-        ensures none { IfNone result (at text.now ≡ None) }
+        ensures found { IfSome result (λ found. IsRead (Found (scalar_at kind)) text.now found.1 (value found.0) found.2.now) }
+        ensures none { IfNone result (scalar_at kind text.now ≡ None) }
         ensures less { IfSome result (λ found. length found.2.now < length text.now) };
 }
 
@@ -30,8 +31,8 @@ pub(crate) fn append_cell<'a, T: Cell>(
     items: &mut Items<T>,
     text: &'a [u8],
 ) -> Result<Option<(Flaw, &'a [u8])>, AllocError>
-    ensures found { IfOk result (λ o. IfSome o (λ found. IsReadInto (Found T.at) text.now found.0 (map T.value items.old) (map T.value items.new) found.1.now)) }
-    ensures none { IfOk result (λ o. IfNone o (T.at text.now ≡ None)) }
+    ensures found { IfOk result (λ o. IfSome o (λ found. IsReadInto (Found (scalar_at T.kind)) text.now found.0 (map T.value items.old) (map T.value items.new) found.1.now)) }
+    ensures none { IfOk result (λ o. IfNone o (scalar_at T.kind text.now ≡ None)) }
     ensures less { IfOk result (λ o. IfSome o (λ found. length found.1.now < length text.now)) }
 {
     match T::read(text) {
@@ -46,9 +47,9 @@ pub(crate) fn append_cell<'a, T: Cell>(
 impl Cell for bool {
     ghost use Rattle.std.specs.Prelude.{Bool};
 
-    ghost value = { λ (b : Bool). number kinds.Bool (truth b) };
+    ghost kind = { kinds.Bool };
 
-    ghost at = { scalar_at kinds.Bool };
+    ghost value = { λ (b : Bool). number kinds.Bool (truth b) };
 
     fn read(text: &[u8]) -> Option<(bool, Flaw, &[u8])> {
         match truth(after_blanks(text)) {
@@ -59,9 +60,9 @@ impl Cell for bool {
 }
 
 impl Cell for i8 {
-    ghost value = { number kinds.I8 };
+    ghost kind = { kinds.I8 };
 
-    ghost at = { scalar_at kinds.I8 };
+    ghost value = { number kinds.I8 };
 
     fn read(text: &[u8]) -> Option<(i8, Flaw, &[u8])> {
         match integer(after_blanks(text)) {
@@ -72,9 +73,9 @@ impl Cell for i8 {
 }
 
 impl Cell for u8 {
-    ghost value = { λ (n : ℕ). number kinds.U8 (pos n) };
+    ghost kind = { kinds.U8 };
 
-    ghost at = { scalar_at kinds.U8 };
+    ghost value = { λ (n : ℕ). number kinds.U8 (pos n) };
 
     fn read(text: &[u8]) -> Option<(u8, Flaw, &[u8])> {
         match integer(after_blanks(text)) {
@@ -85,9 +86,9 @@ impl Cell for u8 {
 }
 
 impl Cell for i32 {
-    ghost value = { number kinds.I32 };
+    ghost kind = { kinds.I32 };
 
-    ghost at = { scalar_at kinds.I32 };
+    ghost value = { number kinds.I32 };
 
     fn read(text: &[u8]) -> Option<(i32, Flaw, &[u8])> {
         match integer(after_blanks(text)) {
@@ -98,9 +99,9 @@ impl Cell for i32 {
 }
 
 impl Cell for i64 {
-    ghost value = { number kinds.I64 };
+    ghost kind = { kinds.I64 };
 
-    ghost at = { scalar_at kinds.I64 };
+    ghost value = { number kinds.I64 };
 
     fn read(text: &[u8]) -> Option<(i64, Flaw, &[u8])> {
         match integer(after_blanks(text)) {

@@ -1,7 +1,7 @@
 //! Lists of scalars, read straight into the array of their kind.
 
 ghost use Rattle.std.specs.Prelude.{◌≡◌, map, IfOk, IfSome, IfNone};
-ghost use Rattle.weld_values.specs.Grammar.{Found};
+ghost use Rattle.weld_values.specs.Grammar.{scalar_at, Found};
 ghost use Rattle.weld_values.specs.Judging.{AreListed, AreUnlisted, AreRead, AreUnread};
 
 use crate::cell::{Cell, append_cell};
@@ -15,8 +15,8 @@ fn read_some<T: Cell>(
     alloc: Global,
     text: &[u8],
 ) -> Result<Option<(Items<T>, Flaw, &[u8])>, AllocError>
-    ensures found { IfOk result (λ found. IfSome found (λ f. AreListed (Found T.at) text.now f.1 (map T.value f.0) f.2.now)) }
-    ensures none { IfOk result (λ found. IfNone found (AreUnlisted (Found T.at) text.now)) }
+    ensures found { IfOk result (λ found. IfSome found (λ f. AreListed (Found (scalar_at T.kind)) text.now f.1 (map T.value f.0) f.2.now)) }
+    ensures none { IfOk result (λ found. IfNone found (AreUnlisted (Found (scalar_at T.kind)) text.now)) }
 {
     let mut items = Items::new(alloc);
     let mut flaw = Flaw::Fine;
@@ -41,8 +41,8 @@ pub(crate) fn read_cells<T: Cell>(
     alloc: Global,
     text: &[u8],
 ) -> Result<Option<(Items<T>, Flaw, &[u8])>, AllocError>
-    ensures found { IfOk result (λ found. IfSome found (λ f. AreRead (Found T.at) text.now f.1 (map T.value f.0) f.2.now)) }
-    ensures none { IfOk result (λ found. IfNone found (AreUnread (Found T.at) text.now)) }
+    ensures found { IfOk result (λ found. IfSome found (λ f. AreRead (Found (scalar_at T.kind)) text.now f.1 (map T.value f.0) f.2.now)) }
+    ensures none { IfOk result (λ found. IfNone found (AreUnread (Found (scalar_at T.kind)) text.now)) }
 {
     if let Some(rest) = byte_at(text, b']') {
         return Ok(Some((Items::new(alloc), Flaw::Fine, rest)));

@@ -9,7 +9,10 @@ pub mod laws;
 mod read;
 mod string;
 mod tokens;
+mod whole;
 
+pub use cell::Cell;
 pub use fault::DataFault;
 pub use read::read_value;
 pub use weld_write_value::write_value;
+pub use whole::read_cell;

@@ -1,10 +1,8 @@
-use Rattle.std.proofs.Common.{◌≡◌, List, Option, Some, None, IfSome, IfNone, sym, subst, IsPermutation}
+use Rattle.std.proofs.Common.{List, subst, IsPermutation}
 use Rattle.weld_data.specs.Value.{Value, dict, entries}
 use Rattle.weld_data.specs.Order.{Rises}
-use Rattle.weld_tree.specs.TypeTree.{TypeTree}
 use Rattle.weld_sorted.specs.Repeats.{HaveOneKey}
 use Rattle.weld_values.specs.declared.flaw.Flaw.{Flaw}
-use Rattle.weld_values.specs.declared.flaw.Flaw.TheVariants.{Fine}
 use Rattle.weld_values.specs.Judging.{AreJudged}
 use Rattle.weld_values.proofs.Listings.{some_holds, none_holds}
 use Rattle.weld_values.proofs.EntryJudgements.{fine_dict, equal_dict}
