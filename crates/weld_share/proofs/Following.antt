@@ -11,7 +11,7 @@ use Rattle.weld_share.specs.declared.stretch.Stretch.{Stretch}
 use Rattle.weld_share.specs.Stretches.{IsStretchOf, AreStretches}
 use Rattle.weld_share.specs.Mapped.{IsAnswer, AreAnswers}
 
-ends_behind : (n lo rows : ℕ) (ss : List Stretch) → AreStretches n lo rows ss → lo ≤ rows
+pub ends_behind : (n lo rows : ℕ) (ss : List Stretch) → AreStretches n lo rows ss → lo ≤ rows
 ends_behind n lo rows [] run = subst (λ k. lo ≤ k) run (le_refl lo)
 ends_behind n lo rows (s ∷ ss) run = let high = run.0.2 in let rest = ends_behind (n + 1) s.whole.hi rows ss run.2 in omega arith
 

@@ -3,4 +3,5 @@ mod Cutting
 mod Following
 mod Sent
 mod Shared
+mod Spanning
 mod Stretching

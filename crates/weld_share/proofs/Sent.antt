@@ -76,7 +76,7 @@ state_send =
 built_send : IsSend Built.the_row
 built_send = view_send _ _ _ _ _ (declared_send BuiltInside.the_type (state_send, tt))
 
-owned_send : IsSend Owned.the_row
+pub owned_send : IsSend Owned.the_row
 owned_send = search (Crossing.crosses, FieldsKnot.crosses, TheKnot.crosses, built_send, vals_send, sendable) depth 60 fits 100000
 
 pub part_send : IsSend TilePart.the_row

@@ -35,6 +35,7 @@ use Rattle.weld_data.proofs.value.Pairs.TheLaws.TheKnot
 use denote.RattleType.{RattleType}
 use Rattle.weld_share.specs.contracts.stretch.Stretch as Stretch
 use Rattle.weld_share.specs.contracts.tiled.Tiled as Tiled
+use Rattle.weld_share.specs.contracts.sharing.Batch as Batch
 use Rattle.weld_tiles.proofs.tile.Tile.TheSendSync as TileSends
 use Rattle.weld_data.proofs.op.BinOp.TheSendSync as BinOps
 use Rattle.weld_data.proofs.num.Num.TheSendSync as Nums
@@ -140,3 +141,9 @@ tiled_sync ℓ κ G s =
 -- and see them
 pub stretch_sync : (ℓ : NamedLft) → IsSync (Stretch.the_row ℓ)
 stretch_sync ℓ = search (Crossing.crosses, TileSends.the_field_sync, TileSends.the_sync, sendable) depth 60 fits 100000
+
+-- a batch of stretches, whose jobs any thread may do
+pub batch_sync : (ℓ κ μ : NamedLft) (G : RattleType) → IsSync G → IsSync (Batch.the_row ℓ κ μ G)
+batch_sync ℓ κ μ G s =
+    declared_sync (Batch.the_type ℓ κ μ G)
+    (as_row_sync (shr_ref_field μ (Tiled.the_row ℓ κ G) tt) (shr_sync _ _ _ (tiled_sync ℓ κ G s)), (search (Crossing.crosses, stretch_sync, sendable) depth 60 fits 20000, tt))

@@ -1,3 +1,4 @@
 pub mod Counts
 pub mod Mapped
 pub mod Stretches
+pub mod Shared

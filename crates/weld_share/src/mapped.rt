@@ -10,6 +10,7 @@ ghost use Rattle.weld_share.specs.Counts.{IsNote};
 
 use crate::note::RunNote;
 use crate::tiled::run_loop;
+use crate::way::Way;
 use std::alloc::Global;
 use std::thread::Threads;
 use weld_data::{Stop, Val, Vals};
@@ -38,6 +39,28 @@ pub fn run_mapped<G: Gate>(
     ensures value { Answers (λ r. view_val r.0) result (meaning plan.now.program.now inputs.now) }
     ensures note { IfOk result (λ r. IsNote plan.now.program.now inputs.now cut r.1) }
 {
+    run_by(rt, alloc, plan, inputs, workers, cut, gate, Way::Mapped)
+}
+
+/// The same, in one way or the other.
+fn run_by<G: Gate>(
+    rt: &(impl Threads + Sync),
+    alloc: Global,
+    plan: &Plan,
+    inputs: &Vals,
+    workers: u32,
+    cut: u32,
+    gate: &G,
+    way: Way,
+) -> Result<(Val, RunNote), Stop>
+    requires plan { IsPlan plan.now }
+    requires fit { ArgumentsFit plan.now.program.now.params inputs.now }
+    requires some_worker { 1 ≤ workers }
+    requires workers { workers ≤ 64 }
+    requires cut { 1 ≤ cut }
+    ensures value { Answers (λ r. view_val r.0) result (meaning plan.now.program.now inputs.now) }
+    ensures note { IfOk result (λ r. IsNote plan.now.program.now inputs.now cut r.1) }
+{
     let mut env = match Env::new(alloc, plan, inputs) {
         Ok(env) => env,
         Err(_) => return Err(Stop::Memory),
@@ -47,7 +70,7 @@ pub fn run_mapped<G: Gate>(
         match env.advance(plan, alloc) {
             Ok(Next::Done(value)) => return Ok((value, note)),
             Ok(Next::Loop(at)) => match run_loop(
-                rt, alloc, plan, &mut env, at, workers, cut, gate,
+                rt, alloc, plan, &mut env, at, workers, cut, gate, way,
             ) {
                 Ok((tiles, rows)) => {
                     note.tiles += tiles as u128;
@@ -82,7 +105,8 @@ fn no_counts(plan: &Plan) -> RunNote
     }
 }
 
-/// The same as `run_mapped`.
+/// The same as `run_mapped`, the rows shared otherwise: each of the workers has a hand of short stretches, and takes from those
+/// of the others when its own is empty. A worker runs stretches that follow one another into one part.
 pub fn run_plan<G: Gate>(
     rt: &(impl Threads + Sync),
     alloc: Global,
@@ -100,5 +124,5 @@ pub fn run_plan<G: Gate>(
     ensures value { Answers (λ r. view_val r.0) result (meaning plan.now.program.now inputs.now) }
     ensures note { IfOk result (λ r. IsNote plan.now.program.now inputs.now cut r.1) }
 {
-    run_mapped(rt, alloc, plan, inputs, workers, cut, gate)
+    run_by(rt, alloc, plan, inputs, workers, cut, gate, Way::Shared)
 }

@@ -8,9 +8,9 @@ ghost use Rattle.weld_share.specs.Stretches.{AreStretches};
 use std::alloc::{AllocError, Global};
 use weld_tiles::Tile;
 
-/// About how many rows a stretch has at most. What a stretch makes is held until those of its batch are joined, and so is no
-/// more than so many rows make. It is joined entry by entry, on one thread, so a stretch is long: the entry of a key that
-/// stands in all of its tiles is joined once for them.
+/// About how many rows of a batch come on each worker at most. What a worker makes of them is held until the batch is joined,
+/// and so is no more than so many rows make. It is joined entry by entry, on one thread, so a worker's rows are many: the entry
+/// of a key that stands in all of their tiles is joined once for them.
 const STRETCH_ROWS: u64 = 262_144;
 
 /// Neighbouring tiles that one thread runs into one part. The tile `whole` has the rows of all of them, and the number of the
@@ -21,16 +21,18 @@ pub(crate) struct Stretch<'a> {
     pub(crate) tiles: &'a [Tile],
 }
 
-/// How many tiles a stretch has, of so many tiles that have so many rows together: each of the workers is to have one of each
-/// batch, and all of about the same length. It takes no memory.
-fn stretch_len(tiles: usize, rows: u64, workers: u32) -> usize
+/// How many tiles a stretch has, of so many tiles that have so many rows together: each of the workers is to have so many
+/// stretches of each batch, and all of about the same length. It takes no memory.
+fn stretch_len(tiles: usize, rows: u64, workers: u32, each: u32) -> usize
     requires some_worker { 1 ≤ workers }
     requires workers { workers ≤ 64 }
+    requires some_each { 1 ≤ each }
+    requires each { each ≤ 64 }
     ensures { 1 ≤ result }
 {
     let batches = rows.div_ceil(STRETCH_ROWS * u64::from(workers)).max(1);
     let batch = tiles.div_ceil(batches as usize);
-    batch.div_ceil(workers as usize).max(1)
+    batch.div_ceil((workers * each) as usize).max(1)
 }
 
 /// The tiles of a loop's rows as stretches.
@@ -39,13 +41,16 @@ pub(crate) fn stretches<'a>(
     tiles: &'a [Tile],
     rows: u64,
     workers: u32,
+    each: u32,
 ) -> Result<Vec<Stretch<'a>>, AllocError>
     requires tiling { IsTiling tiles.now rows }
     requires some_worker { 1 ≤ workers }
     requires workers { workers ≤ 64 }
+    requires some_each { 1 ≤ each }
+    requires each { each ≤ 64 }
     ensures { IfOk result (λ list. AreStretches 0 0 rows list.items) }
 {
-    let len = stretch_len(tiles.len(), rows, workers);
+    let len = stretch_len(tiles.len(), rows, workers, each);
     let mut list = Vec::new(alloc);
     let mut left = tiles;
     let mut lo = 0;

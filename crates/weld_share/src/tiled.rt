@@ -12,7 +12,9 @@ ghost use Rattle.weld_share.specs.Mapped.{IsAnswer, AreAnswers};
 ghost use Rattle.weld_share.specs.Stretches.{IsStretchOf, AreStretches};
 
 use crate::parallel::{RunsStretches, map_stretches};
+use crate::sharing::share_stretches;
 use crate::stretch::{Stretch, stretches};
+use crate::way::Way;
 use std::alloc::Global;
 use std::thread::Threads;
 use weld_data::Stop;
@@ -25,12 +27,12 @@ use weld_tiles::{Tile, tiles};
 
 /// The loop at which a run stands, whose stretches any thread may run. The gate is told of each tile before it is run.
 #[derive(Drop)]
-struct Tiled<'a, 'b, G> {
-    alloc: Global,
-    plan: &'a Plan<'b>,
-    env: &'a Env<'b>,
-    at: LoopId,
-    gate: &'a G,
+pub(crate) struct Tiled<'a, 'b, G> {
+    pub(crate) alloc: Global,
+    pub(crate) plan: &'a Plan<'b>,
+    pub(crate) env: &'a Env<'b>,
+    pub(crate) at: LoopId,
+    pub(crate) gate: &'a G,
 }
 
 impl<'a, 'b, G: Gate> RunsStretches for Tiled<'a, 'b, G> {
@@ -119,6 +121,7 @@ pub(crate) fn run_loop<G: Gate>(
     workers: u32,
     cut: u32,
     gate: &G,
+    way: Way,
 ) -> Result<(usize, u64), Stop>
     requires at { AtLoop plan.now env.old at }
     requires some_worker { 1 ≤ workers }
@@ -137,7 +140,17 @@ pub(crate) fn run_loop<G: Gate>(
         Ok(list) => list,
         Err(_) => return Err(Stop::Memory),
     };
-    let joined = match join_tiles(rt, alloc, plan, &*env, at, list.as_slice(), workers, gate) {
+    let joined = match join_tiles(
+        rt,
+        alloc,
+        plan,
+        &*env,
+        at,
+        list.as_slice(),
+        workers,
+        gate,
+        way,
+    ) {
         Ok(joined) => joined,
         Err(stop) => return Err(stop),
     };
@@ -157,6 +170,7 @@ fn join_tiles<G: Gate>(
     tiles: &[Tile],
     workers: u32,
     gate: &G,
+    way: Way,
 ) -> Result<Joined, Stop>
     requires at { AtLoop plan.now env.now at }
     requires tiling { IsTiling tiles.now (rows_at env.now) }
@@ -167,7 +181,7 @@ fn join_tiles<G: Gate>(
     ensures all { IfOk result (λ j. j.end ≡ rows_at env.now) }
     ensures fault { OnFault result (program_meaning plan.now env.now ≡ fault) }
 {
-    let stretches = match stretches(alloc, tiles, env.rows_of(plan, at), workers) {
+    let stretches = match stretches(alloc, tiles, env.rows_of(plan, at), workers, way.each()) {
         Ok(stretches) => stretches,
         Err(_) => return Err(Stop::Memory),
     };
@@ -182,7 +196,10 @@ fn join_tiles<G: Gate>(
         at,
         gate,
     };
-    join_stretches(rt, alloc, &run, &stretches, workers as usize, start)
+    match way {
+        Way::Mapped => join_stretches(rt, alloc, &run, &stretches, workers as usize, start),
+        Way::Shared => share_stretches(rt, alloc, &run, &stretches, workers, start),
+    }
 }
 
 /// The builder at the start, joined with what stretches make, of which so many are run before what they make is joined.

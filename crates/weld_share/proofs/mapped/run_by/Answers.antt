@@ -2,7 +2,7 @@ use Rattle.std.proofs.Common.{◌+◌, Ok, sym, subst, ◌∙◌, arith}
 use Rattle.weld_data.specs.View.{view_val}
 use Rattle.weld_exec.specs.Run.{NextAnswer, LeavesNone}
 use Rattle.weld_share.proofs.Counting.{HasCounted, HasRoom, counted_same, counted_on, counted_end, room_left, room_on}
-use Rattle.weld_share.proofs.mapped.run_mapped.Goals as goal
+use Rattle.weld_share.proofs.mapped.run_by.Goals as goal
 
 pub returns-in-Ok-Done-clause-note : goal.returns-in-Ok-Done-clause-note
 returns-in-Ok-Done-clause-note g c =

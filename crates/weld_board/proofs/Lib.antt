@@ -1,0 +1,5 @@
+mod Weighing
+mod Stepping
+mod Seating
+mod Totals
+mod Taking

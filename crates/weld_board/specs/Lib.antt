@@ -1,0 +1,4 @@
+pub mod Weights
+pub mod Draws
+pub mod Rule
+pub mod Sitting

@@ -1,0 +1,3 @@
+mod Machines
+mod Once
+pub mod Dealt

@@ -1,0 +1,195 @@
+//! The stretches of a loop, shared by workers at a board.
+
+ghost use Rattle.std.specs.Prelude.{◌≡◌, ◌≤◌, ◌<◌, ◌++◌, ℕ, length, IfOk, OnOk};
+ghost use Rattle.weld_builders.specs.Outcome.{fault};
+ghost use Rattle.weld_eval_values.specs.Answers.{OnFault};
+ghost use Rattle.weld_eval.specs.ThingView.{thing_of};
+ghost use Rattle.weld_tile_parts.specs.Parts.{joined_evaluation, IsWhole};
+ghost use Rattle.weld_exec.specs.Run.{program_meaning, evaluation_of, rows_at, AtLoop};
+ghost use Rattle.weld_workers.specs.Spans.{AreSpans, IsMade};
+ghost use Rattle.weld_share.specs.Stretches.{AreStretches};
+ghost use Rattle.weld_share.specs.Shared.{AreShared, HasMade, row_of};
+
+use crate::stretch::Stretch;
+use crate::tiled::Tiled;
+use crate::way::Way;
+use std::alloc::Global;
+use std::thread::Threads;
+use weld_data::Stop;
+use weld_eval::thing::Owned;
+use weld_exec::{bare_part, part_of, run_in};
+use weld_ports::Gate;
+use weld_tile_parts::Joined;
+use weld_tiles::Tile;
+use weld_workers::{Jobs, Span, share_jobs};
+
+/// Stretches of a loop that follow one another, as jobs.
+#[derive(Drop)]
+pub(crate) struct Batch<'a, 'b, 'c, G> {
+    run: &'c Tiled<'a, 'b, G>,
+    stretches: &'c [Stretch<'a>],
+}
+
+impl<'a, 'b, 'c, G: Gate> Jobs<Owned> for Batch<'a, 'b, 'c, G> {
+    ghost ready = { λ b. AtLoop b.run.now.plan.now b.run.now.env.now b.run.now.at × AreShared (rows_at b.run.now.env.now) b.stretches.now };
+
+    ghost count = { λ b. length b.stretches.now };
+
+    ghost made = { λ b first next part. HasMade b.run.now.plan.now b.run.now.env.now b.stretches.now first next (thing_of part) };
+
+    ghost faults = { λ b. program_meaning b.run.now.plan.now b.run.now.env.now ≡ fault };
+
+    fn begin(&self, _job: u64) -> Result<Owned, Stop> {
+        match bare_part(self.run.plan, self.run.env, self.run.at, self.run.alloc) {
+            Ok(part) => Ok(part),
+            Err(_) => Err(Stop::Memory),
+        }
+    }
+
+    fn run(&self, _first: u64, job: u64, part: &mut Owned) -> Result<(), Stop> {
+        let stretch = &self.stretches[job as usize];
+        let run = self.run;
+        for tile in stretch.tiles {
+            run.gate.before(tile.number);
+            match run_in(run.alloc, run.plan, run.env, run.at, *tile, part) {
+                Ok(()) => {}
+                Err(stop) => return Err(stop),
+            }
+        }
+        Ok(())
+    }
+}
+
+/// The builder at the start, joined with what stretches make, of which as many as the hands hold are shared before what they
+/// make is joined.
+pub(crate) fn share_stretches<G: Gate>(
+    rt: &(impl Threads + Sync),
+    alloc: Global,
+    run: &Tiled<G>,
+    stretches: &[Stretch],
+    workers: u32,
+    start: Joined,
+) -> Result<Joined, Stop>
+    requires at { AtLoop run.now.plan.now run.now.env.now run.now.at }
+    requires whole { IsWhole start }
+    requires evaluation { joined_evaluation start ≡ evaluation_of run.now.plan.now run.now.env.now }
+    requires stretches { AreStretches start.next start.end (rows_at run.now.env.now) stretches.now }
+    requires some_worker { 1 ≤ workers }
+    requires workers { workers ≤ 64 }
+    ensures whole { IfOk result (λ j. IsWhole j) }
+    ensures evaluation { IfOk result (λ j. joined_evaluation j ≡ evaluation_of run.now.plan.now run.now.env.now) }
+    ensures all { IfOk result (λ j. j.end ≡ rows_at run.now.env.now) }
+    ensures fault { OnFault result (program_meaning run.now.plan.now run.now.env.now ≡ fault) }
+{
+    let batch_len = (workers * Way::Shared.each()) as usize;
+    let mut joined = start;
+    let mut at = 0;
+    'batches: while at < stretches.len() {
+        let (_, left) = stretches.split_at(at);
+        let (batch, behind) = left.split_at(left.len().min(batch_len));
+        joined = match share_batch(rt, alloc, run, batch, behind, workers, joined) {
+            Ok(joined) => joined,
+            Err(stop) => return Err(stop),
+        };
+        at += batch.len();
+    }
+    Ok(joined)
+}
+
+/// The builder that has come to the first of some stretches, joined with what these make. `behind` are the stretches that come
+/// after them.
+fn share_batch<G: Gate>(
+    rt: &(impl Threads + Sync),
+    alloc: Global,
+    run: &Tiled<G>,
+    batch: &[Stretch],
+    behind: &[Stretch],
+    workers: u32,
+    joined: Joined,
+) -> Result<Joined, Stop>
+    requires at { AtLoop run.now.plan.now run.now.env.now run.now.at }
+    requires whole { IsWhole joined }
+    requires evaluation { joined_evaluation joined ≡ evaluation_of run.now.plan.now run.now.env.now }
+    requires some { 0 < length batch.now }
+    requires stretches { (n : ℕ) × AreStretches n joined.end (rows_at run.now.env.now) (batch.now ++ behind.now) }
+    requires some_worker { 1 ≤ workers }
+    requires workers { workers ≤ 64 }
+    ensures whole { IfOk result (λ j. IsWhole j) }
+    ensures evaluation { IfOk result (λ j. joined_evaluation j ≡ evaluation_of run.now.plan.now run.now.env.now) }
+    ensures behind { IfOk result (λ j. (n : ℕ) × AreStretches n j.end (rows_at run.now.env.now) behind.now) }
+    ensures fault { OnFault result (program_meaning run.now.plan.now run.now.env.now ≡ fault) }
+{
+    let jobs = Batch {
+        run,
+        stretches: batch,
+    };
+    match share_jobs(rt, alloc, &jobs, batch.len(), workers) {
+        Ok(spans) => enter_spans(run, batch, behind, spans, joined),
+        Err(stop) => Err(stop),
+    }
+}
+
+/// Joins what stretches have made, in their order, to the builder that has come to the first of them.
+fn enter_spans<G: Gate>(
+    run: &Tiled<G>,
+    batch: &[Stretch],
+    behind: &[Stretch],
+    spans: Vec<Span<Owned>>,
+    mut joined: Joined,
+) -> Result<Joined, Stop>
+    requires at { AtLoop run.now.plan.now run.now.env.now run.now.at }
+    requires whole { IsWhole joined }
+    requires evaluation { joined_evaluation joined ≡ evaluation_of run.now.plan.now run.now.env.now }
+    requires some { 0 < length batch.now }
+    requires stretches { (n : ℕ) × AreStretches n joined.end (rows_at run.now.env.now) (batch.now ++ behind.now) }
+    requires spans { AreSpans (λ first next part. HasMade run.now.plan.now run.now.env.now batch.now first next (thing_of part)) 0 (length batch.now) spans.items }
+    ensures whole { IfOk result (λ j. IsWhole j) }
+    ensures evaluation { IfOk result (λ j. joined_evaluation j ≡ evaluation_of run.now.plan.now run.now.env.now) }
+    ensures behind { IfOk result (λ j. (n : ℕ) × AreStretches n j.end (rows_at run.now.env.now) behind.now) }
+    ensures fault { OnFault result (program_meaning run.now.plan.now run.now.env.now ≡ fault) }
+{
+    let _behind = behind;
+    for span in spans {
+        match enter_span(run, batch, span, &mut joined) {
+            Ok(()) => {}
+            Err(stop) => return Err(stop),
+        }
+    }
+    Ok(joined)
+}
+
+/// Joins what the next stretches have made.
+fn enter_span<G: Gate>(
+    run: &Tiled<G>,
+    batch: &[Stretch],
+    span: Span<Owned>,
+    into: &mut Joined,
+) -> Result<(), Stop>
+    requires at { AtLoop run.now.plan.now run.now.env.now run.now.at }
+    requires whole { IsWhole into.old }
+    requires evaluation { joined_evaluation into.old ≡ evaluation_of run.now.plan.now run.now.env.now }
+    requires stretches { AreShared (rows_at run.now.env.now) batch.now }
+    requires made { IsMade (λ first next part. HasMade run.now.plan.now run.now.env.now batch.now first next (thing_of part)) span }
+    requires begins { into.old.end ≡ row_of batch.now span.first }
+    ensures whole { OnOk result (IsWhole into.new) }
+    ensures evaluation { joined_evaluation into.new ≡ joined_evaluation into.old }
+    ensures ends { OnOk result (into.new.end ≡ row_of batch.now span.next) }
+    ensures fault { OnFault result (program_meaning run.now.plan.now run.now.env.now ≡ fault) }
+{
+    let Span {
+        first: _,
+        next,
+        part,
+    } = span;
+    let last = (next - 1) as usize;
+    let tile = Tile {
+        number: into.next,
+        lo: into.end,
+        hi: batch[last].whole.hi,
+    };
+    let part = part_of(run.plan, run.env, run.at, tile, part);
+    match part.seal().enter(into) {
+        Ok(()) => Ok(()),
+        Err(_) => Err(Stop::Memory),
+    }
+}

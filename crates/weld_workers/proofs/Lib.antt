@@ -1,0 +1,4 @@
+mod Done
+mod Ending
+mod Sorting
+mod Seats
