@@ -1,0 +1,12 @@
+pub mod Lists
+pub mod Placing
+pub mod State
+pub mod Rest
+pub mod Means
+pub mod Rules
+pub mod Counts
+pub mod Start
+pub mod ReachedLaws
+pub mod Growing
+pub mod Sound
+pub mod Lowering

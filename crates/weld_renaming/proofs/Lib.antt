@@ -1,0 +1,10 @@
+pub mod Numbers
+pub mod Meanings
+pub mod Types
+pub mod Trees
+pub mod Origins
+pub mod Taken
+pub mod Refusals
+pub mod Looked
+pub mod Changing
+pub mod BoundParts
