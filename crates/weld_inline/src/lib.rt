@@ -1,0 +1,11 @@
+//! Lets put in their place.
+#![tactic(auto)]
+
+mod loops_within;
+mod pass;
+mod plain;
+mod redex;
+mod rule;
+mod spots;
+
+pub use pass::inline_lets;

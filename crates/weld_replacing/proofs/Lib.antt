@@ -1,0 +1,13 @@
+pub mod Outcomes
+pub mod Rows
+pub mod Forms
+pub mod Parts
+pub mod Nodes
+pub mod Lists
+pub mod Lambdas
+pub mod Counts
+pub mod Staying
+pub mod Tidying
+pub mod Scopes
+pub mod Programs
+pub mod Rewriting

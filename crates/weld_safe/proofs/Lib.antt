@@ -1,0 +1,3 @@
+pub mod Decided
+pub mod Clean
+pub mod Valued
