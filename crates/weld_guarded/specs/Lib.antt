@@ -1,0 +1,2 @@
+pub mod Neutral
+pub mod Guard

@@ -1,0 +1,2 @@
+pub mod PickRule
+pub mod Cases
