@@ -1,6 +1,6 @@
 //! The blocks of a job's data, matched with the parameters of a program.
 
-ghost use Rattle.std.specs.Prelude.{◌≡◌, ◌++◌, ◌∷◌, [], ℕ, IfOk, IfErr, OnOk};
+ghost use Rattle.std.specs.Prelude.{◌≡◌, ◌<◌, ◌++◌, ◌∷◌, [], ℕ, IfOk, IfErr, OnOk};
 ghost use Rattle.weld_data.specs.Value.{Value};
 ghost use Rattle.weld_meaning.specs.Typing.{ParamFits, ParamsFit, noted_type};
 ghost use Rattle.weld_meaning.specs.Meaning.{ArgumentsFit};
@@ -10,6 +10,7 @@ use crate::block::read_block;
 use crate::laws::arguments_have_their_types;
 use crate::stop::DataStop;
 use std::alloc::Global;
+use std::thread::Threads;
 use weld_data::Vals;
 use weld_job::{Block, Job};
 use weld_tree::{Binder, Binders, Code};
@@ -17,13 +18,16 @@ use weld_values::laws::well_formed_types_are_readable;
 
 /// Appends the argument that the block of this number gives the parameter.
 fn add_argument(
+    rt: &(impl Threads + Sync),
     alloc: Global,
     param: &Binder,
     block: &Block,
     number: u64,
+    workers: u32,
     arguments: &mut Vals,
 ) -> Result<(), DataStop>
-    requires { ParamFits param.now.note }
+    requires fits { ParamFits param.now.note }
+    requires some_worker { 0 < workers }
     ensures ok { OnOk result ((v : Value) × (arguments.new ≡ arguments.old ++ v ∷ []) × Gives block.now.form block.now.content (noted_type param.now.note) v) }
     ensures unfit { IfErr result (Tells (λ (n : ℕ) (code : _). (n ≡ number) × Fails block.now.form block.now.content (noted_type param.now.note) code)) }
 {
@@ -31,7 +35,7 @@ fn add_argument(
     let Some(ty) = &param.note else {
         unreachable!()
     };
-    let value = read_block(alloc, block, ty, number)?;
+    let value = read_block(rt, alloc, block, ty, number, workers)?;
     match arguments.push(value) {
         Ok(()) => Ok(()),
         Err(_) => Err(DataStop::Memory),
@@ -39,8 +43,15 @@ fn add_argument(
 }
 
 /// The arguments that the blocks give the parameters.
-fn read_blocks(alloc: Global, params: &[Binder], blocks: &[Block]) -> Result<Vals, DataStop>
-    requires { ParamsFit params.now }
+fn read_blocks(
+    rt: &(impl Threads + Sync),
+    alloc: Global,
+    params: &[Binder],
+    blocks: &[Block],
+    workers: u32,
+) -> Result<Vals, DataStop>
+    requires fit { ParamsFit params.now }
+    requires some_worker { 0 < workers }
     ensures arguments { IfOk result (BlocksGive params.now blocks.now) }
     ensures unfit { IfErr result (Tells (BlocksFail params.now blocks.now 1)) }
 {
@@ -51,7 +62,7 @@ fn read_blocks(alloc: Global, params: &[Binder], blocks: &[Block]) -> Result<Val
         let Some((block, more)) = left.split_first() else {
             return Err(DataStop::Unfit(number, Code::Missing));
         };
-        match add_argument(alloc, param, block, number, &mut arguments) {
+        match add_argument(rt, alloc, param, block, number, workers, &mut arguments) {
             Ok(()) => {}
             Err(stop) => return Err(stop),
         }
@@ -72,9 +83,17 @@ fn read_blocks(alloc: Global, params: &[Binder], blocks: &[Block]) -> Result<Val
 /// `Unfit` tells of stray bytes before the blocks by the number 0 and FORM; of a parameter without a block by its number
 /// and MISSING; of a block that is neither a value nor a table of the parameter's type by FORM; of a value that doesn't read
 /// as that type by SYNTAX, RANGE or REPEAT, as `read_value` does; of a table by FORM, LENGTH, SYNTAX or RANGE, as `read_table`
-/// does; and of a block more than there are parameters by EXTRA.
-pub fn read_arguments(alloc: Global, params: &Binders, job: &Job) -> Result<Vals, DataStop>
-    requires { ParamsFit params.now }
+/// does; and of a block more than there are parameters by EXTRA. A long list of scalars is read in as many pieces as there are
+/// workers, side by side; these have no part in the answer.
+pub fn read_arguments(
+    rt: &(impl Threads + Sync),
+    alloc: Global,
+    params: &Binders,
+    job: &Job,
+    workers: u32,
+) -> Result<Vals, DataStop>
+    requires fit { ParamsFit params.now }
+    requires some_worker { 0 < workers }
     ensures arguments { IfOk result (Arguments params.now job.now) }
     ensures typed { IfOk result (ArgumentsFit params.now) }
     ensures unfit { IfErr result (Tells (IsUnfit params.now job.now)) }
@@ -83,5 +102,5 @@ pub fn read_arguments(alloc: Global, params: &Binders, job: &Job) -> Result<Vals
         return Err(DataStop::Unfit(0, Code::Form));
     }
     arguments_have_their_types();
-    read_blocks(alloc, params.as_slice(), job.blocks.as_slice())
+    read_blocks(rt, alloc, params.as_slice(), job.blocks.as_slice(), workers)
 }

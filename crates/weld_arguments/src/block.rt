@@ -1,26 +1,36 @@
 //! One block of a job's data, read for one parameter.
 
-ghost use Rattle.std.specs.Prelude.{◌≡◌, ℕ, IfOk, IfErr};
+ghost use Rattle.std.specs.Prelude.{◌≡◌, ◌<◌, ℕ, IfOk, IfErr};
 ghost use Rattle.weld_data.specs.View.{view_val};
 ghost use Rattle.weld_values.specs.Judging.{IsReadable};
 ghost use Rattle.weld_arguments.specs.Arguments.{Gives, Fails, IsTableCode, Tells};
 
 use crate::stop::DataStop;
 use std::alloc::Global;
+use std::thread::Threads;
 use weld_data::Val;
 use weld_job::{Block, BlockForm};
+use weld_read_pieces::read_value;
 use weld_table::laws::table_types_have_columns;
 use weld_table::{TableFault, Wanted, read_table};
 use weld_tree::{Code, Ty};
-use weld_values::{DataFault, read_value};
+use weld_values::DataFault;
 
 /// The value of the type that the content of a value block reads as.
-fn read_content(alloc: Global, content: &[u8], ty: &Ty, number: u64) -> Result<Val, DataStop>
-    requires { IsReadable ty.now }
+fn read_content(
+    rt: &(impl Threads + Sync),
+    alloc: Global,
+    content: &[u8],
+    ty: &Ty,
+    number: u64,
+    workers: u32,
+) -> Result<Val, DataStop>
+    requires readable { IsReadable ty.now }
+    requires some_worker { 0 < workers }
     ensures value { IfOk result (λ v. Gives BlockForm.Value content.now ty.now (view_val v)) }
     ensures unfit { IfErr result (Tells (λ (n : ℕ) (code : _). (n ≡ number) × Fails BlockForm.Value content.now ty.now code)) }
 {
-    match read_value(alloc, content, ty) {
+    match read_value(rt, alloc, content, ty, workers) {
         Ok(value) => Ok(value),
         Err(DataFault::Syntax) => Err(DataStop::Unfit(number, Code::Syntax)),
         Err(DataFault::Range) => Err(DataStop::Unfit(number, Code::Range)),
@@ -62,17 +72,22 @@ fn read_records(alloc: Global, content: &[u8], ty: &Ty, number: u64) -> Result<V
 
 /// The value of the type that the block gives, which has this number.
 pub(crate) fn read_block(
+    rt: &(impl Threads + Sync),
     alloc: Global,
     block: &Block,
     ty: &Ty,
     number: u64,
+    workers: u32,
 ) -> Result<Val, DataStop>
-    requires { IsReadable ty.now }
+    requires readable { IsReadable ty.now }
+    requires some_worker { 0 < workers }
     ensures value { IfOk result (λ v. Gives block.now.form block.now.content ty.now (view_val v)) }
     ensures unfit { IfErr result (Tells (λ (n : ℕ) (code : _). (n ≡ number) × Fails block.now.form block.now.content ty.now code)) }
 {
     match block.form {
-        BlockForm::Value => read_content(alloc, block.content.as_slice(), ty, number),
+        BlockForm::Value => {
+            read_content(rt, alloc, block.content.as_slice(), ty, number, workers)
+        }
         BlockForm::Table => read_records(alloc, block.content.as_slice(), ty, number),
         BlockForm::Other => Err(DataStop::Unfit(number, Code::Form)),
     }

@@ -3,6 +3,7 @@ ghost use Rattle.weld_meaning.specs.Typing.{ParamsFit};
 
 use std::alloc::{AllocError, Global};
 use std::test::Fail;
+use std::thread::Threads;
 use weld_arguments::{DataStop, read_arguments};
 use weld_data::{Kind, Val, Vals};
 use weld_job::split_blocks;
@@ -62,12 +63,17 @@ fn first_of_two(arguments: &Vals) -> Option<i128> {
 }
 
 /// Whether the case is as it should be.
-fn holds(alloc: Global, params: &Binders, case: &Case) -> Result<bool, AllocError>
+fn holds(
+    rt: &(impl Threads + Sync),
+    alloc: Global,
+    params: &Binders,
+    case: &Case,
+) -> Result<bool, AllocError>
     requires { ParamsFit params.now }
 {
     let (text, wanted) = case;
     let job = split_blocks(alloc, text)?;
-    Ok(match (read_arguments(alloc, params, &job), wanted) {
+    Ok(match (read_arguments(rt, alloc, params, &job, 2), wanted) {
         (Ok(arguments), Ok(first)) => first_of_two(&arguments) == Some(*first),
         (Err(DataStop::Unfit(number, code)), Err((n, c))) => number == *n && code == *c,
         _ => false,
@@ -78,7 +84,7 @@ fn holds(alloc: Global, params: &Binders, case: &Case) -> Result<bool, AllocErro
 fn each_job_has_its_arguments_or_what_is_wrong(rt: HostRuntime) -> Result<(), Fail> {
     let params = params(rt.alloc())?;
     for case in &CASES {
-        assert!(rt; holds(rt.alloc(), &params, case)?);
+        assert!(rt; holds(&rt, rt.alloc(), &params, case)?);
     }
     Ok(())
 }

@@ -8,6 +8,7 @@ ghost use Rattle.weld_meaning.specs.Meaning.{ArgumentsFit};
 
 use std::alloc::{AllocError, Global};
 use std::test::Fail;
+use std::thread::Threads;
 use weld_arguments::read_arguments;
 use weld_check_types::{Typed, check_types};
 use weld_data::{Stop, Val, Vals};
@@ -61,13 +62,13 @@ fn check(alloc: Global, text: &[u8]) -> Result<Checked, Fail>
 
 /// The job, made ready: its program is typed, and its arguments are of its parameters' types. It fails where the job
 /// is refused or its data don't fit.
-pub fn prepare(alloc: Global, job: &str) -> Result<Prepared, Fail>
+pub fn prepare(rt: &(impl Threads + Sync), alloc: Global, job: &str) -> Result<Prepared, Fail>
     ensures typed { IfOk result (λ r. ProgramHas r.checked.normal r.checked.ty) }
     ensures fit { IfOk result (λ r. ArgumentsFit r.checked.normal.params r.arguments) }
 {
     let job = split_blocks(alloc, job.as_bytes())?;
     let checked = check(alloc, job.text.as_slice())?;
-    match read_arguments(alloc, &checked.normal.program.params, &job) {
+    match read_arguments(rt, alloc, &checked.normal.program.params, &job, 2) {
         Ok(arguments) => Ok(Prepared { checked, arguments }),
         Err(_) => Err(Fail::from("the data don't fit")),
     }

@@ -1,7 +1,7 @@
 //! Programs with data, and the text that each must come to.
 
 /// Loops into totals and lists.
-pub(crate) static TOTALS_AND_LISTS: [(&str, &str); 19] = [
+pub static TOTALS_AND_LISTS: [(&str, &str); 19] = [
     (
         "|v: vec[i64]| result(for(v, merger[i64,+], |b,i,x| merge(b, x * x)))\n%%\n%value\n[5,3,8,1,9,2,7,4,6,0,12,11,10]",
         "650",
@@ -81,7 +81,7 @@ pub(crate) static TOTALS_AND_LISTS: [(&str, &str); 19] = [
 ];
 
 /// Loops into dictionaries, groups and cells.
-pub(crate) static KEYS_AND_CELLS: [(&str, &str); 12] = [
+pub static KEYS_AND_CELLS: [(&str, &str); 12] = [
     (
         "|k: vec[i64], v: vec[i64]| result(for(zip(k, v), dictmerger[i64,i64,+], |b,i,x| merge(b, x)))\n%%\n%value\n[2,1,2,3,1,2,3,3,1,2,2,1,3]\n%value\n[5,3,8,1,9,2,7,4,6,0,12,11,10]",
         "dict{1:29,2:27,3:22}",
@@ -133,7 +133,7 @@ pub(crate) static KEYS_AND_CELLS: [(&str, &str); 12] = [
 ];
 
 /// Bodies with loops, names, guards and structs of builders.
-pub(crate) static BODIES: [(&str, &str); 13] = [
+pub static BODIES: [(&str, &str); 13] = [
     (
         "|v: vec[i64]| let r = for(v, {merger[i64,+], merger[i64,+]}, |b,i,x| let c = b.$0; let d = merge(b.$1, i); {merge(c, x), d}); {result(r.$0), result(r.$1)}\n%%\n%value\n[5,3,8,1,9,2,7,4,6,0,12,11,10]",
         "{78,78}",
@@ -189,7 +189,7 @@ pub(crate) static BODIES: [(&str, &str); 13] = [
 ];
 
 /// Each form that may stand above a shared loop.
-pub(crate) static STEPS: [(&str, &str); 25] = [
+pub static STEPS: [(&str, &str); 25] = [
     (
         "|v: vec[i64]| {-result(for(v, merger[i64,+], |b,i,x| merge(b, x))), i8(result(for(v, merger[i64,+], |b,i,x| merge(b, x))) * 10L), !(result(for(v, merger[i64,+], |b,i,x| merge(b, x))) == 35L)}\n%%\n%value\n[5,3,8,1,9,2,7]",
         "{-35,94,false}",
@@ -293,7 +293,7 @@ pub(crate) static STEPS: [(&str, &str); 25] = [
 ];
 
 /// Loops in arms, in states and turns, and behind `&&` and `||`; programs without loops.
-pub(crate) static ABOVE_LOOPS: [(&str, &str); 10] = [
+pub static ABOVE_LOOPS: [(&str, &str); 10] = [
     (
         "|v: vec[i64]| iterate(result(for(v, merger[i64,+], |b,i,x| merge(b, x))), |s| {s - 7L, s > 20L})\n%%\n%value\n[5,3,8,1,9,2,7,4,6,0,12,11,10]",
         "8",
@@ -331,7 +331,7 @@ pub(crate) static ABOVE_LOOPS: [(&str, &str); 10] = [
 ];
 
 /// Programs that fault: in a row, in a leg, and above the loops.
-pub(crate) static FAULTS: [(&str, &str); 13] = [
+pub static FAULTS: [(&str, &str); 13] = [
     (
         "|v: vec[i64]| result(for(v, merger[i64,+], |b,i,x| merge(b, 10L / (x - 7L))))\n%%\n%value\n[5,3,8,1,9,2,7,4,6,0,12,11,10]",
         "fault",
@@ -381,7 +381,7 @@ pub(crate) static FAULTS: [(&str, &str); 13] = [
 ];
 
 /// Loops over seven rows, into each builder and into a struct of structs of them; the last one faults.
-pub(crate) static SEVEN_ROWS: [(&str, &str); 8] = [
+pub static SEVEN_ROWS: [(&str, &str); 8] = [
     (
         "|v: vec[i64]| result(for(v, merger[i64,+], |b,i,x| merge(b, x * i)))\n%%\n%value\n[5,3,8,1,9,2,7]",
         "110",

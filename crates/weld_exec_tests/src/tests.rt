@@ -10,6 +10,7 @@ use crate::programs::{
 };
 use std::alloc::{AllocError, Global};
 use std::test::Fail;
+use std::thread::Threads;
 use weld_data::Vals;
 use weld_eval_plain::eval_plain;
 use weld_meaning::laws::typed_programs_are_never_stuck;
@@ -72,16 +73,16 @@ fn agrees(
 }
 
 /// Whether the job comes to this in all these ways.
-fn holds(alloc: Global, job: &str, wanted: &str) -> Result<bool, Fail> {
-    let job = prepare(alloc, job)?;
+fn holds(rt: &(impl Threads + Sync), alloc: Global, job: &str, wanted: &str) -> Result<bool, Fail> {
+    let job = prepare(rt, alloc, job)?;
     let plan = make_plan(alloc, &job.checked.normal)?;
     Ok(agrees(alloc, &plan, &job.checked.ty, &job.arguments, wanted)?)
 }
 
 /// Each of these jobs comes to its text in all these ways.
-fn all_hold(alloc: Global, jobs: &[(&str, &str)]) -> Result<(), Fail> {
+fn all_hold(rt: &(impl Threads + Sync), alloc: Global, jobs: &[(&str, &str)]) -> Result<(), Fail> {
     for (job, wanted) in jobs {
-        if !holds(alloc, job, wanted)? {
+        if !holds(rt, alloc, job, wanted)? {
             return Err(Fail::from(*job));
         }
     }
@@ -90,35 +91,35 @@ fn all_hold(alloc: Global, jobs: &[(&str, &str)]) -> Result<(), Fail> {
 
 #[test]
 fn totals_and_lists(rt: HostRuntime) -> Result<(), Fail> {
-    all_hold(rt.alloc(), &TOTALS_AND_LISTS)
+    all_hold(&rt, rt.alloc(), &TOTALS_AND_LISTS)
 }
 
 #[test]
 fn keys_and_cells(rt: HostRuntime) -> Result<(), Fail> {
-    all_hold(rt.alloc(), &KEYS_AND_CELLS)
+    all_hold(&rt, rt.alloc(), &KEYS_AND_CELLS)
 }
 
 #[test]
 fn bodies(rt: HostRuntime) -> Result<(), Fail> {
-    all_hold(rt.alloc(), &BODIES)
+    all_hold(&rt, rt.alloc(), &BODIES)
 }
 
 #[test]
 fn steps(rt: HostRuntime) -> Result<(), Fail> {
-    all_hold(rt.alloc(), &STEPS)
+    all_hold(&rt, rt.alloc(), &STEPS)
 }
 
 #[test]
 fn above_loops(rt: HostRuntime) -> Result<(), Fail> {
-    all_hold(rt.alloc(), &ABOVE_LOOPS)
+    all_hold(&rt, rt.alloc(), &ABOVE_LOOPS)
 }
 
 #[test]
 fn faults(rt: HostRuntime) -> Result<(), Fail> {
-    all_hold(rt.alloc(), &FAULTS)
+    all_hold(&rt, rt.alloc(), &FAULTS)
 }
 
 #[test]
 fn each_tiling_of_seven_rows(rt: HostRuntime) -> Result<(), Fail> {
-    all_hold(rt.alloc(), &SEVEN_ROWS)
+    all_hold(&rt, rt.alloc(), &SEVEN_ROWS)
 }

@@ -23,3 +23,7 @@ pub mod Readable
 pub mod OneReading
 pub mod Ascending
 pub mod Settling
+pub mod Runs
+pub mod Cuts
+pub mod Pieces
+pub mod CutBack

@@ -1,5 +1,5 @@
 -- The steps of reading numbers.
-use Rattle.std.proofs.Common.{◌≡◌, ◌⊎◌, inl, inr, sym, ◌∙◌, ℕ, ◌+◌, ◌*◌, ◌-◌, ◌/◌, ◌^◌, ◌<◌, ◌≤◌, true, List, [], ◌∷◌, length, Some, None, refl, ap, arith, if◌then◌else◌}
+use Rattle.std.proofs.Common.{◌≡◌, ◌⊎◌, inl, inr, sym, ◌∙◌, ℕ, ◌+◌, ◌*◌, ◌-◌, ◌/◌, ◌^◌, ◌<◌, ◌≤◌, true, List, [], ◌∷◌, length, drop, Bool, false, Some, None, refl, ap, arith, if◌then◌else◌}
 use Rattle.std.proofs.lemmas.Bool.{cases_lt}
 use Rattle.weld_values.specs.Tokens.{value_after, is_digit, digit_run, after_digits, numeral_of, numeral_at}
 
@@ -49,3 +49,20 @@ after_step digit text rest t d = sym (ap after_digits t ∙ ap (λ b. if b then 
 
 pub run_step : (digit : ℕ) (text rest : List ℕ) → text ≡ digit ∷ rest → is_digit digit ≡ true → length (digit_run text) ≡ length (digit_run rest) + 1
 run_step digit text rest t d = ap (λ (x : List ℕ). length (digit_run x)) t ∙ ap (λ b. length (if b then digit ∷ digit_run rest else [])) d ∙ omega arith
+
+after_by : (byte : ℕ) (bytes : List ℕ) (b : Bool) → after_digits bytes ≡ drop (length (digit_run bytes)) bytes → (if b then after_digits bytes else byte ∷ bytes) ≡ drop (length (if b then byte ∷ digit_run bytes else [])) (byte ∷ bytes)
+after_by byte bytes true h = h
+after_by byte bytes false h = refl
+
+-- what follows digits is what is left when they are dropped
+pub after_is_drop : (text : List ℕ) → after_digits text ≡ drop (length (digit_run text)) text
+after_is_drop [] = refl
+after_is_drop (byte ∷ bytes) = after_by byte bytes (is_digit byte) (after_is_drop bytes)
+
+count_by : (byte : ℕ) (bytes : List ℕ) (b : Bool) → length (after_digits bytes) + length (digit_run bytes) ≡ length bytes → length (if b then after_digits bytes else byte ∷ bytes) + length (if b then byte ∷ digit_run bytes else []) ≡ length (byte ∷ bytes)
+count_by byte bytes true h = omega arith
+count_by byte bytes false h = omega arith
+
+pub digits_count : (text : List ℕ) → length (after_digits text) + length (digit_run text) ≡ length text
+digits_count [] = refl
+digits_count (byte ∷ bytes) = count_by byte bytes (is_digit byte) (digits_count bytes)

@@ -335,7 +335,7 @@ mutual
 -- ---- whole texts
 
 -- all numbers are in range, and the entries of each dictionary stand in order
-abbrev Good : Value → Type 0
+abbrev pub Good : Value → Type 0
 Good v = IsInRange v × Settles v v
 
 all_good : (P : Value → Type 0) → ((v : Value) → P v → Good v) → (us : Values) → AllAre P us → AreInRange us × SettleAll us us
@@ -391,7 +391,7 @@ dict_good k u one two (dict es) h =
     (g.0, (es, list_of_entries es, ap dict (sym (entries-list_of_entries es)), g.1, IsPermutation-refl (list_of_entries es), h.1))
 
 mutual
-  typed_good : (t : TypeTree) → IsReadable t → (v : Value) → HasValue t v → Good v
+  pub typed_good : (t : TypeTree) → IsReadable t → (v : Value) → HasValue t v → Good v
   typed_good (scalar kind) p = scalar_good kind
   typed_good (vec t) p = vec_good t (typed_good t p)
   typed_good (struct_of ts) p = struct_good ts (all_typed_good ts p)

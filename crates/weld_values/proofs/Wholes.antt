@@ -12,7 +12,7 @@ use Rattle.weld_values.specs.Reading.{Spells, ReadsAs, WhyNot}
 use Rattle.weld_values.specs.Judging.{IsRead, IsUnread}
 use Rattle.weld_values.proofs.Soles.{at_sole}
 
-empty_is : (text : List ℕ) → length text ≡ 0 → text ≡ []
+pub empty_is : (text : List ℕ) → length text ≡ 0 → text ≡ []
 empty_is [] h = refl
 empty_is (x ∷ xs) h = absurd (omega arith)
 

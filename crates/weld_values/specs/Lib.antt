@@ -3,3 +3,5 @@ pub mod Grammar
 pub mod Reading
 pub mod Judging
 pub mod Showing
+pub mod Runs
+pub mod Pieces

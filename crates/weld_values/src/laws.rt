@@ -1,12 +1,15 @@
 //! Laws of this crate's definitions, each the contract of a function that does nothing.
 
-ghost use Rattle.std.specs.Prelude.{◌≡◌, ◌⊎◌, ℕ, List};
-ghost use Rattle.weld_data.specs.Value.{Value};
-ghost use Rattle.weld_tree.specs.TypeTree.{TypeTree};
+ghost use Rattle.std.specs.Prelude.{◌≡◌, ◌⊎◌, ◌++◌, ◌∷◌, ℕ, List, All};
+ghost use Rattle.weld_data.specs.declared.kind.Kind.{Kind};
+ghost use Rattle.weld_data.specs.Value.{Value, list, values};
+ghost use Rattle.weld_tree.specs.TypeTree.{TypeTree, scalar, vec};
 ghost use Rattle.weld_tree.specs.Types.{IsWellFormed, IsBuilderFree};
 ghost use Rattle.weld_fits.specs.HasValue.{HasValue};
 ghost use Rattle.weld_values.specs.Reading.{Spells, ReadsAs, WhyNot};
 ghost use Rattle.weld_values.specs.Judging.{IsReadable};
+ghost use Rattle.weld_values.specs.Grammar.{Found, scalar_at};
+ghost use Rattle.weld_values.specs.Pieces.{Separated, InBrackets};
 ghost use Rattle.weld_values.specs.Showing.{show};
 
 use crate::fault::DataFault;
@@ -45,4 +48,19 @@ pub fn written_values_read_back()
 pub fn each_text_reads_or_not()
     ensures { (text : List ℕ) (t : TypeTree) → IsReadable t
         → ((v : Value) × ReadsAs text t v) ⊎ ((f : _) × WhyNot text t f × (f ≡ DataFault.Memory → ⊥)) }
+{}
+
+/// A text that is cut at a comma is scalars with commas between them just where both of its parts are; they are those of the
+/// one and then those of the other.
+pub fn scalars_join_at_commas()
+    ensures joined { (k : Kind) (p q : List ℕ) (vs ws : List Value) → Separated (Found (scalar_at k)) vs p → Separated (Found (scalar_at k)) ws q
+        → Separated (Found (scalar_at k)) (vs ++ ws) (p ++ 44 ∷ q) }
+    ensures cut { (k : Kind) (p q : List ℕ) (us : List Value) → Separated (Found (scalar_at k)) us (p ++ 44 ∷ q)
+        → (vs : List Value) × (ws : List Value) × (us ≡ vs ++ ws) × Separated (Found (scalar_at k)) vs p × Separated (Found (scalar_at k)) ws q }
+{}
+
+/// Scalars with commas between them, in brackets, read as the list of them.
+pub fn scalars_in_brackets_read_as_lists()
+    ensures { (k : Kind) (text body : List ℕ) (vs : List Value) → InBrackets text body → Separated (Found (scalar_at k)) vs body
+        → All (HasValue (scalar k)) vs → ReadsAs text (vec (scalar k)) (list (values vs)) }
 {}

@@ -3,9 +3,11 @@
 
 mod cell;
 mod column;
+mod digits;
 mod fault;
 mod flaw;
 pub mod laws;
+mod piece;
 mod read;
 mod string;
 mod tokens;
@@ -13,6 +15,7 @@ mod whole;
 
 pub use cell::Cell;
 pub use fault::DataFault;
+pub use piece::{inside_brackets, read_piece};
 pub use read::read_value;
 pub use weld_write_value::write_value;
 pub use whole::read_cell;

@@ -1,17 +1,19 @@
 //! The parts of a value's text that are no values themselves.
 
-ghost use Rattle.std.specs.Prelude.{◌≡◌, ◌^◌, ◌≤◌, ◌+◌, ◌<◌, length, ◌*◌, pos, neg_ℤ, ℤ, List, ℕ, Some, None, IfSome, IfNone};
+ghost use Rattle.std.specs.Prelude.{◌≡◌, ◌≤◌, ◌+◌, ◌<◌, length, pos, neg_ℤ, ℤ, ℕ, Some, None, IfSome, IfNone};
 ghost use Rattle.std.specs.Option.{option_copied, option_map};
 ghost use Rattle.weld_values.specs.Tokens as tokens;
-ghost use Rattle.weld_values.specs.Tokens.{is_blank, is_digit, value_after, digit_run, after_digits, numeral_at, integer_at};
+ghost use Rattle.weld_values.specs.Tokens.{is_blank, numeral_at, integer_at};
 ghost use Rattle.weld_data.specs.Value.{number};
 ghost use Rattle.weld_data.specs.Operation.{truth};
 ghost use Rattle.weld_data.specs.declared.kind.Kind.TheVariants as kinds;
 ghost use Rattle.weld_values.specs.Grammar.{truth_at};
 ghost use Rattle.weld_values.specs.Judging.{IsCapped, IsClamped};
 
+use crate::digits::leading_digits;
+
 /// Whether the byte is a space, a tab, a carriage return or a line feed.
-fn is_blank(byte: u8) -> bool
+pub(crate) fn is_blank(byte: u8) -> bool
     ensures { result ≡ is_blank byte }
 {
     byte == b' ' || byte == b'\t' || byte == b'\r' || byte == b'\n'
@@ -50,45 +52,6 @@ pub(crate) fn byte_at(text: &[u8], byte: u8) -> Option<&[u8]>
     ensures less { IfSome result (λ rest. length rest.now < length text.now) }
 {
     after_byte(after_blanks(text), byte)
-}
-
-/// Whether the byte is a decimal digit.
-fn is_digit(byte: u8) -> bool
-    ensures { result ≡ is_digit byte }
-{
-    b'0' <= byte && byte <= b'9'
-}
-
-/// The number that a digit more writes. In place of a number greater than 2 to the 63 it may be another such one.
-fn appended(value: u64, digit: u8) -> u64
-    requires { digit ≤ 9 }
-    ensures small { value ≤ 922337203685477580 → result ≡ value * 10 + digit }
-    ensures great { 922337203685477580 < value → 2 ^ 63 < result }
-{
-    if value > (1 << 63) / 10 {
-        u64::MAX
-    } else {
-        value * 10 + u64::from(digit)
-    }
-}
-
-/// The number that the digits at the front of the text write, 0 where there are none, and what follows them.
-/// In place of a number greater than 2 to the 63 it may be another such one.
-fn leading_digits(text: &[u8]) -> (u64, &[u8])
-    ensures value { IsCapped result.0 (value_after 0 (digit_run text.now)) }
-    ensures rest { result.1.now ≡ after_digits text.now }
-    ensures count { length result.1.now + length (digit_run text.now) ≡ length text.now }
-{
-    let mut value = 0u64;
-    let mut rest = text;
-    while let Some((first, more)) = rest.split_first() {
-        if !is_digit(*first) {
-            return (value, rest);
-        }
-        value = appended(value, *first - b'0');
-        rest = more;
-    }
-    (value, rest)
 }
 
 /// The number that the digits at the front of the text write, and what follows them; none where no digit stands there.

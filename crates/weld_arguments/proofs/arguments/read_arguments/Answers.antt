@@ -8,9 +8,9 @@ use Rattle.weld_arguments.proofs.Blocks.{data_give}
 use Rattle.weld_arguments.proofs.arguments.read_arguments.Goals as goal
 
 pub returns-clause-typed : goal.returns-clause-typed
-returns-clause-typed c =
+returns-clause-typed g c =
     IfOk-weaker c.read_blocks.result (BlocksGive c.as_slice.result.now c.as_slice-2.result.now) (ArgumentsFit c.args.params.now)
-    (λ vs h. c.arguments_have_their_types.ensures c.args.params.now c.args.job.now vs c.requires
+    (λ vs h. c.arguments_have_their_types.ensures c.args.params.now c.args.job.now vs c.requires.fit
     (data_give c.args.job.now.stray c.args.params.now c.args.job.now.blocks vs c.if-job.false
     (subst₂ (λ (bs : List Binder) (ks : List Block). BlocksGive bs ks vs) c.as_slice.ensures c.as_slice-2.ensures h)))
     c.read_blocks.ensures.arguments

@@ -1,0 +1,38 @@
+//! Text cut at commas.
+
+ghost use Rattle.std.specs.Prelude.{◌≡◌, ◌++◌, ◌∷◌, ◌<◌, List, ℕ, length, map, IfOk, IfSome};
+ghost use Rattle.weld_read_pieces.specs.Cuts.{with_commas};
+
+use std::alloc::{AllocError, Global};
+
+/// The text before the first comma at this place or a later one, and what follows that comma.
+fn cut_from(text: &[u8], place: usize) -> Option<(&[u8], &[u8])>
+    ensures parts { IfSome result (λ parts. text.now ≡ parts.0.now ++ 44 ∷ parts.1.now) }
+    ensures less { IfSome result (λ parts. length parts.1.now < length text.now) }
+{
+    for at in place..text.len() {
+        if text[at] == b',' {
+            return Some((&text[..at], &text[at + 1..]));
+        }
+    }
+    None
+}
+
+/// The text cut at commas into pieces, of which each but the last has at least so many bytes.
+pub(crate) fn cut_pieces<'a>(
+    alloc: Global,
+    text: &'a [u8],
+    size: usize,
+) -> Result<Vec<&'a [u8]>, AllocError>
+    ensures some { IfOk result (λ pieces. 0 < length pieces.items) }
+    ensures pieces { IfOk result (λ pieces. text.now ≡ with_commas (map (λ p. p.now) pieces.items)) }
+{
+    let mut pieces = Vec::new(alloc);
+    let mut rest = text;
+    while let Some((piece, more)) = cut_from(rest, size) {
+        pieces.push(piece)?;
+        rest = more;
+    }
+    pieces.push(rest)?;
+    Ok(pieces)
+}

@@ -1,0 +1,8 @@
+//! Values read by several threads: a long list of scalars is cut at commas into pieces, which are read side by side and joined.
+#![tactic(auto)]
+
+mod cutting;
+mod joining;
+mod reading;
+
+pub use reading::read_value;
