@@ -3,3 +3,7 @@ mod Stepping
 mod Seating
 mod Totals
 mod Taking
+mod Owners
+mod Lefts
+mod Takings
+mod Changes

@@ -57,7 +57,7 @@ word_bound d s k h low =
     omega arith
 
 -- the word doesn't wrap
-word_next : (d : Dealt) (s : State ℕ (List Share)) (k : ℕ) → Shares d s → k < d.workers → (get_or s.words k 0 + 1) % 2 ^ 64 ≡ get_or s.words k 0 + 1
+pub word_next : (d : Dealt) (s : State ℕ (List Share)) (k : ℕ) → Shares d s → k < d.workers → (get_or s.words k 0 + 1) % 2 ^ 64 ≡ get_or s.words k 0 + 1
 word_next d s k h low =
     let bound = word_bound d s k h low in
     let end = start_within d.tiles d.workers (k + 1) (omega arith) in
@@ -102,7 +102,7 @@ module _ (d : Dealt) (s : State ℕ (List Share)) (id k n : ℕ) (x : Share) (h 
         omega arith,
   )
 
-  draws_kept : late d k x.draws ≡ 0 → Shares d (record { words = set s.words k (n + 1); homes = s.homes; views = set s.views id (drawn (x ∷ []) k n) })
+  pub draws_kept : late d k x.draws ≡ 0 → Shares d (record { words = set s.words k (n + 1); homes = s.homes; views = set s.views id (drawn (x ∷ []) k n) })
   draws_kept none = record {
     hands = length-set s.words k (n + 1) ∙ h.hands;
     room = h.room;

@@ -43,15 +43,15 @@ on_hands_more : (w : ℕ) (draws : List (ℕ × ℕ)) (k n : ℕ) → k < w → 
 on_hands_more w [] k n low on = (low, tt)
 on_hands_more w (x ∷ xs) k n low on = (on.0, on_hands_more w xs k n low on.1)
 
-tiles_more : (d : Dealt) (draws more : List (ℕ × ℕ)) → tiles_drawn d (draws ++ more) ≡ tiles_drawn d draws ++ tiles_drawn d more
+pub tiles_more : (d : Dealt) (draws more : List (ℕ × ℕ)) → tiles_drawn d (draws ++ more) ≡ tiles_drawn d draws ++ tiles_drawn d more
 tiles_more d [] more = refl
 tiles_more d (x ∷ xs) more = ap (λ l. cond (ltb x.1 (size_of d x.0)) ((first_of d x.0 + x.1) ∷ []) [] ++ l) (tiles_more d xs more)
     ∙ sym (append_assoc (cond (ltb x.1 (size_of d x.0)) ((first_of d x.0 + x.1) ∷ []) []) (tiles_drawn d xs) (tiles_drawn d more))
 
-tile_early : (d : Dealt) (k n : ℕ) → n < size_of d k → tiles_drawn d ((k, n) ∷ []) ≡ (first_of d k + n) ∷ []
+pub tile_early : (d : Dealt) (k n : ℕ) → n < size_of d k → tiles_drawn d ((k, n) ∷ []) ≡ (first_of d k + n) ∷ []
 tile_early d k n low = ap (λ b. cond {A = List ℕ} b ((first_of d k + n) ∷ []) [] ++ []) (lt-ltb n (size_of d k) low)
 
-tile_late : (d : Dealt) (k n : ℕ) → size_of d k ≤ n → tiles_drawn d ((k, n) ∷ []) ≡ []
+pub tile_late : (d : Dealt) (k n : ℕ) → size_of d k ≤ n → tiles_drawn d ((k, n) ∷ []) ≡ []
 tile_late d k n high = let no : ltb n (size_of d k) ≡ false = grind (arith, nat_tests) in ap (λ b. cond {A = List ℕ} b ((first_of d k + n) ∷ []) [] ++ []) no
 
 -- a place of a hand is a tile's

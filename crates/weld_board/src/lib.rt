@@ -6,6 +6,7 @@ pub mod board;
 pub mod closing;
 pub mod dealing;
 pub mod dealt;
+pub mod laws;
 pub mod rule;
 pub mod seat;
 pub mod seats;

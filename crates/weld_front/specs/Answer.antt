@@ -85,6 +85,13 @@ pub record Asks (words : List (List ℕ)) (task : Task) : Type 0 where
   pub command : options.command ≡ command_of task
   pub unreported : options.report ≡ false
 
+-- the words are in form and ask for so many workers, and for tiles of so many rows at most
+pub record AskToShare (words : List (List ℕ)) (workers cut : ℕ) : Type 0 where
+  pub options : Options
+  pub form : IsForm words options
+  pub as_many : options.workers ≡ workers
+  pub as_long : options.cut ≡ cut
+
 abbrev pub AreServed : List (List ℕ) → Type 0
 AreServed words = (task : Task) × Asks words task
 

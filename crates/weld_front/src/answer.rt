@@ -144,7 +144,7 @@ fn run_on<R: Threads + Sync, G: Gate>(
 {
     typed_programs_are_never_stuck();
     match run_program(rt, alloc, program, arguments, asked, gate) {
-        Ok(value) => done(alloc, &value, ty),
+        Ok((value, _note)) => done(alloc, &value, ty),
         Err(Stop::Fault) => fault(alloc),
         Err(Stop::Memory) => Err(AllocError),
     }
@@ -163,7 +163,7 @@ fn run_job<R: Threads + Sync, G: Gate>(
     ensures { IfOk result (λ answer. ProgramAnswers checked.program checked.ty job.now answer.status answer.text) }
 {
     let Checked { program, ty } = checked;
-    match read_arguments(alloc, &program.program().params, job) {
+    match read_arguments(rt, alloc, &program.program().params, job, asked.workers) {
         Ok(arguments) => run_on(rt, alloc, program, &ty, &arguments, asked, gate),
         Err(DataStop::Unfit(number, code)) => unfit(alloc, number, code),
         Err(DataStop::Memory) => Err(AllocError),

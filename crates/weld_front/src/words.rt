@@ -1,5 +1,5 @@
 ghost use Rattle.std.specs.Prelude.{◌≡◌, ◌≤◌, false, map, string_bytes, IfOk, IfSome, IfNone};
-ghost use Rattle.weld_front.specs.Answer.{command_of, Asks, AreServed};
+ghost use Rattle.weld_front.specs.Answer.{command_of, Asks, AskToShare, AreServed};
 
 use crate::asked::Asked;
 use std::alloc::{AllocError, Global};
@@ -40,6 +40,7 @@ fn asked_of(options: &Options) -> Option<Asked>
     requires few_workers { options.now.workers ≤ 64 }
     requires some_rows { 1 ≤ options.now.cut }
     ensures found { IfSome result (λ asked. (options.now.command ≡ command_of asked.task) × (options.now.report ≡ false)) }
+    ensures shared { IfSome result (λ asked. (options.now.workers ≡ asked.workers) × (options.now.cut ≡ asked.cut)) }
     ensures none { IfNone result ((task : Task) → options.now.command ≡ command_of task → options.now.report ≡ false → ⊥) }
 {
     match task_of(options) {
@@ -57,6 +58,7 @@ fn asked_of(options: &Options) -> Option<Asked>
 #[tactic(auto, using(crate::proofs::Asking::workers_asked, crate::proofs::Asking::few_asked, crate::proofs::Asking::rows_asked))]
 pub fn read_task(alloc: Global, words: &[String]) -> Result<Option<Asked>, AllocError>
     ensures found { IfOk result (λ asked. IfSome asked (λ a. Asks (map string_bytes words.now) a.task)) }
+    ensures shared { IfOk result (λ asked. IfSome asked (λ a. AskToShare (map string_bytes words.now) a.workers a.cut)) }
     ensures none { IfOk result (λ asked. IfNone asked (AreServed (map string_bytes words.now) → ⊥)) }
 {
     one_reading();

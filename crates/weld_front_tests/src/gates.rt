@@ -42,6 +42,8 @@ struct Meeting {
 }
 
 impl Gate for Meeting {
+    ghost told = { λ _ _. Unit {0} };
+
     fn before(&self, _tile: u64) {
         if self.told.fetch_add(1, Ordering::SeqCst) > 0 {
             return;
@@ -85,6 +87,8 @@ struct Counting {
 }
 
 impl Gate for Counting {
+    ghost told = { λ _ _. Unit {0} };
+
     fn before(&self, tile: u64) {
         match tile {
             0 => self.first.fetch_add(1, Ordering::SeqCst),

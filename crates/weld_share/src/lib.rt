@@ -8,6 +8,7 @@ mod parallel;
 mod sharing;
 mod stretch;
 mod tiled;
+mod told;
 mod way;
 
 pub use mapped::{run_mapped, run_plan};

@@ -12,12 +12,13 @@ ghost use Rattle.weld_share.specs.Shared.{AreShared, HasMade, row_of};
 
 use crate::stretch::Stretch;
 use crate::tiled::Tiled;
+use crate::told::run_told;
 use crate::way::Way;
 use std::alloc::Global;
 use std::thread::Threads;
 use weld_data::Stop;
 use weld_eval::thing::Owned;
-use weld_exec::{bare_part, part_of, run_in};
+use weld_exec::{bare_part, part_of};
 use weld_ports::Gate;
 use weld_tile_parts::Joined;
 use weld_tiles::Tile;
@@ -51,7 +52,7 @@ impl<'a, 'b, 'c, G: Gate> Jobs<Owned> for Batch<'a, 'b, 'c, G> {
         let run = self.run;
         for tile in stretch.tiles {
             run.gate.before(tile.number);
-            match run_in(run.alloc, run.plan, run.env, run.at, *tile, part) {
+            match run_told(run, run.alloc, run.plan, run.env, run.at, *tile, part) {
                 Ok(()) => {}
                 Err(stop) => return Err(stop),
             }

@@ -14,11 +14,12 @@ ghost use Rattle.weld_share.specs.Stretches.{IsStretchOf, AreStretches};
 use crate::parallel::{RunsStretches, map_stretches};
 use crate::sharing::share_stretches;
 use crate::stretch::{Stretch, stretches};
+use crate::told::{Tells, run_told};
 use crate::way::Way;
 use std::alloc::Global;
 use std::thread::Threads;
 use weld_data::Stop;
-use weld_exec::{Env, bare_part, part_of, run_in};
+use weld_exec::{Env, bare_part, part_of};
 use weld_meaning::LoopId;
 use weld_plan::Plan;
 use weld_ports::Gate;
@@ -35,6 +36,10 @@ pub(crate) struct Tiled<'a, 'b, G> {
     pub(crate) gate: &'a G,
 }
 
+impl<'a, 'b, G: Gate> Tells for Tiled<'a, 'b, G> {
+    ghost has_told = { λ r n. G.told r.gate.now n };
+}
+
 impl<'a, 'b, G: Gate> RunsStretches for Tiled<'a, 'b, G> {
     ghost takes = { λ r s. AtLoop r.plan.now r.env.now r.at × IsStretchOf (rows_at r.env.now) s };
 
@@ -47,7 +52,9 @@ impl<'a, 'b, G: Gate> RunsStretches for Tiled<'a, 'b, G> {
         };
         for tile in stretch.tiles {
             self.gate.before(tile.number);
-            match run_in(self.alloc, self.plan, self.env, self.at, *tile, &mut part) {
+            match run_told(
+                self, self.alloc, self.plan, self.env, self.at, *tile, &mut part,
+            ) {
                 Ok(()) => {}
                 Err(stop) => return Err(stop),
             }

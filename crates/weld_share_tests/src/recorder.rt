@@ -48,6 +48,8 @@ impl Recorder {
 }
 
 impl Gate for Recorder {
+    ghost told = { λ _ _. Unit {0} };
+
     fn before(&self, tile: u64) {
         match self.told.get(tile as usize) {
             Some(told) => told.fetch_add(1, Ordering::SeqCst),

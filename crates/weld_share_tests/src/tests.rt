@@ -82,7 +82,7 @@ fn are_runs_so(
 
 /// Whether all runs of the job are so.
 fn holds(rt: &(impl Threads + Sync), alloc: Global, job: &Job) -> Result<bool, Fail> {
-    let prepared = prepare(alloc, job.text)?;
+    let prepared = prepare(rt, alloc, job.text)?;
     let plan = make_plan(alloc, &prepared.checked.normal)?;
     let ty = &prepared.checked.ty;
     for (cut, tiles) in CUTS.iter().zip(&job.tiles) {
@@ -113,7 +113,7 @@ fn counts_so(rt: &(impl Threads + Sync), alloc: Global, counted: &Counted) -> Re
     if counted.cut == 0 {
         return Err(Fail::from("no such cut"));
     }
-    let prepared = prepare(alloc, counted.text)?;
+    let prepared = prepare(rt, alloc, counted.text)?;
     let plan = make_plan(alloc, &prepared.checked.normal)?;
     match run_plan(
         rt,

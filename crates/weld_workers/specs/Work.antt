@@ -1,6 +1,7 @@
 -- Workers, between two jobs (this project's profile).
-use Rattle.std.specs.Prelude.{◌≡◌, ℕ, ◌<◌, List, [], length, slice_index_or, Option, Some, None}
+use Rattle.std.specs.Prelude.{◌≡◌, ◌≢◌, ℕ, ◌<◌, List, [], length, slice_index_or, Option, Some, None, All}
 use Rattle.weld_data.specs.declared.stop.Stop.{Stop}
+use Rattle.weld_data.specs.declared.stop.Stop.TheVariants.{Fault, Memory}
 use Rattle.weld_tiles.specs.declared.tile.Tile.{Tile}
 use Rattle.weld_board.specs.declared.board.Board.{Board}
 use Rattle.weld_board.specs.Sitting.{Sits, IsEmptied, taken}
@@ -38,3 +39,13 @@ HasWorked made faults b w = Works made faults b w × IsEmptied w.seat
 -- nothing has stopped the worker
 abbrev pub Goes : {P : Type 0} → Worker P → Type 0
 Goes w = w.stop ≡ None
+
+-- a fault hasn't
+abbrev pub HasNoFault : {P : Type 0} → Worker P → Type 0
+HasNoFault w = w.stop ≢ Some Fault
+
+-- what has stopped some workers: nothing; a fault one of them; or want of memory one of them, and a fault none
+abbrev pub Stopped : {P : Type 0} → List (Worker P) → Option Stop → Type 0
+Stopped ws None = All Goes ws
+Stopped ws (Some Fault) = All HasNoFault ws → ⊥
+Stopped ws (Some Memory) = All HasNoFault ws × (All Goes ws → ⊥)

@@ -1,10 +1,10 @@
 //! What workers have made, put together.
 
-ghost use Rattle.std.specs.Prelude.{◌≡◌, ◌<◌, [], All, length, map, IfOk, OnOk, MatchOption, IsPermutation, Some};
+ghost use Rattle.std.specs.Prelude.{◌≡◌, ◌<◌, [], All, length, map, IfOk, OnOk, IsPermutation};
 ghost use Rattle.weld_hands.specs.Dealing.{joined};
 ghost use Rattle.weld_board.specs.Sitting.{Sits, IsEmptied, board_dealt, seats_in, seats_room, taken, numbers};
 ghost use Rattle.weld_workers.specs.Spans.{jobs_in, AreMade, AreSpans, OnFault, IfFault};
-ghost use Rattle.weld_workers.specs.Work.{HasWorked, Goes};
+ghost use Rattle.weld_workers.specs.Work.{HasWorked, Goes, Stopped};
 
 use crate::jobs::Jobs;
 use crate::span::Span;
@@ -13,11 +13,12 @@ use std::alloc::{AllocError, Global};
 use weld_board::{Board, Seats, close};
 use weld_data::Stop;
 
-/// What has stopped workers: a fault where one was stopped by a fault, else want of memory where one was stopped; None where
-/// none was. It takes no memory.
+/// What has stopped workers: a fault where one was stopped by a fault, else want of memory where one was stopped by that; None
+/// where none was. It takes no memory.
 pub(crate) fn stop_of<P, T: Jobs<P>>(jobs: &T, board: &Board, workers: &[Worker<P>]) -> Option<Stop>
     requires { All (HasWorked (T.made jobs.now) (T.faults jobs.now) board.now) workers.now }
-    ensures { MatchOption result (All Goes workers.now) (λ stop. IfFault (Some stop) (T.faults jobs.now)) }
+    ensures stop { Stopped workers.now result }
+    ensures fault { IfFault result (T.faults jobs.now) }
 {
     let _jobs = jobs;
     let _board = board;

@@ -27,8 +27,8 @@ loop-tile-init g c =
     run_starts ev.node ev.names ev.lists is.0 s.whole.lo s.whole.hi s.tiles.now (thing_of c.args.part.now) is.1
     (can_run p e at ss c.requires.ready.0 c.requires.ready.1 c.args._first c.args.job no_stretch (thing_of c.args.part.now) c.requires.job c.requires.made)
 
-pub run_in-requires-clause-holds : goal.run_in-requires-clause-holds
-run_in-requires-clause-holds g c =
+pub run_told-requires-clause-holds : goal.run_told-requires-clause-holds
+run_told-requires-clause-holds g c =
     let p : Plan = c.args.self.now.run.now.plan.now in
     let e : State = c.args.self.now.run.now.env.now in
     let at : LoopId = c.args.self.now.run.now.at in
@@ -47,7 +47,7 @@ loop-tile-preserved g c =
     let s : Stretch = stretch_of ss c.args.job in
     let ev : Evaluation = evaluation_of p e in
     let none : Tile = record { number = 0; lo = 0; hi = 0 } in
-    tile_on ev.node ev.names ev.lists s.whole.lo s.whole.hi (thing_of c.args.part.now) (thing_of c.loop-tile.part) (thing_of c.run_in.new.part) (get_or s.tiles.now c.loop-tile.tile-index none) (drop (c.loop-tile.tile-index + 1) s.tiles.now) (run_at ev.node ev.names ev.lists s.whole.lo s.whole.hi (thing_of c.args.part.now) (thing_of c.loop-tile.part) s.tiles.now c.loop-tile.tile-index none c.loop-tile-test.true c.loop-tile.invariant) c.in-Ok.ensures
+    tile_on ev.node ev.names ev.lists s.whole.lo s.whole.hi (thing_of c.args.part.now) (thing_of c.loop-tile.part) (thing_of c.run_told.new.part) (get_or s.tiles.now c.loop-tile.tile-index none) (drop (c.loop-tile.tile-index + 1) s.tiles.now) (run_at ev.node ev.names ev.lists s.whole.lo s.whole.hi (thing_of c.args.part.now) (thing_of c.loop-tile.part) s.tiles.now c.loop-tile.tile-index none c.loop-tile-test.true c.loop-tile.invariant) c.in-Ok.ensures
 
 pub returns-in-Err-clause-fault : goal.returns-in-Err-clause-fault
 returns-in-Err-clause-fault g c =
@@ -58,8 +58,8 @@ returns-in-Err-clause-fault g c =
     let s : Stretch = stretch_of ss c.args.job in
     let ev : Evaluation = evaluation_of p e in
     let none : Tile = record { number = 0; lo = 0; hi = 0 } in
-    stretch_faults p e at ss c.requires.ready.0 c.requires.ready.1 unit.Denot unit.Denot c.in-Err.stop c.args._first c.args.job no_stretch (thing_of c.args.part.now) (thing_of c.run_in.new.part) ev.start c.requires.job c.requires.made
-    (tile_stops unit.Denot unit.Denot c.in-Err.stop ev.node ev.names ev.lists s.whole.lo s.whole.hi (thing_of c.args.part.now) (thing_of c.loop-tile.part) (thing_of c.run_in.new.part) (thing_of c.run_in.new.part) ev.start (get_or s.tiles.now c.loop-tile.tile-index none) (drop (c.loop-tile.tile-index + 1) s.tiles.now) (run_at ev.node ev.names ev.lists s.whole.lo s.whole.hi (thing_of c.args.part.now) (thing_of c.loop-tile.part) s.tiles.now c.loop-tile.tile-index none c.loop-tile-test.true c.loop-tile.invariant) c.in-Err.ensures)
+    stretch_faults p e at ss c.requires.ready.0 c.requires.ready.1 unit.Denot unit.Denot c.in-Err.stop c.args._first c.args.job no_stretch (thing_of c.args.part.now) (thing_of c.run_told.new.part) ev.start c.requires.job c.requires.made
+    (tile_stops unit.Denot unit.Denot c.in-Err.stop ev.node ev.names ev.lists s.whole.lo s.whole.hi (thing_of c.args.part.now) (thing_of c.loop-tile.part) (thing_of c.run_told.new.part) (thing_of c.run_told.new.part) ev.start (get_or s.tiles.now c.loop-tile.tile-index none) (drop (c.loop-tile.tile-index + 1) s.tiles.now) (run_at ev.node ev.names ev.lists s.whole.lo s.whole.hi (thing_of c.args.part.now) (thing_of c.loop-tile.part) s.tiles.now c.loop-tile.tile-index none c.loop-tile-test.true c.loop-tile.invariant) c.in-Err.ensures)
 
 pub returns-clause-made : goal.returns-clause-made
 returns-clause-made g c =

@@ -22,33 +22,33 @@ loop-tile-init g c =
     (run_starts ev.node ev.names ev.lists is.0 c.args.stretch.now.whole.lo c.args.stretch.now.whole.hi c.args.stretch.now.tiles.now (bare_thing ev.start) is.1
     (bare_ready c.args.self.now.plan.now c.args.self.now.env.now c.args.self.now.at (bare_thing ev.start) c.args.stretch.now.whole.lo c.args.stretch.now.whole.hi at low within refl))
 
-pub run_in-requires-clause-holds : goal.run_in-requires-clause-holds
-run_in-requires-clause-holds g c =
+pub run_told-requires-clause-holds : goal.run_told-requires-clause-holds
+run_told-requires-clause-holds g c =
     let ev : Evaluation = evaluation_of c.args.self.now.plan.now c.args.self.now.env.now in
     let none : Tile = record { number = 0; lo = 0; hi = 0 } in
     tile_next ev.node ev.names ev.lists c.args.stretch.now.whole.lo c.args.stretch.now.whole.hi (bare_thing ev.start) (thing_of c.loop-tile.part) (get_or c.args.stretch.now.tiles.now c.loop-tile.tile-index none) (drop (c.loop-tile.tile-index + 1) c.args.stretch.now.tiles.now)
     (run_at ev.node ev.names ev.lists c.args.stretch.now.whole.lo c.args.stretch.now.whole.hi (bare_thing ev.start) (thing_of c.loop-tile.part) c.args.stretch.now.tiles.now c.loop-tile.tile-index none c.loop-tile-test.true c.loop-tile.invariant)
 
-pub returns-in-Err-run_in : goal.returns-in-Err-run_in
-returns-in-Err-run_in g c =
+pub returns-in-Err-run_told : goal.returns-in-Err-run_told
+returns-in-Err-run_told g c =
     let ev : Evaluation = evaluation_of c.args.self.now.plan.now c.args.self.now.env.now in
     let at : AtLoop c.args.self.now.plan.now c.args.self.now.env.now c.args.self.now.at = c.requires.0 in
     let of : IsStretchOf (rows_at c.args.self.now.env.now) c.args.stretch.now = c.requires.1 in
     let none : Tile = record { number = 0; lo = 0; hi = 0 } in
-    stretch_stops unit.Denot unit.Denot c.in-Err-run_in.stop c.args.self.now.plan.now c.args.self.now.env.now c.args.self.now.at c.args.stretch.now (thing_of c.run_in.new.part) at of
-    (tile_stops unit.Denot unit.Denot c.in-Err-run_in.stop ev.node ev.names ev.lists c.args.stretch.now.whole.lo c.args.stretch.now.whole.hi (bare_thing ev.start) (thing_of c.loop-tile.part) (thing_of c.run_in.new.part) (thing_of c.run_in.new.part) ev.start
+    stretch_stops unit.Denot unit.Denot c.in-Err-run_told.stop c.args.self.now.plan.now c.args.self.now.env.now c.args.self.now.at c.args.stretch.now (thing_of c.run_told.new.part) at of
+    (tile_stops unit.Denot unit.Denot c.in-Err-run_told.stop ev.node ev.names ev.lists c.args.stretch.now.whole.lo c.args.stretch.now.whole.hi (bare_thing ev.start) (thing_of c.loop-tile.part) (thing_of c.run_told.new.part) (thing_of c.run_told.new.part) ev.start
     (get_or c.args.stretch.now.tiles.now c.loop-tile.tile-index none) (drop (c.loop-tile.tile-index + 1) c.args.stretch.now.tiles.now)
     (run_at ev.node ev.names ev.lists c.args.stretch.now.whole.lo c.args.stretch.now.whole.hi (bare_thing ev.start) (thing_of c.loop-tile.part) c.args.stretch.now.tiles.now c.loop-tile.tile-index none c.loop-tile-test.true c.loop-tile.invariant)
-    c.in-Err-run_in.ensures)
+    c.in-Err-run_told.ensures)
 
 pub loop-tile-preserved : goal.loop-tile-preserved
 loop-tile-preserved g c =
     let ev : Evaluation = evaluation_of c.args.self.now.plan.now c.args.self.now.env.now in
     let none : Tile = record { number = 0; lo = 0; hi = 0 } in
-    tile_on ev.node ev.names ev.lists c.args.stretch.now.whole.lo c.args.stretch.now.whole.hi (bare_thing ev.start) (thing_of c.loop-tile.part) (thing_of c.run_in.new.part)
+    tile_on ev.node ev.names ev.lists c.args.stretch.now.whole.lo c.args.stretch.now.whole.hi (bare_thing ev.start) (thing_of c.loop-tile.part) (thing_of c.run_told.new.part)
     (get_or c.args.stretch.now.tiles.now c.loop-tile.tile-index none) (drop (c.loop-tile.tile-index + 1) c.args.stretch.now.tiles.now)
     (run_at ev.node ev.names ev.lists c.args.stretch.now.whole.lo c.args.stretch.now.whole.hi (bare_thing ev.start) (thing_of c.loop-tile.part) c.args.stretch.now.tiles.now c.loop-tile.tile-index none c.loop-tile-test.true c.loop-tile.invariant)
-    c.in-Ok-run_in.ensures
+    c.in-Ok-run_told.ensures
 
 pub part_of-requires-clause-ordered : goal.part_of-requires-clause-ordered
 part_of-requires-clause-ordered g c =
