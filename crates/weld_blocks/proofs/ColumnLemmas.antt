@@ -8,8 +8,7 @@ use Rattle.weld_builders.specs.Outcome.{Outcome, done, and_then, map_out}
 use Rattle.weld_meaning.specs.Environment.{look_for}
 use Rattle.weld_meaning.specs.Thing.{Thing, plain, field_of}
 use Rattle.weld_meaning.specs.Evaluation.{Env, eval, found, leaf_thing, one_thing, two_thing, three_thing, operated, truth_value, chosen, value_out}
-use Rattle.weld_eval_plain.specs.Nodes.{IsIf}
-use Rattle.weld_blocks.specs.Numbers.{number_at, AreGiven, MayGive, AreNumbersOf, MayBeNumbers, IsChosen, IsName}
+use Rattle.weld_blocks.specs.Numbers.{number_at, AreGiven, MayGive, AreNumbersOf, MayBeNumbers, IsChosen, IsName, Chooses}
 use Rattle.weld_blocks.specs.declared.numbers.Numbers.{Numbers}
 use Rattle.weld_blocks.proofs.LeafLemmas.{may_map}
 
@@ -97,19 +96,28 @@ choose_thing t v w x o p h q r = ap (λ u. and_then u (λ (c : Bool). if c then 
 of_if : (a : At) (c e f : ExprTree) (env : Env) (t v w x : Value) → eval c env ≡ done (plain t) → eval e env ≡ done (plain v) → eval f env ≡ done (plain w) → IsChosen t v w x → eval (three a if_else c e f) env ≡ done (plain x)
 of_if a c e f env t v w x o p q h = ap (λ u. and_then u (λ y. three_thing if_else y (eval e env) (eval f env))) o ∙ choose_thing t v w x (eval e env) (eval f env) h p q
 
-chosen_of : (a : At) (o : Three) (c e f : ExprTree) (env : Env) (t v w x : Value) → IsIf (three a o c e f) → eval c env ≡ done (plain t) → eval e env ≡ done (plain v) → eval f env ≡ done (plain w) → IsChosen t v w x → eval (three a o c e f) env ≡ done (plain x)
+-- `select` evaluates both arms
+of_select : (a : At) (c e f : ExprTree) (env : Env) (t v w x : Value) → eval c env ≡ done (plain t) → eval e env ≡ done (plain v) → eval f env ≡ done (plain w) → IsChosen t v w x → eval (three a select c e f) env ≡ done (plain x)
+of_select a c e f env t v w x o p q h =
+    ap (λ u. and_then u (λ y. three_thing select y (eval e env) (eval f env))) o
+    ∙ ap (λ u. three_thing select (plain t) u (eval f env)) p
+    ∙ ap (λ u. three_thing select (plain t) (done (plain v)) u) q
+    ∙ ap (λ (u : Outcome Bool). map_out plain (map_out (λ (b : Bool). if b then v else w) u)) h.1
+    ∙ ap (λ (y : Value). done (plain y)) (sym h.2)
+
+chosen_of : (a : At) (o : Three) (c e f : ExprTree) (env : Env) (t v w x : Value) → Chooses (three a o c e f) → eval c env ≡ done (plain t) → eval e env ≡ done (plain v) → eval f env ≡ done (plain w) → IsChosen t v w x → eval (three a o c e f) env ≡ done (plain x)
 chosen_of a if_else c e f env t v w x k o p q h = of_if a c e f env t v w x o p q h
-chosen_of a select c e f env t v w x k o p q h = absurd k
+chosen_of a select c e f env t v w x k o p q h = of_select a c e f env t v w x o p q h
 chosen_of a slice c e f env t v w x k o p q h = absurd k
 
-pub if_numbers : (r : Option Numbers) (a : At) (k : Three) (c e f : ExprTree) (envs : ℕ → Env) (n : ExprTree) (t d g : Numbers) (count : ℕ) → n ≡ three a k c e f → IsIf n → AreNumbersOf c envs t count → AreNumbersOf e envs d count → AreNumbersOf f envs g count
+pub choice_numbers : (r : Option Numbers) (a : At) (k : Three) (c e f : ExprTree) (envs : ℕ → Env) (n : ExprTree) (t d g : Numbers) (count : ℕ) → n ≡ three a k c e f → Chooses n → AreNumbersOf c envs t count → AreNumbersOf e envs d count → AreNumbersOf f envs g count
     → MayGive (λ j v. IsChosen (number_at t j) (number_at d j) (number_at g j) v) r count → MayBeNumbers n envs r count
-if_numbers None a k c e f envs n t d g count is form o p q h = tt
-if_numbers (Some x) a k c e f envs n t d g count is form o p q h = record {
+choice_numbers None a k c e f envs n t d g count is form o p q h = tt
+choice_numbers (Some x) a k c e f envs n t d g count is form o p q h = record {
   long = h.long;
   each = λ j less.
       ap (λ m. eval m (envs j)) is
-      ∙ chosen_of a k c e f (envs j) (number_at t j) (number_at d j) (number_at g j) (number_at x j) (subst (λ m. IsIf m) is form) (o.each j less) (p.each j less) (q.each j less) (h.each j less);
+      ∙ chosen_of a k c e f (envs j) (number_at t j) (number_at d j) (number_at g j) (number_at x j) (subst (λ m. Chooses m) is form) (o.each j less) (p.each j less) (q.each j less) (h.each j less);
 }
 
 -- one truth value stands at each place

@@ -7,3 +7,4 @@ pub mod Merges
 pub mod PairLemmas
 pub mod PutLemmas
 pub mod Scalars
+pub mod WorkLemmas

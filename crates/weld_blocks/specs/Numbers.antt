@@ -1,7 +1,7 @@
 -- Numbers of one kind, one for each row of a block.
 use Rattle.std.specs.Prelude.{◌≡◌, ℕ, ◌+◌, ◌<◌, ◌≤◌, pos, List, length, get_or, slice_get, Option, Some, None, Bool, if◌then◌else◌}
 use Rattle.weld_data.specs.Value.{Value, number}
-use Rattle.weld_tree.specs.ExprTree.{ExprTree, leaf, name}
+use Rattle.weld_tree.specs.ExprTree.{ExprTree, leaf, three, name, Three, if_else, select, slice}
 use Rattle.weld_builders.specs.Outcome.{done}
 use Rattle.weld_meaning.specs.Thing.{plain}
 use Rattle.weld_meaning.specs.Evaluation.{Env, eval, truth_of}
@@ -57,3 +57,13 @@ IsChosen t v w x = (b : Bool) × (truth_of t ≡ done b) × (x ≡ (if b then v 
 abbrev pub IsName : ExprTree → ℕ → Type 0
 IsName (leaf a l) s = l ≡ name s
 IsName _ s = ⊥
+
+-- the form chooses one of two parts
+abbrev pub IsChoiceForm : Three → Type 0
+IsChoiceForm if_else = Unit {0}
+IsChoiceForm select = Unit {0}
+IsChoiceForm slice = ⊥
+
+abbrev pub Chooses : ExprTree → Type 0
+Chooses (three a o c e f) = IsChoiceForm o
+Chooses _ = ⊥

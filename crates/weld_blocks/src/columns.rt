@@ -6,15 +6,16 @@ ghost use Rattle.weld_meaning.specs.Evaluation.{leaf_thing, one_thing, operated 
 ghost use Rattle.weld_meaning.specs.Thing.{plain};
 ghost use Rattle.weld_data.specs.Value.{number};
 ghost use Rattle.weld_eval.specs.ShortView.{view_short};
-ghost use Rattle.weld_eval_plain.specs.Nodes.{IsIf};
 ghost use Rattle.weld_tree.specs.ExprView.{view_leaf, view_one};
-ghost use Rattle.weld_blocks.specs.Numbers.{number_at, MayGive, MayBeNumbers, IsChosen, IsName};
+ghost use Rattle.weld_blocks.specs.Numbers.{number_at, MayGive, MayBeNumbers, IsChosen, IsName, Chooses};
 ghost use Rattle.weld_blocks.specs.Scope.{scope_env};
 
+use crate::arithmetic::{arithmetic, compared};
+use crate::choices::choose;
 use crate::gather::gather;
 use crate::leaves::{constant, field_named, named};
-use crate::numbers::Numbers;
-use crate::operations::{Altered, Chosen, Operated, is_integer};
+use crate::numbers::{Numbers, is_same};
+use crate::operations::{Altered, Operated, is_integer, takes};
 use crate::scope::{Scope, with_numbers};
 use std::alloc::Global;
 use weld_data::{BinOp, Kind, Num, wrap};
@@ -22,7 +23,7 @@ use weld_eval::short::Short;
 use weld_tree::{Expr, Form, LeafForm, OneForm, Sym, ThreeForm, TwoForm};
 
 /// The numbers that an expression comes to on so many rows, where it is made of literals, names, fields of rows, operators,
-/// `if` and `let`, no row of it faults, also in arms that aren't chosen, and there is memory for them.
+/// `if`, `select` and `let`, no row of it faults, also in arms that aren't chosen, and there is memory for them.
 #[cycle(columns)]
 #[tactic(auto, using(crate::proofs::ColumnLemmas::leaf_numbers))]
 pub fn numbers(e: &Expr, scope: &Scope, count: usize, alloc: Global) -> Option<Numbers>
@@ -35,7 +36,9 @@ pub fn numbers(e: &Expr, scope: &Scope, count: usize, alloc: Global) -> Option<N
         Form::Two(TwoForm::Binary(_), _, _) => of_binary(e, scope, count, alloc),
         Form::Two(TwoForm::And, _, _) => of_and(e, scope, count, alloc),
         Form::Two(TwoForm::Or, _, _) => of_or(e, scope, count, alloc),
-        Form::Three(ThreeForm::If, _, _, _) => of_if(e, scope, count, alloc),
+        Form::Three(ThreeForm::If | ThreeForm::Select, _, _, _) => of_choice(
+            e, scope, count, alloc,
+        ),
         Form::Let(_, _, _) => of_let(e, scope, count, alloc),
         _ => None,
     }
@@ -157,6 +160,26 @@ fn operated(
 ) -> Option<Numbers>
     ensures { MayGive (λ place v. operated_value op (number_at left.now place) (number_at right.now place) ≡ done v) result count }
 {
+    if !is_same(left.kind, right.kind) || !takes(op, left.kind) {
+        return None;
+    }
+    match op {
+        BinOp::Add | BinOp::Sub | BinOp::Mul => arithmetic(op, left, right, count, alloc),
+        BinOp::Div | BinOp::Rem => divided(op, left, right, count, alloc),
+        _ => compared(op, left, right, count, alloc),
+    }
+}
+
+/// What `/` or `%` makes of numbers, where it doesn't divide by 0.
+fn divided(
+    op: BinOp,
+    left: &Numbers,
+    right: &Numbers,
+    count: usize,
+    alloc: Global,
+) -> Option<Numbers>
+    ensures { MayGive (λ place v. operated_value op (number_at left.now place) (number_at right.now place) ≡ done v) result count }
+{
     let of = Operated { op, left, right };
     gather(alloc, count, &of)
 }
@@ -227,11 +250,11 @@ fn either(condition: &Numbers, otherwise: &Numbers, count: usize, alloc: Global)
     }
 }
 
-/// The numbers of an `if`. Both arms are worked out, so neither may fault on a row.
+/// The numbers of an `if` or a `select`. Both arms are worked out, so neither may fault on a row.
 #[cycle(columns)]
-#[tactic(auto, using(crate::proofs::ColumnLemmas::if_numbers))]
-fn of_if(e: &Expr, scope: &Scope, count: usize, alloc: Global) -> Option<Numbers>
-    requires { IsIf e.now }
+#[tactic(auto, using(crate::proofs::ColumnLemmas::choice_numbers))]
+fn of_choice(e: &Expr, scope: &Scope, count: usize, alloc: Global) -> Option<Numbers>
+    requires { Chooses e.now }
     ensures { MayBeNumbers e.now (scope_env scope.now) result count }
 {
     match &e.form {
@@ -264,12 +287,10 @@ fn chosen(
 ) -> Option<Numbers>
     ensures { MayGive (λ place v. IsChosen (number_at condition.now place) (number_at then.now place) (number_at otherwise.now place) v) result count }
 {
-    let of = Chosen {
-        condition,
-        then,
-        otherwise,
-    };
-    gather(alloc, count, &of)
+    if condition.kind != Kind::Bool || !is_same(then.kind, otherwise.kind) {
+        return None;
+    }
+    choose(condition, then, otherwise, count, alloc)
 }
 
 /// The numbers of a `let` of numbers.

@@ -3,6 +3,7 @@
 ghost use Rattle.weld_acts.specs.Act.{Acts};
 ghost use Rattle.weld_eval.specs.ThingView.{thing_of, things_of};
 ghost use Rattle.weld_blocks.specs.Deeds.{DeedFits, DeedsFit, do_of, do_all, DoesAll};
+ghost use Rattle.weld_blocks.specs.Does.{number_done, NumberFits, pair_done, PairFits, guarded_done, GuardedFits};
 
 use crate::numbers::Numbers;
 use crate::puts::{put_number, put_pair};
@@ -69,5 +70,98 @@ fn do_deeds(deeds: &Deeds, place: usize, fields: &mut Fields) -> Result<(), Stop
             },
             Fields::End => unreachable!(),
         },
+    }
+}
+
+/// What does something to a builder on each row of a block, its form being known where it is
+/// compiled.
+pub trait Does {
+    ghost use Rattle.std.specs.Prelude.{ℕ};
+    ghost use Rattle.weld_builders.specs.Outcome.{Outcome};
+    ghost use Rattle.weld_meaning.specs.Thing.{Thing};
+    ghost use Rattle.weld_acts.specs.Act.{Acts};
+    ghost use Rattle.weld_eval.specs.ThingView.{thing_of};
+
+    // What it does on the row of a place, and what lets it be done.
+    ghost does: { Self → ℕ → Thing → Outcome Thing };
+
+    ghost fits: { Self → ℕ → Thing → Type 0 };
+
+    /// Does it on the row of a place in the block, from 0.
+    fn at(&self, place: usize, builder: &mut Owned) -> Result<(), Stop>
+        requires { fits self.now place (thing_of builder.old) }
+        ensures { Acts result (does self.now place (thing_of builder.old)) (thing_of builder.new) };
+}
+
+/// Any deed.
+#[derive(Clone, Copy)]
+pub struct AnyDeed<'a> {
+    pub deed: &'a Deed,
+}
+
+impl<'a> Does for AnyDeed<'a> {
+    ghost does = { λ d. do_of d.deed.now };
+
+    ghost fits = { λ d. DeedFits d.deed.now };
+
+    fn at(&self, place: usize, builder: &mut Owned) -> Result<(), Stop> {
+        do_deed(self.deed, place, builder)
+    }
+}
+
+/// A number is merged.
+#[derive(Clone, Copy)]
+pub struct EachNumber<'a> {
+    pub numbers: &'a Numbers,
+}
+
+impl<'a> Does for EachNumber<'a> {
+    ghost does = { λ d. number_done d.numbers.now };
+
+    ghost fits = { λ d. NumberFits d.numbers.now };
+
+    #[inline(always)]
+    fn at(&self, place: usize, builder: &mut Owned) -> Result<(), Stop> {
+        put_number(builder, self.numbers.at(place))
+    }
+}
+
+/// Two numbers are merged as a struct.
+#[derive(Clone, Copy)]
+pub struct EachPair<'a> {
+    pub keys: &'a Numbers,
+    pub numbers: &'a Numbers,
+}
+
+impl<'a> Does for EachPair<'a> {
+    ghost does = { λ d. pair_done d.keys.now d.numbers.now };
+
+    ghost fits = { λ d. PairFits d.keys.now d.numbers.now };
+
+    #[inline(always)]
+    fn at(&self, place: usize, builder: &mut Owned) -> Result<(), Stop> {
+        put_pair(builder, self.keys.at(place), self.numbers.at(place))
+    }
+}
+
+/// A number is merged where a truth value says so.
+#[derive(Clone, Copy)]
+pub struct EachGuarded<'a> {
+    pub truths: &'a Numbers,
+    pub numbers: &'a Numbers,
+}
+
+impl<'a> Does for EachGuarded<'a> {
+    ghost does = { λ d. guarded_done d.truths.now d.numbers.now };
+
+    ghost fits = { λ d. GuardedFits d.truths.now d.numbers.now };
+
+    #[inline(always)]
+    fn at(&self, place: usize, builder: &mut Owned) -> Result<(), Stop> {
+        if truth_of(self.truths.at(place)) {
+            put_number(builder, self.numbers.at(place))
+        } else {
+            Ok(())
+        }
     }
 }

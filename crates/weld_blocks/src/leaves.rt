@@ -16,10 +16,11 @@ ghost use Rattle.weld_eval.specs.ShortView.{view_short};
 ghost use Rattle.weld_eval.specs.ThingView.{thing_of};
 ghost use Rattle.weld_blocks.specs.Numbers.{MayGive, number_at as number_of_place, MayGiveLeg};
 ghost use Rattle.weld_blocks.specs.Scope.{scope_env, row_env};
+ghost use Rattle.weld_blocks.specs.Works.{AreCopied};
 
 use crate::gather::{Gives, gather};
 use crate::numbers::Numbers;
-use crate::operations::{Constant, Counted};
+use crate::operations::Counted;
 use crate::scope::{Rows, Scope};
 use std::alloc::Global;
 use weld_data::{Column, Kind, Val, Vals};
@@ -73,38 +74,33 @@ pub(crate) fn elements_of(
     }
 }
 
-/// The elements of an array of 64 bits from a place on.
-#[derive(Clone, Copy)]
-struct Wide<'a> {
-    items: &'a [i64],
-    from: usize,
-}
-
-impl<'a> Gives for Wide<'a> {
-    ghost gives = { λ e place v. slice_get (map (number kinds.I64) e.items.now) (e.from + place) ≡ Some v };
-
-    #[inline(always)]
-    #[tactic(auto, using(crate::proofs::LeafLemmas::get_mapped))]
-    fn at(&self, place: usize) -> Option<Short> {
-        match self.from.checked_add(place) {
-            Some(number) => {
-                if number < self.items.len() {
-                    Some(Short::of_i64(self.items[number]))
-                } else {
-                    None
-                }
-            }
-            None => None,
-        }
-    }
-}
-
 /// The same of numbers of 64 bits.
+#[tactic(auto, using(crate::proofs::WorkLemmas::part_given, crate::proofs::WorkLemmas::copies_in_range))]
 fn wide_elements(items: &[i64], from: usize, count: usize, alloc: Global) -> Option<Numbers>
     ensures { MayGive (λ place v. slice_get (map (number kinds.I64) items.now) (from + place) ≡ Some v) result count }
 {
-    let of = Wide { items, from };
-    gather(alloc, count, &of)
+    if from > items.len() || count > items.len() - from {
+        return None;
+    }
+    let mut copies = match vec![in alloc; 0i64; count] {
+        Ok(copies) => copies,
+        Err(_) => return None,
+    };
+    copy_all(&mut copies, &items[from..from + count]);
+    Some(Numbers {
+        kind: Kind::I64,
+        items: copies,
+    })
+}
+
+/// Copies as many numbers of 64 bits as there are.
+fn copy_all(copies: &mut [i64], items: &[i64])
+    requires { length copies.old ≤ length items.now }
+    ensures { AreCopied items.now copies.new (length copies.old) }
+{
+    for place in 0..copies.len() {
+        copies[place] = Short::of_i64(items[place]).value;
+    }
 }
 
 /// The column of the one leg.
@@ -220,8 +216,13 @@ fn outside(frame: &Frame, name: Sym, count: usize, alloc: Global) -> Option<Numb
 pub(crate) fn constant(number: Short, count: usize, alloc: Global) -> Option<Numbers>
     ensures { MayGive (λ place v. v ≡ view_short number) result count }
 {
-    let of = Constant { number };
-    gather(alloc, count, &of)
+    match vec![in alloc; number.value; count] {
+        Ok(items) => Some(Numbers {
+            kind: number.kind,
+            items,
+        }),
+        Err(_) => None,
+    }
 }
 
 /// The number that a name stands for, where it stands for one. It takes no memory.

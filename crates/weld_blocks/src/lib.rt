@@ -2,7 +2,9 @@
 //! before the next, and then merged row by row.
 #![tactic(auto)]
 
+mod arithmetic;
 pub mod body;
+mod choices;
 pub mod columns;
 pub mod deed;
 mod gather;
@@ -13,6 +15,7 @@ mod pairs;
 pub mod puts;
 pub mod scalar;
 pub mod scope;
+mod works;
 
 pub use body::block_of;
-pub use deed::{Deed, do_deed};
+pub use deed::{AnyDeed, Deed, Does, EachGuarded, EachNumber, EachPair, do_deed};

@@ -19,21 +19,6 @@ use weld_data::{BinOp, Kind};
 use weld_eval::short::Short;
 use weld_tree::OneForm;
 
-/// One number at each place.
-#[derive(Clone, Copy)]
-pub(crate) struct Constant {
-    pub(crate) number: Short,
-}
-
-impl Gives for Constant {
-    ghost gives = { λ c place v. v ≡ view_short c.number };
-
-    #[inline(always)]
-    fn at(&self, _place: usize) -> Option<Short> {
-        Some(self.number)
-    }
-}
-
 /// The numbers of rows from one on.
 #[derive(Clone, Copy)]
 pub(crate) struct Counted {
@@ -92,7 +77,7 @@ fn operation_of(op: BinOp, x: Short, y: Short) -> Option<Short>
 
 /// Whether the operator takes numbers of the kind: truth values can only be tested for equality.
 #[inline(always)]
-fn takes(op: BinOp, kind: Kind) -> bool
+pub(crate) fn takes(op: BinOp, kind: Kind) -> bool
     ensures { result ≡ true → TakesKind op kind }
 {
     match op {
@@ -109,47 +94,6 @@ pub(crate) fn is_integer(kind: Kind) -> bool
     match kind {
         Kind::Bool => false,
         _ => true,
-    }
-}
-
-/// One of two numbers at each place, as a truth value says.
-#[derive(Clone, Copy)]
-pub(crate) struct Chosen<'a> {
-    pub(crate) condition: &'a Numbers,
-    pub(crate) then: &'a Numbers,
-    pub(crate) otherwise: &'a Numbers,
-}
-
-impl<'a> Gives for Chosen<'a> {
-    ghost gives = { λ c place v. IsChosen (number_at c.condition.now place) (number_at c.then.now place) (number_at c.otherwise.now place) v };
-
-    #[inline(always)]
-    fn at(&self, place: usize) -> Option<Short> {
-        if place < self.condition.len() && place < self.then.len() && place < self.otherwise.len() {
-            choice_of(
-                self.condition.at(place),
-                self.then.at(place),
-                self.otherwise.at(place),
-            )
-        } else {
-            None
-        }
-    }
-}
-
-/// One of two numbers, where the condition is a truth value.
-#[inline(always)]
-fn choice_of(condition: Short, then: Short, otherwise: Short) -> Option<Short>
-    ensures { IfSome result (λ n. IsChosen (view_short condition) (view_short then) (view_short otherwise) (view_short n)) }
-{
-    if condition.kind == Kind::Bool {
-        if truth_of(condition) {
-            Some(then)
-        } else {
-            Some(otherwise)
-        }
-    } else {
-        None
     }
 }
 

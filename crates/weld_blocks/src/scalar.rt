@@ -70,7 +70,7 @@ fn operation(op: BinOp, kind: Kind, x: i64, y: i64) -> Option<i64>
 
 /// 1 for true, 0 for false.
 #[inline(always)]
-fn number_of(test: bool) -> i64
+pub(crate) fn number_of(test: bool) -> i64
     ensures value { result ≡ truth test }
     ensures in_range { InRange kind_names.Bool result }
 {
@@ -78,7 +78,7 @@ fn number_of(test: bool) -> i64
 }
 
 /// The number of an integer kind that equals a number modulo two to the number of the kind's bits.
-#[inline]
+#[inline(always)]
 fn wrap(kind: Kind, x: i64) -> i64
     requires { IsInteger kind }
     ensures value { result ≡ wrapped kind x }
@@ -95,7 +95,7 @@ fn wrap(kind: Kind, x: i64) -> i64
 
 /// The wrapped sum.
 #[inline(always)]
-fn sum(kind: Kind, x: i64, y: i64) -> i64
+pub(crate) fn sum(kind: Kind, x: i64, y: i64) -> i64
     requires integer { IsInteger kind }
     requires left { InRange kind x }
     requires right { InRange kind y }
@@ -110,7 +110,7 @@ fn sum(kind: Kind, x: i64, y: i64) -> i64
 
 /// The wrapped difference.
 #[inline(always)]
-fn difference(kind: Kind, x: i64, y: i64) -> i64
+pub(crate) fn difference(kind: Kind, x: i64, y: i64) -> i64
     requires integer { IsInteger kind }
     requires left { InRange kind x }
     requires right { InRange kind y }
@@ -125,7 +125,7 @@ fn difference(kind: Kind, x: i64, y: i64) -> i64
 
 /// The wrapped product.
 #[inline(always)]
-fn product(kind: Kind, x: i64, y: i64) -> i64
+pub(crate) fn product(kind: Kind, x: i64, y: i64) -> i64
     requires integer { IsInteger kind }
     requires left { InRange kind x }
     requires right { InRange kind y }

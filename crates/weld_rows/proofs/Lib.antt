@@ -1,4 +1,5 @@
 pub mod ActLemmas
+pub mod DeedForms
 pub mod FormLemmas
 pub mod Numbers
 pub mod RangeSteps

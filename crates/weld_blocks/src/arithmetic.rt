@@ -1,0 +1,294 @@
+//! Arithmetic and comparisons of numbers of a block: the kind and the operator are looked at once.
+
+ghost use Rattle.std.specs.Prelude.{◌≡◌, true};
+ghost use Rattle.weld_data.specs.declared.kind.Kind.TheVariants as kind_names;
+ghost use Rattle.weld_data.specs.declared.op.BinOp.TheVariants as op_names;
+ghost use Rattle.weld_data.specs.Kind.{IsInteger};
+ghost use Rattle.weld_data.specs.Operation.{TakesKind};
+ghost use Rattle.weld_builders.specs.Outcome.{done};
+ghost use Rattle.weld_meaning.specs.Evaluation.{operated as operated_value};
+ghost use Rattle.weld_blocks.specs.Numbers.{number_at, MayGive};
+
+use crate::numbers::Numbers;
+use crate::scalar::{difference, number_of, product, sum};
+use crate::works::{Works, worked};
+use std::alloc::Global;
+use weld_data::{BinOp, Kind};
+
+/// A kind of integers that is known where a loop is compiled.
+trait OfKind {
+    ghost use Rattle.std.specs.Prelude.{◌≡◌};
+    ghost use Rattle.weld_data.specs.declared.kind.Kind.{Kind as GhostKind};
+    ghost use Rattle.weld_data.specs.Kind.{IsInteger};
+
+    ghost named: { Self → GhostKind };
+
+    /// The kind. It takes no memory.
+    fn kind(&self) -> Kind
+        ensures kind { result ≡ named self.now }
+        ensures integer { IsInteger result };
+}
+
+#[derive(Clone, Copy)]
+struct Wide;
+
+impl OfKind for Wide {
+    ghost named = { λ _. kind_names.I64 };
+
+    #[inline(always)]
+    fn kind(&self) -> Kind {
+        Kind::I64
+    }
+}
+
+#[derive(Clone, Copy)]
+struct Signed32;
+
+impl OfKind for Signed32 {
+    ghost named = { λ _. kind_names.I32 };
+
+    #[inline(always)]
+    fn kind(&self) -> Kind {
+        Kind::I32
+    }
+}
+
+#[derive(Clone, Copy)]
+struct Unsigned8;
+
+impl OfKind for Unsigned8 {
+    ghost named = { λ _. kind_names.U8 };
+
+    #[inline(always)]
+    fn kind(&self) -> Kind {
+        Kind::U8
+    }
+}
+
+#[derive(Clone, Copy)]
+struct Signed8;
+
+impl OfKind for Signed8 {
+    ghost named = { λ _. kind_names.I8 };
+
+    #[inline(always)]
+    fn kind(&self) -> Kind {
+        Kind::I8
+    }
+}
+
+/// The wrapped sum.
+#[derive(Clone, Copy)]
+struct Sum<K> {
+    kind: K,
+}
+
+impl<K: OfKind> Works for Sum<K> {
+    ghost op = { λ _. op_names.Add };
+
+    ghost kind = { λ w. K.named w.kind };
+
+    #[inline(always)]
+    fn of(&self, x: i64, y: i64) -> i64 {
+        sum(self.kind.kind(), x, y)
+    }
+}
+
+/// The wrapped difference.
+#[derive(Clone, Copy)]
+struct Difference<K> {
+    kind: K,
+}
+
+impl<K: OfKind> Works for Difference<K> {
+    ghost op = { λ _. op_names.Sub };
+
+    ghost kind = { λ w. K.named w.kind };
+
+    #[inline(always)]
+    fn of(&self, x: i64, y: i64) -> i64 {
+        difference(self.kind.kind(), x, y)
+    }
+}
+
+/// The wrapped product.
+#[derive(Clone, Copy)]
+struct Product<K> {
+    kind: K,
+}
+
+impl<K: OfKind> Works for Product<K> {
+    ghost op = { λ _. op_names.Mul };
+
+    ghost kind = { λ w. K.named w.kind };
+
+    #[inline(always)]
+    fn of(&self, x: i64, y: i64) -> i64 {
+        product(self.kind.kind(), x, y)
+    }
+}
+
+#[derive(Clone, Copy)]
+struct Equal {
+    kind: Kind,
+}
+
+impl Works for Equal {
+    ghost op = { λ _. op_names.Eq };
+
+    ghost kind = { λ w. w.kind };
+
+    #[inline(always)]
+    fn of(&self, x: i64, y: i64) -> i64 {
+        number_of(x == y)
+    }
+}
+
+#[derive(Clone, Copy)]
+struct Unequal {
+    kind: Kind,
+}
+
+impl Works for Unequal {
+    ghost op = { λ _. op_names.Ne };
+
+    ghost kind = { λ w. w.kind };
+
+    #[inline(always)]
+    fn of(&self, x: i64, y: i64) -> i64 {
+        number_of(x != y)
+    }
+}
+
+#[derive(Clone, Copy)]
+struct Less {
+    kind: Kind,
+}
+
+impl Works for Less {
+    ghost op = { λ _. op_names.Lt };
+
+    ghost kind = { λ w. w.kind };
+
+    #[inline(always)]
+    fn of(&self, x: i64, y: i64) -> i64 {
+        number_of(x < y)
+    }
+}
+
+#[derive(Clone, Copy)]
+struct AtMost {
+    kind: Kind,
+}
+
+impl Works for AtMost {
+    ghost op = { λ _. op_names.Le };
+
+    ghost kind = { λ w. w.kind };
+
+    #[inline(always)]
+    fn of(&self, x: i64, y: i64) -> i64 {
+        number_of(x <= y)
+    }
+}
+
+#[derive(Clone, Copy)]
+struct Greater {
+    kind: Kind,
+}
+
+impl Works for Greater {
+    ghost op = { λ _. op_names.Gt };
+
+    ghost kind = { λ w. w.kind };
+
+    #[inline(always)]
+    fn of(&self, x: i64, y: i64) -> i64 {
+        number_of(x > y)
+    }
+}
+
+#[derive(Clone, Copy)]
+struct AtLeast {
+    kind: Kind,
+}
+
+impl Works for AtLeast {
+    ghost op = { λ _. op_names.Ge };
+
+    ghost kind = { λ w. w.kind };
+
+    #[inline(always)]
+    fn of(&self, x: i64, y: i64) -> i64 {
+        number_of(x >= y)
+    }
+}
+
+/// The numbers that `+`, `-` or `*` makes of numbers of one kind of integers. There are none for
+/// other operators and kinds.
+pub(crate) fn arithmetic(
+    op: BinOp,
+    left: &Numbers,
+    right: &Numbers,
+    count: usize,
+    alloc: Global,
+) -> Option<Numbers>
+    requires { left.now.kind ≡ right.now.kind }
+    ensures { MayGive (λ place v. operated_value op (number_at left.now place) (number_at right.now place) ≡ done v) result count }
+{
+    match left.kind {
+        Kind::Bool => None,
+        Kind::I64 => arithmetic_of(op, Wide, left, right, count, alloc),
+        Kind::I32 => arithmetic_of(op, Signed32, left, right, count, alloc),
+        Kind::U8 => arithmetic_of(op, Unsigned8, left, right, count, alloc),
+        Kind::I8 => arithmetic_of(op, Signed8, left, right, count, alloc),
+    }
+}
+
+/// The same at a kind that is known where it is compiled.
+fn arithmetic_of<K: OfKind + Drop>(
+    op: BinOp,
+    of: K,
+    left: &Numbers,
+    right: &Numbers,
+    count: usize,
+    alloc: Global,
+) -> Option<Numbers>
+    requires same { left.now.kind ≡ right.now.kind }
+    requires kind { left.now.kind ≡ K.named of }
+    ensures { MayGive (λ place v. operated_value op (number_at left.now place) (number_at right.now place) ≡ done v) result count }
+{
+    let kind = of.kind();
+    match op {
+        BinOp::Add => worked(&Sum { kind: of }, kind, left, right, count, alloc),
+        BinOp::Sub => worked(&Difference { kind: of }, kind, left, right, count, alloc),
+        BinOp::Mul => worked(&Product { kind: of }, kind, left, right, count, alloc),
+        _ => None,
+    }
+}
+
+/// The truth values of a comparison of numbers of one kind that it takes. There are none for other
+/// operators.
+pub(crate) fn compared(
+    op: BinOp,
+    left: &Numbers,
+    right: &Numbers,
+    count: usize,
+    alloc: Global,
+) -> Option<Numbers>
+    requires same { left.now.kind ≡ right.now.kind }
+    requires takes { TakesKind op left.now.kind }
+    ensures { MayGive (λ place v. operated_value op (number_at left.now place) (number_at right.now place) ≡ done v) result count }
+{
+    let kind = left.kind;
+    let truths = Kind::Bool;
+    match op {
+        BinOp::Eq => worked(&Equal { kind }, truths, left, right, count, alloc),
+        BinOp::Ne => worked(&Unequal { kind }, truths, left, right, count, alloc),
+        BinOp::Lt => worked(&Less { kind }, truths, left, right, count, alloc),
+        BinOp::Le => worked(&AtMost { kind }, truths, left, right, count, alloc),
+        BinOp::Gt => worked(&Greater { kind }, truths, left, right, count, alloc),
+        BinOp::Ge => worked(&AtLeast { kind }, truths, left, right, count, alloc),
+        _ => None,
+    }
+}

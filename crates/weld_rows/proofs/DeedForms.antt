@@ -1,0 +1,36 @@
+-- Deeds by their form.
+use Rattle.std.proofs.Common.{◌≡◌, refl, sym, ◌∙◌, subst, Result}
+use Rattle.weld_data.specs.declared.stop.Stop.{Stop}
+use Rattle.weld_builders.specs.Outcome.{Outcome}
+use Rattle.weld_meaning.specs.Thing.{Thing}
+use Rattle.weld_acts.specs.Act.{Acts}
+use Rattle.weld_blocks.specs.Deeds.{do_of, DeedFits}
+use Rattle.weld_blocks.specs.Does.{DoesAs, number_done, NumberFits, pair_done, PairFits, guarded_done, GuardedFits}
+use Rattle.weld_blocks.specs.declared.deed.Deed.{Deed}
+use Rattle.weld_blocks.specs.declared.deed.Deed as deed
+use Rattle.weld_blocks.specs.declared.numbers.Numbers.{Numbers}
+use Rattle.weld_rows.specs.Choices.{IsChoice}
+
+pub any_as : (d : Deed) → DoesAs (do_of d) (DeedFits d) d
+any_as d = record { same = λ j s. refl; can = λ j s h. h }
+
+pub number_as : (d : Deed) (c : Numbers) → d ≡ deed.Number c → DoesAs (number_done c) (NumberFits c) d
+number_as d c e = subst (DoesAs (number_done c) (NumberFits c)) (sym e) (record { same = λ j s. refl; can = λ j s h. h })
+
+pub pair_as : (d : Deed) (c n : Numbers) → d ≡ deed.Pair c n → DoesAs (pair_done c n) (PairFits c n) d
+pair_as d c n e = subst (DoesAs (pair_done c n) (PairFits c n)) (sym e) (record { same = λ j s. refl; can = λ j s h. h })
+
+pub guarded_as : (d : Deed) (c n : Numbers) (t e : Deed) → IsChoice d c t e → t ≡ deed.Number n → e ≡ deed.Nothing → DoesAs (guarded_done c n) (GuardedFits c n) d
+guarded_as deed.Nothing c n t e h p q = absurd h
+guarded_as (deed.Number x) c n t e h p q = absurd h
+guarded_as (deed.Pair x y) c n t e h p q = absurd h
+guarded_as (deed.Choice' x a y b z) c n t e h p q =
+    let As = DoesAs (guarded_done c n) (GuardedFits c n) in
+    subst (λ (u : Numbers). As (deed.Choice' u a y b z)) (sym h.0)
+    (subst (λ (u : Deed). As (deed.Choice' c a u b z)) (sym (h.1 ∙ p))
+    (subst (λ (u : Deed). As (deed.Choice' c a (deed.Number n) b u)) (sym (h.2 ∙ q)) (record { same = λ j s. refl; can = λ j s k. (k.0, k.1, k.2) })))
+guarded_as (deed.Fields ds) c n t e h p q = absurd h
+
+-- an answer of what is done so is one of the deed
+pub acts_as : {T : Type 0} (r : Result T Stop) (o p : Outcome Thing) (t : Thing) → o ≡ p → Acts r o t → Acts r p t
+acts_as r o p t e h = subst (λ (u : Outcome Thing). Acts r u t) e h
