@@ -4,10 +4,9 @@ use Rattle.weld_tree.specs.ExprTree.{At, ExprTree, leaf, one, two, three, many, 
 use Rattle.weld_meaning.specs.Names.{put_in_leaf, put, put_in_all, put_in_leg, put_in_legs}
 use Rattle.weld_substitution.specs.Uses.{uses, uses_in, uses_in_leg, uses_in_legs}
 use Rattle.weld_rounds.specs.Weight.{weight, weight_in, weight_in_leg, weight_in_legs}
-use Rattle.weld_rounds.specs.Rules.{Falls}
 use Rattle.weld_putting.specs.Redex.{is_field, is_chain, is_plain, is_used_well, stands, spot_of, is_redex}
 use Rattle.weld_putting.specs.declared.spot.Spot.TheVariants.{Other}
-use Rattle.weld_inline.specs.Inlining.{lets_rule}
+use Rattle.weld_inline.specs.Inlining.{opened}
 use Rattle.weld_inline.proofs.Once.{one_of}
 
 -- ---- tests
@@ -19,10 +18,6 @@ both false b h = let wrong : ⊥ = cc in absurd wrong
 either : (a b : Bool) → (a || b) ≡ true → (a ≡ true) ⊎ (b ≡ true)
 either true b h = inl refl
 either false b h = inr h
-
-pub matched : (b : Bool) (x d : ExprTree) → (if b then Some x else None) ≡ Some d → (b ≡ true) × (x ≡ d)
-matched true x d h = let e : x ≡ d = cc in (refl, e)
-matched false x d h = let wrong : ⊥ = cc in absurd wrong
 
 -- why a `let` is put in place
 pub why : (s : ℕ) (v f : ExprTree) → (is_plain v || is_used_well s v f) ≡ true → (is_plain v ≡ true) ⊎ (is_used_well s v f ≡ true)
@@ -98,17 +93,12 @@ put_lighter s v f (inr h) =
     let z : uses f s * weight v ≡ weight v = ap (λ n. n * weight v) one_use ∙ omega arith in
     omega (arith, weight_put f s v)
 
-rule_falls : (e d : ExprTree) → lets_rule e ≡ Some d → weight d < weight e
-rule_falls (leaf a l) d h = let wrong : ⊥ = cc in absurd wrong
-rule_falls (one a o e) d h = let wrong : ⊥ = cc in absurd wrong
-rule_falls (two a o e f) d h = let wrong : ⊥ = cc in absurd wrong
-rule_falls (three a o c e f) d h = let wrong : ⊥ = cc in absurd wrong
-rule_falls (many a o es) d h = let wrong : ⊥ = cc in absurd wrong
-rule_falls (let_in a b v f) d h =
-    let m = matched (is_redex (let_in a b v f)) (put b.sym.0 v f) d h in
-    subst (λ x. weight x < 1 + weight v + weight f) m.1 (put_lighter b.sym.0 v f (why b.sym.0 v f m.0))
-rule_falls (loop a ls e b n x f) d h = let wrong : ⊥ = cc in absurd wrong
-rule_falls (iterate a e b f) d h = let wrong : ⊥ = cc in absurd wrong
-
-pub lets_fall : Falls lets_rule
-lets_fall = record { lighter = rule_falls }
+pub lighter : (e : ExprTree) → is_redex e ≡ true → weight (opened e) < weight e
+lighter (leaf a l) h = let wrong : ⊥ = cc in absurd wrong
+lighter (one a o e) h = let wrong : ⊥ = cc in absurd wrong
+lighter (two a o e f) h = let wrong : ⊥ = cc in absurd wrong
+lighter (three a o c e f) h = let wrong : ⊥ = cc in absurd wrong
+lighter (many a o es) h = let wrong : ⊥ = cc in absurd wrong
+lighter (let_in a b v f) h = put_lighter b.sym.0 v f (why b.sym.0 v f h)
+lighter (loop a ls e b n x f) h = let wrong : ⊥ = cc in absurd wrong
+lighter (iterate a e b f) h = let wrong : ⊥ = cc in absurd wrong

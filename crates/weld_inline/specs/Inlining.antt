@@ -1,9 +1,10 @@
 -- Lets put in their place: the rule of the pass, and what its answer has none of.
-use Rattle.std.specs.Prelude.{◌≡◌, if◌then◌else◌, false, Some, None}
+use Rattle.std.specs.Prelude.{◌≡◌, false}
 use Rattle.weld_tree.specs.ExprTree.{ExprTree, leaf, one, two, three, many, let_in, loop, iterate}
 use Rattle.weld_meaning.specs.Names.{put}
 use Rattle.weld_sweep.specs.Nodes.{EachNode}
 use Rattle.weld_sweep.specs.Sweep.{RootRule}
+use Rattle.weld_pass.specs.Tested.{tested}
 use Rattle.weld_putting.specs.Redex.{is_redex}
 
 -- the body of a `let` with the value for each use of the name; what isn't a `let` stays
@@ -19,7 +20,7 @@ opened (iterate a e b f) = iterate a e b f
 
 -- the rule: a `let` of a plain value, or one whose name is used once where the value may stand, is opened
 abbrev pub lets_rule : RootRule
-lets_rule e = if is_redex e then Some (opened e) else None
+lets_rule = tested is_redex opened
 
 -- no node of the expression is such a `let`
 abbrev pub HasNoSuchLet : ExprTree → Type 0

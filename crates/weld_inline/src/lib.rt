@@ -1,6 +1,7 @@
 //! Lets put in their place.
 #![tactic(auto)]
 
+pub mod laws;
 mod loops_within;
 mod pass;
 mod plain;
@@ -9,3 +10,4 @@ mod rule;
 mod spots;
 
 pub use pass::inline_lets;
+pub use rule::Lets;

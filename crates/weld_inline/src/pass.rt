@@ -1,6 +1,6 @@
 //! The pass.
 
-ghost use Rattle.std.specs.Prelude.{◌≤◌, ℕ, List, IfOk};
+ghost use Rattle.std.specs.Prelude.{◌≡◌, ◌≤◌, ℕ, List, IfOk};
 ghost use Rattle.weld_tree.specs.Blank.{AreSame};
 ghost use Rattle.weld_tree.specs.Program.{ProgramTree, loops};
 ghost use Rattle.weld_meaning.specs.Accepted.{IsAccepted};
@@ -12,15 +12,11 @@ ghost use Rattle.weld_replacing.specs.Within.{legs};
 ghost use Rattle.weld_replacing.specs.Rewriting.{SameMeaning};
 ghost use Rattle.weld_inline.specs.Inlining.{HasNoSuchLet};
 
+use crate::laws::lets_may_be_rewritten;
 use crate::rule::Lets;
 use std::alloc::{AllocError, Global};
 use weld_meaning::Accepted;
-use weld_putting::laws::lets_are_put_in_place;
-use weld_reads_back::laws::{printed_programs_read_back, texts_spell_the_spellable};
-use weld_replacing::laws::{rewritten_programs, tidiness_is_kept};
-use weld_rounds::laws::rounds_rewrite;
-use weld_rounds::sweep_until_still;
-use weld_tree::Program;
+use weld_pass::run_pass;
 
 /// The program with lets put in their place (the Weld papers): those of a plain value, which is a
 /// name, a name followed by field accesses, or a number or truth literal; and those whose name is
@@ -33,6 +29,7 @@ pub fn inline_lets(alloc: Global, p: Accepted) -> Result<Accepted, AllocError>
     requires { ProgramIsNoted p }
     ensures accepted { IfOk result (λ q. IsAccepted q) }
     ensures noted { IfOk result (λ q. ProgramIsNoted q) }
+    ensures params { IfOk result (λ q. q.params ≡ p.params) }
     ensures same_meaning { IfOk result (λ q. SameMeaning q p) }
     ensures spelled { IfOk result (λ q. (text : List ℕ) (s : ProgramTree)
         → TextSpells text s → IsSameButNotes s p
@@ -41,16 +38,6 @@ pub fn inline_lets(alloc: Global, p: Accepted) -> Result<Accepted, AllocError>
     ensures loops { IfOk result (λ q. loops q.body ≤ loops p.body) }
     ensures no_redex_of_its_own { IfOk result (λ q. HasNoSuchLet q.body) }
 {
-    lets_are_put_in_place();
-    tidiness_is_kept();
-    rounds_rewrite();
-    rewritten_programs();
-    texts_spell_the_spellable();
-    printed_programs_read_back();
-    let Accepted { program } = p;
-    let Program { params, body } = program;
-    let mut body = body;
-    sweep_until_still(alloc, &Lets, &mut body)?;
-    let program = Program { params, body };
-    Ok(Accepted { program })
+    lets_may_be_rewritten();
+    run_pass(alloc, &Lets, p)
 }

@@ -13,7 +13,7 @@ use weld_tree::{Expr, Form, Known, LeafForm};
 /// A `let` of a plain value, or one whose name is used once where the value may stand, becomes its
 /// body with the value put for the name.
 #[derive(Clone, Copy)]
-pub(crate) struct Lets;
+pub struct Lets;
 
 impl Rule for Lets {
     ghost use Rattle.weld_inline.specs.Inlining.{lets_rule};

@@ -17,6 +17,7 @@ use weld_tree::{BuildTy, Expr, Exprs, Form, Known, Leg, Legs, ThreeForm, TwoForm
 #[tactic(auto, using(crate::proofs::Decided::safe_at_test))]
 pub fn never_faults(e: &Expr) -> bool
     ensures safe { Decides result (IsSafe e.now) }
+    ensures test { result ≡ is_safe e.now }
 {
     test_safe(e)
 }

@@ -1,13 +1,9 @@
--- Where the rule matches nowhere, no such `let` stands.
-use Rattle.std.proofs.Common.{◌≡◌, Bool, true, false, if◌then◌else◌, Some, None, refl}
+-- What holds of each node holds of each if it follows.
 use Rattle.weld_tree.specs.ExprTree.{ExprTree, leaf, one, two, three, many, let_in, loop, iterate, ExprTrees, no_exprs, more_exprs, LegTree, whole, strided, LegTrees, no_legs, more_legs}
 use Rattle.weld_sweep.specs.Nodes.{EachNode, EachOfAll, EachOfLeg, EachOfLegs}
-use Rattle.weld_sweep.specs.Sweep.{IsNoMatch, IsStill}
-use Rattle.weld_putting.specs.Redex.{is_redex}
-use Rattle.weld_inline.specs.Inlining.{opened, lets_rule, HasNoSuchLet}
 
 mutual
-  each_node : (P Q : ExprTree → Type 0) → ((e : ExprTree) → P e → Q e) → (e : ExprTree) → EachNode P e → EachNode Q e
+  pub each_node : (P Q : ExprTree → Type 0) → ((e : ExprTree) → P e → Q e) → (e : ExprTree) → EachNode P e → EachNode Q e
   each_node P Q f (leaf a l) h = f (leaf a l) h
   each_node P Q f (one a o e) h = (each_node P Q f e h.0, f (one a o e) h.1)
   each_node P Q f (two a o e g) h = (each_node P Q f e h.0, each_node P Q f g h.1, f (two a o e g) h.2)
@@ -28,10 +24,3 @@ mutual
   each_of_legs : (P Q : ExprTree → Type 0) → ((e : ExprTree) → P e → Q e) → (ls : LegTrees) → EachOfLegs P ls → EachOfLegs Q ls
   each_of_legs P Q f no_legs h = tt
   each_of_legs P Q f (more_legs l ls) h = (each_of_leg P Q f l h.0, each_of_legs P Q f ls h.1)
-
-no_redex : (b : Bool) (x : ExprTree) → (if b then Some x else None) ≡ None → b ≡ false
-no_redex true x h = let wrong : ⊥ = cc in absurd wrong
-no_redex false x h = refl
-
-pub no_such_let : (e : ExprTree) → IsStill lets_rule e → HasNoSuchLet e
-no_such_let e h = each_node (IsNoMatch lets_rule) (λ node. is_redex node ≡ false) (λ node m. no_redex (is_redex node) (opened node) m) e h

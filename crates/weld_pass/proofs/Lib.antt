@@ -1,0 +1,5 @@
+pub mod EachNodes
+pub mod Joined
+pub mod Passed
+pub mod Spelled
+pub mod Tests

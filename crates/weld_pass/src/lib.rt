@@ -1,0 +1,10 @@
+//! A pass over a program: a rule of rewriting, tried until it matches nowhere, and what that keeps
+//! of the program, proved once for all passes.
+#![tactic(auto)]
+
+mod either;
+pub mod laws;
+mod pass;
+
+pub use either::Either;
+pub use pass::run_pass;

@@ -1,0 +1,56 @@
+//! The pass.
+
+ghost use Rattle.std.specs.Prelude.{◌≡◌, ◌≤◌, ℕ, List, IfOk};
+ghost use Rattle.weld_tree.specs.Blank.{AreSame};
+ghost use Rattle.weld_tree.specs.Program.{ProgramTree, loops};
+ghost use Rattle.weld_meaning.specs.Accepted.{IsAccepted};
+ghost use Rattle.weld_unnoted.specs.Unnoted.{IsSameButNotes};
+ghost use Rattle.weld_check_types.specs.Notes.{ProgramIsNoted};
+ghost use Rattle.weld_print.specs.PrintText.{program_text};
+ghost use Rattle.weld_reads_back.specs.Texts.{TextSpells, TextSpellsSoundly};
+ghost use Rattle.weld_replacing.specs.Within.{legs};
+ghost use Rattle.weld_replacing.specs.Rewriting.{SameMeaning};
+ghost use Rattle.weld_rounds.specs.Rules.{Falls, IsSound};
+ghost use Rattle.weld_sweep.specs.Sweep.{IsStill};
+
+use std::alloc::{AllocError, Global};
+use weld_meaning::Accepted;
+use weld_reads_back::laws::{printed_programs_read_back, texts_spell_the_spellable};
+use weld_replacing::laws::{rewritten_programs, tidiness_is_kept};
+use weld_rounds::laws::rounds_rewrite;
+use weld_rounds::sweep_until_still;
+use weld_sweep::Rule;
+use weld_tree::Program;
+
+/// The program with the rule tried at each node, in rounds, until it matches nowhere: accepted and
+/// noted as before, with the same meaning on all arguments that fit, faults included, no more legs
+/// and loops; and where some text spelled it, noted types apart, its printed text spells it. The
+/// rule's answer is lighter than the node and may take its place. It fails for want of memory
+/// alone, and the program is spent then.
+pub fn run_pass<R: Rule>(alloc: Global, rule: &R, p: Accepted) -> Result<Accepted, AllocError>
+    requires noted { ProgramIsNoted p }
+    requires falls { Falls (R.rule rule.now) }
+    requires sound { IsSound (R.rule rule.now) }
+    ensures accepted { IfOk result (λ q. IsAccepted q) }
+    ensures noted { IfOk result (λ q. ProgramIsNoted q) }
+    ensures params { IfOk result (λ q. q.params ≡ p.params) }
+    ensures same_meaning { IfOk result (λ q. SameMeaning q p) }
+    ensures spelled { IfOk result (λ q. (text : List ℕ) (s : ProgramTree)
+        → TextSpells text s → IsSameButNotes s p
+        → (r : ProgramTree) × TextSpellsSoundly (program_text q) r × AreSame q r) }
+    ensures legs { IfOk result (λ q. legs q.body ≤ legs p.body) }
+    ensures loops { IfOk result (λ q. loops q.body ≤ loops p.body) }
+    ensures still { IfOk result (λ q. IsStill (R.rule rule.now) q.body) }
+{
+    tidiness_is_kept();
+    rounds_rewrite();
+    rewritten_programs();
+    texts_spell_the_spellable();
+    printed_programs_read_back();
+    let Accepted { program } = p;
+    let Program { params, body } = program;
+    let mut body = body;
+    sweep_until_still(alloc, rule, &mut body)?;
+    let program = Program { params, body };
+    Ok(Accepted { program })
+}

@@ -1,0 +1,8 @@
+//! Tests of `weld_predicate` and `weld_passes`: programs, and what is printed of them afterwards.
+//!
+//! They stand in a crate of their own, since a crate with tests is proved twice.
+#![tactic(auto)]
+
+pub mod passing;
+#[cfg(test)]
+mod programs;

@@ -1,0 +1,13 @@
+//! Guarded merges, merged always.
+#![tactic(auto)]
+
+mod chains;
+mod guards;
+pub mod laws;
+mod mergers;
+mod neutral;
+mod pass;
+mod rule;
+
+pub use pass::predicate;
+pub use rule::Guards;

@@ -1,0 +1,42 @@
+//! The pass.
+
+ghost use Rattle.std.specs.Prelude.{◌≡◌, ◌≤◌, ℕ, List, IfOk};
+ghost use Rattle.weld_tree.specs.Blank.{AreSame};
+ghost use Rattle.weld_tree.specs.Program.{ProgramTree, loops};
+ghost use Rattle.weld_meaning.specs.Accepted.{IsAccepted};
+ghost use Rattle.weld_unnoted.specs.Unnoted.{IsSameButNotes};
+ghost use Rattle.weld_check_types.specs.Notes.{ProgramIsNoted};
+ghost use Rattle.weld_print.specs.PrintText.{program_text};
+ghost use Rattle.weld_reads_back.specs.Texts.{TextSpells, TextSpellsSoundly};
+ghost use Rattle.weld_replacing.specs.Within.{legs};
+ghost use Rattle.weld_replacing.specs.Rewriting.{SameMeaning};
+ghost use Rattle.weld_predicate.specs.Predicating.{HasNoGuard};
+
+use crate::laws::guards_may_be_rewritten;
+use crate::rule::Guards;
+use std::alloc::{AllocError, Global};
+use weld_meaning::Accepted;
+use weld_pass::run_pass;
+
+/// The program with its guarded merges merged always (the Weld papers): where one arm of an `if`
+/// merges a value into a path of a `merger`, and the other is that path, the `if` becomes the merge
+/// of what a `select` chooses, the value or the operator's neutral value. The value must be safe:
+/// nothing runs that could fault and didn't run before. It asks for a program whose nodes have their
+/// types noted, as the checker leaves it. It fails for want of memory alone, and the program is
+/// spent then.
+pub fn predicate(alloc: Global, p: Accepted) -> Result<Accepted, AllocError>
+    requires { ProgramIsNoted p }
+    ensures accepted { IfOk result (λ q. IsAccepted q) }
+    ensures noted { IfOk result (λ q. ProgramIsNoted q) }
+    ensures params { IfOk result (λ q. q.params ≡ p.params) }
+    ensures same_meaning { IfOk result (λ q. SameMeaning q p) }
+    ensures spelled { IfOk result (λ q. (text : List ℕ) (s : ProgramTree)
+        → TextSpells text s → IsSameButNotes s p
+        → (r : ProgramTree) × TextSpellsSoundly (program_text q) r × AreSame q r) }
+    ensures legs { IfOk result (λ q. legs q.body ≤ legs p.body) }
+    ensures loops { IfOk result (λ q. loops q.body ≤ loops p.body) }
+    ensures no_redex_of_its_own { IfOk result (λ q. HasNoGuard q.body) }
+{
+    guards_may_be_rewritten();
+    run_pass(alloc, &Guards, p)
+}
