@@ -1,7 +1,7 @@
 ghost use Rattle.std.specs.Prelude.{◌≡◌, ◌<◌, ◌≤◌, ◌++◌, ◌∷◌, [], length, option_map, IfOk, IfErr, OnOk, OnErr};
 ghost use Rattle.weld_data.specs.View.{view_val};
 ghost use Rattle.weld_tree.specs.TypeTree.{TypeTree};
-ghost use Rattle.weld_objects.specs.Objects.{given, type_at, IsGiven};
+ghost use Rattle.weld_objects.specs.Objects.{given, type_at, IsGiven, AreObjects};
 ghost use Rattle.weld_objects.specs.Lowered.{names_of};
 
 use crate::ids::ObjectId;
@@ -65,6 +65,13 @@ impl Graph {
         ensures { result ≡ names_of self.now }
     {
         self.names
+    }
+
+    /// What is known of every graph, for callers that need it: it does nothing.
+    pub fn keeps_its_rules(&self)
+        ensures { AreObjects self.now }
+    {
+        let _ = &self.objects;
     }
 
     /// How many objects there are. It takes no memory.

@@ -1,0 +1,6 @@
+mod Wanted
+mod Table
+mod Fitting
+mod Deciding
+mod Short
+mod Places

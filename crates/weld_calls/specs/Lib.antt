@@ -1,0 +1,3 @@
+pub mod CallTypes
+pub mod CallRows
+pub mod CallPrograms

@@ -1,0 +1,12 @@
+//! The calls of the two libraries: which types their arguments may have, of which type the answer is,
+//! and the program that a call stands for.
+#![tactic(auto)]
+
+pub mod call;
+pub mod laws;
+pub mod misfit;
+pub mod pattern;
+
+pub use call::Call;
+pub use misfit::first_misfit;
+pub use pattern::Pattern;

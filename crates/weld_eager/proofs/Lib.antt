@@ -1,0 +1,9 @@
+pub mod Columns
+pub mod Combining
+pub mod Choosing
+pub mod Answering
+pub mod Keeping
+pub mod Taking
+pub mod Tallying
+pub mod DotRows
+pub mod Grouping

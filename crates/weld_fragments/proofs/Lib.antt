@@ -1,0 +1,6 @@
+mod Parts
+mod Has
+mod Calls
+mod Whole
+mod Legs
+mod Arguments

@@ -1,0 +1,9 @@
+//! Tests of the two libraries: each call once on arguments that it takes, and what calls are refused for.
+//!
+//! They stand in a crate of their own, since a crate with tests is proved twice.
+#![tactic(auto)]
+
+#[cfg(test)]
+mod graphs;
+#[cfg(test)]
+mod tests;
