@@ -13,16 +13,16 @@ use weld_arguments::read_arguments;
 use weld_check_types::{Typed, check_types};
 use weld_data::{Stop, Val, Vals};
 use weld_job::split_blocks;
+use weld_meaning::Accepted;
 use weld_parse::parse;
-use weld_plan::{Normal, unoptimised};
 use weld_tree::Ty;
 use weld_uses::accept;
 use weld_write_value::write_value;
 
-/// A program that no rule refuses, in the form in which it is run, with the type of its value.
+/// A program that no rule refuses, with the type of its value.
 #[derive(Drop)]
 pub struct Checked {
-    pub normal: Normal,
+    pub accepted: Accepted,
     pub ty: Ty,
 }
 
@@ -35,21 +35,18 @@ pub struct Prepared {
 
 /// The typed program, where its use of builders is linear.
 fn accept_typed(alloc: Global, typed: Typed) -> Result<Checked, Fail>
-    ensures { IfOk result (λ c. ProgramHas c.normal c.ty) }
+    ensures { IfOk result (λ c. ProgramHas c.accepted c.ty) }
 {
     let Typed { program, ty } = typed;
     match accept(alloc, program) {
-        Ok(accepted) => Ok(Checked {
-            normal: unoptimised(accepted),
-            ty,
-        }),
+        Ok(accepted) => Ok(Checked { accepted, ty }),
         Err(_) => Err(Fail::from("the use of builders is refused")),
     }
 }
 
 /// The program that the text spells.
 fn check(alloc: Global, text: &[u8]) -> Result<Checked, Fail>
-    ensures { IfOk result (λ c. ProgramHas c.normal c.ty) }
+    ensures { IfOk result (λ c. ProgramHas c.accepted c.ty) }
 {
     let Ok(program) = parse(alloc, text) else {
         return Err(Fail::from("the text is refused"));
@@ -63,12 +60,12 @@ fn check(alloc: Global, text: &[u8]) -> Result<Checked, Fail>
 /// The job, made ready: its program is typed, and its arguments are of its parameters' types. It fails where the job
 /// is refused or its data don't fit.
 pub fn prepare(rt: &(impl Threads + Sync), alloc: Global, job: &str) -> Result<Prepared, Fail>
-    ensures typed { IfOk result (λ r. ProgramHas r.checked.normal r.checked.ty) }
-    ensures fit { IfOk result (λ r. ArgumentsFit r.checked.normal.params r.arguments) }
+    ensures typed { IfOk result (λ r. ProgramHas r.checked.accepted r.checked.ty) }
+    ensures fit { IfOk result (λ r. ArgumentsFit r.checked.accepted.params r.arguments) }
 {
     let job = split_blocks(alloc, job.as_bytes())?;
     let checked = check(alloc, job.text.as_slice())?;
-    match read_arguments(rt, alloc, &checked.normal.program.params, &job, 2) {
+    match read_arguments(rt, alloc, &checked.accepted.program.params, &job, 2) {
         Ok(arguments) => Ok(Prepared { checked, arguments }),
         Err(_) => Err(Fail::from("the data don't fit")),
     }

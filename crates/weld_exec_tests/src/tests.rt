@@ -75,7 +75,7 @@ fn agrees(
 /// Whether the job comes to this in all these ways.
 fn holds(rt: &(impl Threads + Sync), alloc: Global, job: &str, wanted: &str) -> Result<bool, Fail> {
     let job = prepare(rt, alloc, job)?;
-    let plan = make_plan(alloc, &job.checked.normal)?;
+    let plan = make_plan(alloc, &job.checked.accepted)?;
     Ok(agrees(alloc, &plan, &job.checked.ty, &job.arguments, wanted)?)
 }
 

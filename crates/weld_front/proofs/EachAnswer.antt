@@ -1,5 +1,5 @@
 -- Each list of bytes has an answer.
-use Rattle.std.proofs.Common.{◌≡◌, ℕ, ◌⊎◌, inl, inr, Bool, true, false, List, Option, Some, None, sym, ap, subst, refl}
+use Rattle.std.proofs.Common.{◌≡◌, ℕ, ◌≤◌, ◌⊎◌, ◌++◌, ◌&&◌, inl, inr, Bool, true, false, List, Option, Some, None, sym, ap, subst, refl}
 use Rattle.std.specs.Bool.{MatchBool}
 use Rattle.weld_data.specs.Value.{Value}
 use Rattle.weld_builders.specs.Outcome.{Outcome, done, fault, stuck}
@@ -21,10 +21,18 @@ use Rattle.weld_job.specs.declared.job.Job.{Job}
 use Rattle.weld_parse.specs.Parses.{Parses, IsRefused}
 use Rattle.weld_arguments.specs.Arguments.{Arguments, IsUnfit}
 use Rattle.weld_front.specs.Accepting.{Accepts, Says, Refuses}
-use Rattle.weld_front.specs.Answer.{Answers, AnswersParts, RunAnswers, CheckAnswers, is_too_long}
-use Rattle.weld_front.specs.Texts.{value_text, ok_text, fault_text, unfit_text, refusal_text}
-use Rattle.weld_front.specs.declared.words.Task.{Task}
-use Rattle.weld_front.specs.declared.words.Task.TheVariants.{Run, Check}
+use Rattle.weld_words.specs.declared.options.Options.{Options}
+use Rattle.weld_words.specs.declared.options.Command.{Command}
+use Rattle.weld_words.specs.declared.options.Command.TheVariants.{Run, Check, Show, Session, Soak}
+use Rattle.weld_front.specs.Concluding.{IsReport, IsTold}
+use Rattle.weld_front.specs.Answer.{Answers, AnswersParts, CommandAnswers, RunAnswers, CheckAnswers, ShowAnswers, is_too_long}
+use Rattle.weld_front.specs.Asking.{IsOnPrograms, reads_a_job}
+use Rattle.weld_front.proofs.Noted.{NotesKnown, optimised_spelled, shown_spelled}
+use Rattle.weld_front.proofs.Counting.{note_exists}
+use Rattle.weld_passes.specs.Normal.{HasNormalForm}
+use Rattle.weld_tree.specs.Program.{loops}
+use Rattle.weld_print.specs.PrintText.{program_text}
+use Rattle.weld_front.specs.Texts.{line, value_text, ok_text, fault_text, unfit_text, refusal_text, report_text}
 use Rattle.weld_front.specs.declared.status.Status.{Status}
 use Rattle.weld_front.specs.declared.status.Status.TheVariants.{Done, Fault, Refused, Unfit}
 
@@ -34,6 +42,8 @@ pub record EachKnown : Type 0 where
   pub typed : (text : List ℕ) (p : ProgramTree) (t : TypeTree) → Parses text p → program_type p ≡ found t → ProgramHas p t
   pub data_of : (ps : List Binder) (job : Job) → ParamsFit ps → ((vs : List Value) × Arguments ps job vs) ⊎ ((n : ℕ) × (c : Code) × IsUnfit ps job n c)
   pub fit : (ps : List Binder) (job : Job) (vs : List Value) → ParamsFit ps → Arguments ps job vs → ArgumentsFit ps vs
+  pub notes : NotesKnown
+  pub normal : (text : List ℕ) (p : ProgramTree) (t : TypeTree) → Accepts text p t → HasNormalForm p
   pub never_stuck : (p : ProgramTree) (t : TypeTree) (vs : List Value) → ProgramHas p t → ArgumentsFit p.params vs → GivesOrFaults (HasValue t) (meaning p vs)
 
 -- a text is accepted, or refused for something
@@ -63,37 +73,82 @@ judged known text = by (known.text text)
 abbrev Answered : (Status → List ℕ → Type 0) → Type 0
 Answered P = (status : Status) × (text : List ℕ) × P status text
 
-concluded : (job : Job) (p : ProgramTree) (t : TypeTree) (vs : List Value) (o : Outcome Value) → Accepts job.text p t → Arguments p.params job vs → meaning p vs ≡ o → GivesOrFaults (HasValue t) o → Answered (RunAnswers job)
-concluded job p t vs (done v) a d e g = (Done, value_text t v, (p, t, a, (vs, d, (v, e, refl))))
-concluded job p t vs fault a d e g = (Fault, fault_text, (p, t, a, (vs, d, (e, refl))))
-concluded job p t vs stuck a d e g = absurd g
+-- the text with its report, where one is wanted
+told_some : (b : Bool) (P : List ℕ → Type 0) (x : List ℕ) → (lines : List ℕ) × P lines → (text : List ℕ) × IsTold b P x text
+told_some true P x (lines, h) = (x ++ lines, (lines, h, refl))
+told_some false P x h = (x, refl)
 
-program_answered : EachKnown → (job : Job) (p : ProgramTree) (t : TypeTree) → Accepts job.text p t → Answered (RunAnswers job)
-program_answered known job p t a =
+-- a report of a run of the normal form
+report_some : EachKnown → (text : List ℕ) (p : ProgramTree) (t : TypeTree) (vs : List Value) (cut : ℕ) → 1 ≤ cut → Accepts text p t → (lines : List ℕ) × IsReport p vs cut lines
+report_some known text p t vs cut c a =
+    let form = known.normal text p t a in
+    let note = note_exists form.normal vs cut c in (
+      report_text (loops p.body) note.0,
+      record {
+        note = note.0;
+        counted = record { ran = form.normal; optimised = optimised_spelled known.notes form.normal form.noted p form.same form.optimised; counted = note.1 };
+        told = refl;
+      },
+    )
+
+concluded : EachKnown → (o : Options) (job : Job) (p : ProgramTree) (t : TypeTree) (vs : List Value) (u : Outcome Value) → 1 ≤ o.cut → Accepts job.text p t → Arguments p.params job vs → meaning p vs ≡ u → GivesOrFaults (HasValue t) u → Answered (RunAnswers o job)
+concluded known o job p t vs (done v) c a d e g =
+    let told = told_some o.report (IsReport p vs o.cut) (value_text t v) (report_some known job.text p t vs o.cut c a) in
+    (Done, told.0, (p, t, a, (vs, d, (v, e, told.1))))
+concluded known o job p t vs fault c a d e g = (Fault, fault_text, (p, t, a, (vs, d, (e, refl))))
+concluded known o job p t vs stuck c a d e g = absurd g
+
+program_answered : EachKnown → (o : Options) (job : Job) (p : ProgramTree) (t : TypeTree) → 1 ≤ o.cut → Accepts job.text p t → Answered (RunAnswers o job)
+program_answered known o job p t c a =
     let has : ProgramHas p t = known.typed job.text p t a.parses a.typed in by has (known.data_of p.params job has.params)
   where
-    by : ProgramHas p t → ((vs : List Value) × Arguments p.params job vs) ⊎ ((n : ℕ) × (c : Code) × IsUnfit p.params job n c) → Answered (RunAnswers job)
-    by has (inl (vs, d)) = concluded job p t vs (meaning p vs) a d refl (known.never_stuck p t vs has (known.fit p.params job vs has.params d))
-    by has (inr (n, c, u)) = (Unfit, unfit_text n c, (p, t, a, (n, c, u, refl)))
+    by : ProgramHas p t → ((vs : List Value) × Arguments p.params job vs) ⊎ ((n : ℕ) × (c : Code) × IsUnfit p.params job n c) → Answered (RunAnswers o job)
+    by has (inl (vs, d)) = concluded known o job p t vs (meaning p vs) c a d refl (known.never_stuck p t vs has (known.fit p.params job vs has.params d))
+    by has (inr (n, k, u)) = (Unfit, unfit_text n k, (p, t, a, (n, k, u, refl)))
 
-run_answered : EachKnown → (job : Job) → Judged job.text → Answered (RunAnswers job)
-run_answered known job (accepted p t a) = program_answered known job p t a
-run_answered known job (turned_down r h) = (Refused, refusal_text r, (r, h, refl))
+run_answered : EachKnown → (o : Options) (job : Job) → 1 ≤ o.cut → Judged job.text → Answered (RunAnswers o job)
+run_answered known o job c (accepted p t a) = program_answered known o job p t c a
+run_answered known o job c (turned_down f h) = (Refused, refusal_text f, (f, h, refl))
+
+show_answered : EachKnown → (job : Job) → Judged job.text → Answered (ShowAnswers job)
+show_answered known job (accepted p t a) =
+    let form = known.normal job.text p t a in
+    let text : List ℕ = line (program_text form.normal) in (
+      Done,
+      text,
+      (
+        p,
+        t,
+        a,
+        shown_spelled known.notes form.noted p text form.same (record {
+          shown = form.normal;
+          optimised = form.optimised;
+          told = refl;
+          read = form.read;
+          spelled = form.spelled;
+          same = form.reads_back;
+        }),
+      ),
+    )
+show_answered known job (turned_down f h) = (Refused, refusal_text f, (f, h, refl))
 
 check_answered : (job : Job) → Judged job.text → Answered (CheckAnswers job)
 check_answered job (accepted p t a) = (Done, ok_text t, (p, t, a, refl))
 check_answered job (turned_down r h) = (Refused, refusal_text r, (r, h, refl))
 
-parts_answered : EachKnown → (task : Task) (job : Job) → Answered (AnswersParts task job)
-parts_answered known Run job = run_answered known job (judged known job.text)
-parts_answered known Check job = check_answered job (judged known job.text)
+command_answered : EachKnown → (c : Command) (o : Options) (job : Job) → 1 ≤ o.cut → IsOnPrograms c → Answered (CommandAnswers c o job)
+command_answered known Run o job cut built = run_answered known o job cut (judged known job.text)
+command_answered known Check o job cut built = check_answered job (judged known job.text)
+command_answered known Show o job cut built = show_answered known job (judged known job.text)
+command_answered known Session o job cut built = absurd built
+command_answered known Soak o job cut built = absurd built
 
-pub answers_some : EachKnown → (task : Task) (bytes : List ℕ) → (status : Status) × (text : List ℕ) × Answers task bytes status text
-answers_some known task bytes = by (is_too_long bytes) refl
+pub answers_some : EachKnown → (o : Options) (bytes : List ℕ) → 1 ≤ o.cut → IsOnPrograms o.command → (status : Status) × (text : List ℕ) × Answers o bytes status text
+answers_some known o bytes cut built = by (reads_a_job o.command && is_too_long bytes) refl
   where
     within : Bool → Type 0
-    within long = (status : Status) × (text : List ℕ) × MatchBool long ((status ≡ Refused) × (text ≡ refusal_text (Size codes_of.M1))) (AnswersParts task (job_of bytes) status text)
+    within long = (status : Status) × (text : List ℕ) × MatchBool long ((status ≡ Refused) × (text ≡ refusal_text (Size codes_of.M1))) (AnswersParts o (job_of bytes) status text)
 
-    by : (long : Bool) → is_too_long bytes ≡ long → within long
+    by : (long : Bool) → (reads_a_job o.command && is_too_long bytes) ≡ long → within long
     by true e = (Refused, refusal_text (Size codes_of.M1), (refl, refl))
-    by false e = parts_answered known task (job_of bytes)
+    by false e = command_answered known o.command o (job_of bytes) cut built

@@ -1,8 +1,8 @@
 -- A job has one answer at most.
-use Rattle.std.proofs.Common.{◌≡◌, ℕ, inl, inr, Bool, true, false, List, Option, Some, None, sym, ap, subst, refl, ◌∙◌}
+use Rattle.std.proofs.Common.{◌≡◌, ◌≢◌, ◌&&◌, ℕ, inl, inr, Bool, true, false, List, Option, Some, None, sym, ap, subst, refl, ◌∙◌, [], ◌∷◌}
 use Rattle.std.specs.Bool.{MatchBool}
 use Rattle.weld_data.specs.Value.{Value}
-use Rattle.weld_builders.specs.Outcome.{done, fault}
+use Rattle.weld_builders.specs.Outcome.{Outcome, done, fault}
 use Rattle.weld_tree.specs.TypeTree.{TypeTree}
 use Rattle.weld_tree.specs.Program.{ProgramTree}
 use Rattle.weld_tree.specs.declared.binder.Binder.{Binder}
@@ -11,15 +11,22 @@ use Rattle.weld_tree.specs.declared.place.Place.{Place}
 use Rattle.weld_tree.specs.declared.refusal.Refusal.{Refusal}
 use Rattle.weld_types.specs.Walk.{found, refusal_of, program_type, typing_refusal}
 use Rattle.weld_meaning.specs.LinearWalk.{linear_refusal}
+use Rattle.weld_meaning.specs.Meaning.{meaning}
 use Rattle.weld_job.specs.Blocks.{job_of}
 use Rattle.weld_job.specs.declared.job.Job.{Job}
 use Rattle.weld_parse.specs.Parses.{Parses, IsRefused}
 use Rattle.weld_arguments.specs.Arguments.{Arguments, IsUnfit}
 use Rattle.weld_front.specs.Accepting.{Accepts, Says, IsIllTyped, IsNotLinear, Refuses}
-use Rattle.weld_front.specs.Answer.{Answers, AnswersParts, RunAnswers, CheckAnswers, RefusalAnswers, ProgramAnswers, Concludes, is_too_long}
+use Rattle.weld_words.specs.declared.options.Options.{Options}
+use Rattle.weld_words.specs.declared.options.Command.{Command}
+use Rattle.weld_words.specs.declared.options.Command.TheVariants.{Run, Check, Show, Session, Soak}
+use Rattle.weld_front.specs.Asking.{reads_a_job}
+use Rattle.weld_front.specs.Concluding.{Concludes, IsReport, IsTold}
+use Rattle.weld_session.specs.Answer.{shown_type, script_answer}
+use Rattle.weld_soak.specs.Soak.{soak_made, soak_shown, soak_table}
+use Rattle.weld_front.specs.Sessions.{IsScriptReport, soak_script}
+use Rattle.weld_front.specs.Answer.{Answers, CommandAnswers, CommandHasOneText, HasOneText, RunAnswers, CheckAnswers, ShowAnswers, RefusalAnswers, ProgramAnswers, ProgramConcludes, is_too_long}
 use Rattle.weld_front.specs.Texts.{value_text, ok_text, unfit_text, refusal_text}
-use Rattle.weld_front.specs.declared.words.Task.{Task}
-use Rattle.weld_front.specs.declared.words.Task.TheVariants.{Run, Check}
 use Rattle.weld_front.specs.declared.status.Status.{Status}
 use Rattle.weld_front.specs.declared.status.Status.TheVariants.{Done, Fault, Words, Refused, Unfit, Read, Write, Memory}
 
@@ -99,99 +106,103 @@ refusal_texts known job x y (r, h, e) (s, g, f) = e ∙ ap refusal_text (refusal
 
 -- ---- what a program is answered with
 
--- one status and one text
-abbrev Same : Status → List ℕ → Status → List ℕ → Type 0
-Same s x s' y = (s ≡ s') × (x ≡ y)
+-- one status, and where there is one text, one text
+abbrev Same : Type 0 → Status → List ℕ → Status → List ℕ → Type 0
+Same One s x s' y = (s ≡ s') × (One → x ≡ y)
 
-concludes_one : (p : ProgramTree) (t : TypeTree) (vs : List Value) (s s' : Status) (x y : List ℕ) → Concludes p t vs s x → Concludes p t vs s' y → Same s x s' y
-concludes_one p t vs Done Done x y (v, e, f) (w, g, h) =
+told_one : (b : Bool) (P : List ℕ → Type 0) (v w x y : List ℕ) → b ≡ false → v ≡ w → IsTold b P v x → IsTold b P w y → x ≡ y
+told_one true P v w x y f e h g = absurd cc
+told_one false P v w x y f e h g = h ∙ e ∙ sym g
+
+concludes_one : (b : Bool) (P : List ℕ → Type 0) (t : TypeTree) (u : Outcome Value) (s s' : Status) (x y : List ℕ) → Concludes b P t u s x → Concludes b P t u s' y → Same (b ≡ false) s x s' y
+concludes_one b P t u Done Done x y (v, e, f) (w, g, h) =
     let same : done v ≡ done w = sym e ∙ g in
     let values : v ≡ w = cc in
-    (refl, f ∙ ap (value_text t) values ∙ sym h)
-concludes_one p t vs Done Fault x y (v, e, f) (g, h) = let same : done v ≡ fault = sym e ∙ g in cc
-concludes_one p t vs Fault Done x y (e, f) (w, g, h) = let same : done w ≡ fault = sym g ∙ e in cc
-concludes_one p t vs Fault Fault x y (e, f) (g, h) = (refl, f ∙ sym h)
-concludes_one p t vs Words s' x y h g = absurd h
-concludes_one p t vs Refused s' x y h g = absurd h
-concludes_one p t vs Unfit s' x y h g = absurd h
-concludes_one p t vs Read s' x y h g = absurd h
-concludes_one p t vs Write s' x y h g = absurd h
-concludes_one p t vs Memory s' x y h g = absurd h
-concludes_one p t vs s Words x y h g = absurd g
-concludes_one p t vs s Refused x y h g = absurd g
-concludes_one p t vs s Unfit x y h g = absurd g
-concludes_one p t vs s Read x y h g = absurd g
-concludes_one p t vs s Write x y h g = absurd g
-concludes_one p t vs s Memory x y h g = absurd g
+    (refl, λ r. told_one b P (value_text t v) (value_text t w) x y r (ap (value_text t) values) f h)
+concludes_one b P t u Done Fault x y (v, e, f) (g, h) = let same : done v ≡ fault = sym e ∙ g in cc
+concludes_one b P t u Fault Done x y (e, f) (w, g, h) = let same : done w ≡ fault = sym g ∙ e in cc
+concludes_one b P t u Fault Fault x y (e, f) (g, h) = (refl, λ r. f ∙ sym h)
+concludes_one b P t u Words s' x y h g = absurd h
+concludes_one b P t u Refused s' x y h g = absurd h
+concludes_one b P t u Unfit s' x y h g = absurd h
+concludes_one b P t u Read s' x y h g = absurd h
+concludes_one b P t u Write s' x y h g = absurd h
+concludes_one b P t u Memory s' x y h g = absurd h
+concludes_one b P t u s Words x y h g = absurd g
+concludes_one b P t u s Refused x y h g = absurd g
+concludes_one b P t u s Unfit x y h g = absurd g
+concludes_one b P t u s Read x y h g = absurd g
+concludes_one b P t u s Write x y h g = absurd g
+concludes_one b P t u s Memory x y h g = absurd g
 
 -- the answers on data that fit, and those on data that don't
-data Split (p : ProgramTree) (t : TypeTree) (job : Job) (s : Status) (x : List ℕ) : Type 0 where
-  on_data : (vs : List Value) → Arguments p.params job vs → Concludes p t vs s x → Split p t job s x
-  off_data : (number : ℕ) (code : Code) → s ≡ Unfit → IsUnfit p.params job number code → x ≡ unfit_text number code → Split p t job s x
+data Split (o : Options) (p : ProgramTree) (t : TypeTree) (job : Job) (s : Status) (x : List ℕ) : Type 0 where
+  on_data : (vs : List Value) → Arguments p.params job vs → ProgramConcludes o p t vs s x → Split o p t job s x
+  off_data : (number : ℕ) (code : Code) → s ≡ Unfit → IsUnfit p.params job number code → x ≡ unfit_text number code → Split o p t job s x
 
-split : (p : ProgramTree) (t : TypeTree) (job : Job) (s : Status) (x : List ℕ) → ProgramAnswers p t job s x → Split p t job s x
-split p t job Unfit x (n, c, u, e) = off_data n c refl u e
-split p t job Done x (vs, a, c) = on_data vs a c
-split p t job Fault x (vs, a, c) = on_data vs a c
-split p t job Words x (vs, a, c) = absurd c
-split p t job Refused x (vs, a, c) = absurd c
-split p t job Read x (vs, a, c) = absurd c
-split p t job Write x (vs, a, c) = absurd c
-split p t job Memory x (vs, a, c) = absurd c
+split : (o : Options) (p : ProgramTree) (t : TypeTree) (job : Job) (s : Status) (x : List ℕ) → ProgramAnswers o p t job s x → Split o p t job s x
+split o p t job Unfit x (n, c, u, e) = off_data n c refl u e
+split o p t job Done x (vs, a, c) = on_data vs a c
+split o p t job Fault x (vs, a, c) = on_data vs a c
+split o p t job Words x (vs, a, c) = absurd c
+split o p t job Refused x (vs, a, c) = absurd c
+split o p t job Read x (vs, a, c) = absurd c
+split o p t job Write x (vs, a, c) = absurd c
+split o p t job Memory x (vs, a, c) = absurd c
 
-splits_one : DataKnown → (p : ProgramTree) (t : TypeTree) (job : Job) (s s' : Status) (x y : List ℕ) → Split p t job s x → Split p t job s' y → Same s x s' y
-splits_one known p t job s s' x y (on_data vs a c) (on_data ws b d) =
-    concludes_one p t ws s s' x y (subst (λ (us : List Value). Concludes p t us s x) (known.one_list p.params job vs ws a b) c) d
-splits_one known p t job s s' x y (on_data vs a c) (off_data n k e u f) = absurd (known.not_both p.params job vs n k a u)
-splits_one known p t job s s' x y (off_data n k e u f) (on_data ws b d) = absurd (known.not_both p.params job ws n k b u)
-splits_one known p t job s s' x y (off_data n k e u f) (off_data m l g v h) =
-    (e ∙ sym g, f ∙ ap (λ (i : ℕ). unfit_text i k) (known.one_code p.params job n m k l u v).0 ∙ ap (unfit_text m) (known.one_code p.params job n m k l u v).1 ∙ sym h)
+splits_one : DataKnown → (o : Options) (p : ProgramTree) (t : TypeTree) (job : Job) (s s' : Status) (x y : List ℕ) → Split o p t job s x → Split o p t job s' y → Same (o.report ≡ false) s x s' y
+splits_one known o p t job s s' x y (on_data vs a c) (on_data ws b d) =
+    concludes_one o.report (IsReport p ws o.cut) t (meaning p ws) s s' x y (subst (λ (us : List Value). ProgramConcludes o p t us s x) (known.one_list p.params job vs ws a b) c) d
+splits_one known o p t job s s' x y (on_data vs a c) (off_data n k e u f) = absurd (known.not_both p.params job vs n k a u)
+splits_one known o p t job s s' x y (off_data n k e u f) (on_data ws b d) = absurd (known.not_both p.params job ws n k b u)
+splits_one known o p t job s s' x y (off_data n k e u f) (off_data m l g v h) =
+    (e ∙ sym g, λ r. f ∙ ap (λ (i : ℕ). unfit_text i k) (known.one_code p.params job n m k l u v).0 ∙ ap (unfit_text m) (known.one_code p.params job n m k l u v).1 ∙ sym h)
 
 -- an answer to an accepted program, whatever its status
-record Accepted (job : Job) (s : Status) (x : List ℕ) : Type 0 where
+record Accepted (o : Options) (job : Job) (s : Status) (x : List ℕ) : Type 0 where
   program : ProgramTree
   type : TypeTree
   accepts : Accepts job.text program type
-  answers : ProgramAnswers program type job s x
+  answers : ProgramAnswers o program type job s x
 
-accepted_one : TextsKnown → DataKnown → (job : Job) (s s' : Status) (x y : List ℕ) → Accepted job s x → Accepted job s' y → Same s x s' y
-accepted_one texts known job s s' x y a b =
+accepted_one : TextsKnown → DataKnown → (o : Options) (job : Job) (s s' : Status) (x y : List ℕ) → Accepted o job s x → Accepted o job s' y → Same (o.report ≡ false) s x s' y
+accepted_one texts known o job s s' x y a b =
     let programs : a.program ≡ b.program = program_one texts job.text a.program b.program a.type b.type a.accepts b.accepts in
     let types : a.type ≡ b.type = types_one texts job.text a.program b.program a.type b.type a.accepts b.accepts in
-    let moved : ProgramAnswers b.program b.type job s x =
-    subst (λ (t : TypeTree). ProgramAnswers b.program t job s x) types (subst (λ (p : ProgramTree). ProgramAnswers p a.type job s x) programs a.answers) in
-    splits_one known b.program b.type job s s' x y
-    (split b.program b.type job s x moved) (split b.program b.type job s' y b.answers)
+    let moved : ProgramAnswers o b.program b.type job s x =
+    subst (λ (t : TypeTree). ProgramAnswers o b.program t job s x) types (subst (λ (p : ProgramTree). ProgramAnswers o p a.type job s x) programs a.answers) in
+    splits_one known o b.program b.type job s s' x y
+    (split o b.program b.type job s x moved) (split o b.program b.type job s' y b.answers)
 
 -- an answer of `run` is a refusal, or one to an accepted program
-data RunSplit (job : Job) (s : Status) (x : List ℕ) : Type 0 where
-  is_refused : s ≡ Refused → RefusalAnswers job x → RunSplit job s x
-  is_accepted : Accepted job s x → RunSplit job s x
+data RunSplit (o : Options) (job : Job) (s : Status) (x : List ℕ) : Type 0 where
+  is_refused : s ≡ Refused → RefusalAnswers job x → RunSplit o job s x
+  is_accepted : Accepted o job s x → RunSplit o job s x
 
-run_split : (job : Job) (s : Status) (x : List ℕ) → RunAnswers job s x → RunSplit job s x
-run_split job Refused x h = is_refused refl h
-run_split job Done x (p, t, a, h) = is_accepted (record { program = p; type = t; accepts = a; answers = h })
-run_split job Fault x (p, t, a, h) = is_accepted (record { program = p; type = t; accepts = a; answers = h })
-run_split job Unfit x (p, t, a, h) = is_accepted (record { program = p; type = t; accepts = a; answers = h })
-run_split job Words x (p, t, a, h) = is_accepted (record { program = p; type = t; accepts = a; answers = h })
-run_split job Read x (p, t, a, h) = is_accepted (record { program = p; type = t; accepts = a; answers = h })
-run_split job Write x (p, t, a, h) = is_accepted (record { program = p; type = t; accepts = a; answers = h })
-run_split job Memory x (p, t, a, h) = is_accepted (record { program = p; type = t; accepts = a; answers = h })
+run_split : (o : Options) (job : Job) (s : Status) (x : List ℕ) → RunAnswers o job s x → RunSplit o job s x
+run_split o job Refused x h = is_refused refl h
+run_split o job Done x (p, t, a, h) = is_accepted (record { program = p; type = t; accepts = a; answers = h })
+run_split o job Fault x (p, t, a, h) = is_accepted (record { program = p; type = t; accepts = a; answers = h })
+run_split o job Unfit x (p, t, a, h) = is_accepted (record { program = p; type = t; accepts = a; answers = h })
+run_split o job Words x (p, t, a, h) = is_accepted (record { program = p; type = t; accepts = a; answers = h })
+run_split o job Read x (p, t, a, h) = is_accepted (record { program = p; type = t; accepts = a; answers = h })
+run_split o job Write x (p, t, a, h) = is_accepted (record { program = p; type = t; accepts = a; answers = h })
+run_split o job Memory x (p, t, a, h) = is_accepted (record { program = p; type = t; accepts = a; answers = h })
 
-either : TextsKnown → (job : Job) (s : Status) (x y : List ℕ) → RefusalAnswers job x → Accepted job s y → ⊥
-either known job s x y (r, h, e) a = not_refused known job.text a.program a.type r a.accepts h
+either : TextsKnown → (o : Options) (job : Job) (s : Status) (x y : List ℕ) → RefusalAnswers job x → Accepted o job s y → ⊥
+either known o job s x y (r, h, e) a = not_refused known job.text a.program a.type r a.accepts h
 
-runs_one : TextsKnown → DataKnown → (job : Job) (s s' : Status) (x y : List ℕ) → RunSplit job s x → RunSplit job s' y → Same s x s' y
-runs_one texts known job s s' x y (is_refused e h) (is_refused f g) = (e ∙ sym f, refusal_texts texts job x y h g)
-runs_one texts known job s s' x y (is_refused e h) (is_accepted b) = absurd (either texts job s' x y h b)
-runs_one texts known job s s' x y (is_accepted a) (is_refused f g) = absurd (either texts job s y x g a)
-runs_one texts known job s s' x y (is_accepted a) (is_accepted b) = accepted_one texts known job s s' x y a b
+runs_one : TextsKnown → DataKnown → (o : Options) (job : Job) (s s' : Status) (x y : List ℕ) → RunSplit o job s x → RunSplit o job s' y → Same (o.report ≡ false) s x s' y
+runs_one texts known o job s s' x y (is_refused e h) (is_refused f g) = (e ∙ sym f, λ r. refusal_texts texts job x y h g)
+runs_one texts known o job s s' x y (is_refused e h) (is_accepted b) = absurd (either texts o job s' x y h b)
+runs_one texts known o job s s' x y (is_accepted a) (is_refused f g) = absurd (either texts o job s y x g a)
+runs_one texts known o job s s' x y (is_accepted a) (is_accepted b) = accepted_one texts known o job s s' x y a b
 
-checks_one : TextsKnown → (job : Job) (s s' : Status) (x y : List ℕ) → CheckAnswers job s x → CheckAnswers job s' y → Same s x s' y
-checks_one texts job Done Done x y (p, t, a, e) (q, u, b, f) = (refl, e ∙ ap ok_text (types_one texts job.text p q t u a b) ∙ sym f)
+checks_one : TextsKnown → (job : Job) (s s' : Status) (x y : List ℕ) → CheckAnswers job s x → CheckAnswers job s' y → Same (Unit {0}) s x s' y
+checks_one texts job Done Done x y (p, t, a, e) (q, u, b, f) = (refl, λ r. e ∙ ap ok_text (types_one texts job.text p q t u a b) ∙ sym f)
 checks_one texts job Done Refused x y (p, t, a, e) (r, h, f) = absurd (not_refused texts job.text p t r a h)
 checks_one texts job Refused Done x y (r, h, f) (p, t, a, e) = absurd (not_refused texts job.text p t r a h)
-checks_one texts job Refused Refused x y h g = (refl, refusal_texts texts job x y h g)
+checks_one texts job Refused Refused x y h g = (refl, λ r. refusal_texts texts job x y h g)
 checks_one texts job Fault s' x y h g = absurd h
 checks_one texts job Unfit s' x y h g = absurd h
 checks_one texts job Words s' x y h g = absurd h
@@ -205,13 +216,37 @@ checks_one texts job s Read x y h g = absurd g
 checks_one texts job s Write x y h g = absurd g
 checks_one texts job s Memory x y h g = absurd g
 
-parts_one : TextsKnown → DataKnown → (task : Task) (job : Job) (s s' : Status) (x y : List ℕ) → AnswersParts task job s x → AnswersParts task job s' y → Same s x s' y
-parts_one texts known Run job s s' x y h g = runs_one texts known job s s' x y (run_split job s x h) (run_split job s' y g)
-parts_one texts known Check job s s' x y h g = checks_one texts job s s' x y h g
+shows_one : TextsKnown → (job : Job) (s s' : Status) (x y : List ℕ) → ShowAnswers job s x → ShowAnswers job s' y → Same ⊥ s x s' y
+shows_one texts job Done Done x y h g = (refl, λ r. absurd r)
+shows_one texts job Done Refused x y (p, t, a, e) (r, h, f) = absurd (not_refused texts job.text p t r a h)
+shows_one texts job Refused Done x y (r, h, f) (p, t, a, e) = absurd (not_refused texts job.text p t r a h)
+shows_one texts job Refused Refused x y h g = (refl, λ r. absurd r)
+shows_one texts job Fault s' x y h g = absurd h
+shows_one texts job Unfit s' x y h g = absurd h
+shows_one texts job Words s' x y h g = absurd h
+shows_one texts job Read s' x y h g = absurd h
+shows_one texts job Write s' x y h g = absurd h
+shows_one texts job Memory s' x y h g = absurd h
+shows_one texts job s Fault x y h g = absurd g
+shows_one texts job s Unfit x y h g = absurd g
+shows_one texts job s Words x y h g = absurd g
+shows_one texts job s Read x y h g = absurd g
+shows_one texts job s Write x y h g = absurd g
+shows_one texts job s Memory x y h g = absurd g
 
-one_by : (b : Bool) (s s' : Status) (x y text : List ℕ) (P Q : Type 0) → (P → Q → Same s x s' y) → MatchBool b ((s ≡ Refused) × (x ≡ text)) P → MatchBool b ((s' ≡ Refused) × (y ≡ text)) Q → Same s x s' y
-one_by true s s' x y text P Q f h g = (h.0 ∙ sym g.0, h.1 ∙ sym g.1)
-one_by false s s' x y text P Q f h g = f h g
+commands_one : TextsKnown → DataKnown → (c : Command) (o : Options) (job : Job) (s s' : Status) (x y : List ℕ) → c ≢ Session → CommandAnswers c o job s x → CommandAnswers c o job s' y → Same (CommandHasOneText c o.report) s x s' y
+commands_one texts known Run o job s s' x y n h g = runs_one texts known o job s s' x y (run_split o job s x h) (run_split o job s' y g)
+commands_one texts known Check o job s s' x y n h g = checks_one texts job s s' x y h g
+commands_one texts known Show o job s s' x y n h g = shows_one texts job s s' x y h g
+commands_one texts known Session o job s s' x y n h g = absurd (n refl)
+commands_one texts known Soak o job s s' x y n h g =
+    let vs : List Value = soak_table o.seed o.rows ∷ [] in
+    concludes_one o.report (IsScriptReport soak_script vs o.cut) (shown_type soak_made soak_shown) (script_answer soak_made soak_shown vs) s s' x y h g
 
-pub answers_one : TextsKnown → DataKnown → (task : Task) (bytes : List ℕ) (s s' : Status) (x y : List ℕ) → Answers task bytes s x → Answers task bytes s' y → (s ≡ s') × (x ≡ y)
-answers_one texts known task bytes s s' x y h g = one_by (is_too_long bytes) s s' x y _ _ _ (parts_one texts known task (job_of bytes) s s' x y) h g
+one_by : (One : Type 0) (b : Bool) (s s' : Status) (x y text : List ℕ) (P Q : Type 0) → (P → Q → Same One s x s' y) → MatchBool b ((s ≡ Refused) × (x ≡ text)) P → MatchBool b ((s' ≡ Refused) × (y ≡ text)) Q → Same One s x s' y
+one_by One true s s' x y text P Q f h g = (h.0 ∙ sym g.0, λ r. h.1 ∙ sym g.1)
+one_by One false s s' x y text P Q f h g = f h g
+
+pub answers_one : TextsKnown → DataKnown → (o : Options) (bytes : List ℕ) (s s' : Status) (x y : List ℕ) → o.command ≢ Session → Answers o bytes s x → Answers o bytes s' y → (s ≡ s') × (HasOneText o → x ≡ y)
+answers_one texts known o bytes s s' x y n h g =
+    one_by (HasOneText o) (reads_a_job o.command && is_too_long bytes) s s' x y _ _ _ (commands_one texts known o.command o (job_of bytes) s s' x y n) h g

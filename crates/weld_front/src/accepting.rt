@@ -1,6 +1,7 @@
 ghost use Rattle.std.specs.Prelude.{◌≡◌, IfOk, IfErr, None};
 ghost use Rattle.weld_meaning.specs.LinearWalk.{linear_refusal};
 ghost use Rattle.weld_meaning.specs.Typing.{ProgramHas};
+ghost use Rattle.weld_check_types.specs.Notes.{ProgramIsNoted};
 ghost use Rattle.weld_uses.specs.Walks.{Fails};
 ghost use Rattle.weld_front.specs.Accepting.{IsCheckedOf, RefusesOr};
 
@@ -36,6 +37,7 @@ fn accept_typed(alloc: Global, typed: Typed) -> Result<Checked, Refusal>
 pub fn accept_text(alloc: Global, text: &[u8]) -> Result<Checked, Refusal>
     ensures accepted { IfOk result (λ c. IsCheckedOf text.now c.program c.ty) }
     ensures typed { IfOk result (λ c. ProgramHas c.program c.ty) }
+    ensures noted { IfOk result (λ c. ProgramIsNoted c.program) }
     ensures refused { IfErr result (RefusesOr text.now) }
 {
     notes_play_no_part();

@@ -1,17 +1,14 @@
-ghost use Rattle.std.specs.Prelude.{◌≤◌};
+ghost use Rattle.std.specs.Prelude.{◌<◌, ◌≤◌};
 
-use crate::words::Task;
+use weld_words::Options;
 
-/// What is asked for, and how the rows of loops are shared.
+/// What the words ask for, in the ranges of its numbers.
 #[derive(Clone, Copy, Debug)]
 pub struct Asked {
-    /// What the program is to do.
-    pub task: Task,
-    /// How many workers run tiles, 1 to 64.
-    pub workers: u32,
-    /// The most rows of a tile, at least 1.
-    pub cut: u32,
-    ghost some_workers: { 1 ≤ workers },
-    ghost few_workers: { workers ≤ 64 },
-    ghost some_rows: { 1 ≤ cut },
+    pub options: Options,
+    ghost some_workers: { 1 ≤ options.workers },
+    ghost few_workers: { options.workers ≤ 64 },
+    ghost some_rows: { 1 ≤ options.cut },
+    ghost small_seed: { options.seed < 2147483648 },
+    ghost few_rows: { options.rows ≤ 1000000 },
 }

@@ -3,11 +3,15 @@
 
 mod accepting;
 mod answer;
+mod answering;
 mod asked;
 mod deliver;
 mod front;
 pub mod laws;
+mod report;
 mod running;
+mod scripting;
+mod showing;
 mod status;
 mod words;
 

@@ -1,6 +1,7 @@
 //! The optimiser: the rules of all passes, tried together until none matches.
 #![tactic(auto)]
 
-mod normal;
+pub mod laws;
+mod normal_form;
 
-pub use normal::optimise;
+pub use normal_form::optimise;

@@ -3,12 +3,10 @@
 
 mod emit;
 pub mod laws;
-mod normal;
 mod path;
 pub mod plan;
 pub mod step;
 
-pub use normal::{Normal, unoptimised};
 pub use path::is_path;
 pub use plan::{Plan, make_plan};
 pub use step::Step;

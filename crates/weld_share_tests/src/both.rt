@@ -69,7 +69,7 @@ fn agree(
 /// Whether both ways agree for all numbers of workers and cuts.
 fn holds(rt: &(impl Threads + Sync), alloc: Global, job: &str, wanted: &str) -> Result<bool, Fail> {
     let prepared = prepare(rt, alloc, job)?;
-    let plan = make_plan(alloc, &prepared.checked.normal)?;
+    let plan = make_plan(alloc, &prepared.checked.accepted)?;
     let ty = &prepared.checked.ty;
     for (workers, cut) in &RUNS {
         if !agree(

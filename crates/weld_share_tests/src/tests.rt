@@ -83,7 +83,7 @@ fn are_runs_so(
 /// Whether all runs of the job are so.
 fn holds(rt: &(impl Threads + Sync), alloc: Global, job: &Job) -> Result<bool, Fail> {
     let prepared = prepare(rt, alloc, job.text)?;
-    let plan = make_plan(alloc, &prepared.checked.normal)?;
+    let plan = make_plan(alloc, &prepared.checked.accepted)?;
     let ty = &prepared.checked.ty;
     for (cut, tiles) in CUTS.iter().zip(&job.tiles) {
         if !are_runs_so(rt, alloc, &plan, ty, &prepared.arguments, job, *cut, *tiles)? {
@@ -114,7 +114,7 @@ fn counts_so(rt: &(impl Threads + Sync), alloc: Global, counted: &Counted) -> Re
         return Err(Fail::from("no such cut"));
     }
     let prepared = prepare(rt, alloc, counted.text)?;
-    let plan = make_plan(alloc, &prepared.checked.normal)?;
+    let plan = make_plan(alloc, &prepared.checked.accepted)?;
     match run_plan(
         rt,
         alloc,

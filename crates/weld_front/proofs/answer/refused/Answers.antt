@@ -1,6 +1,6 @@
 use Rattle.std.proofs.Common.{◌∙◌, ap, sym}
 use Rattle.weld_front.specs.Texts.{refusal_text}
-use Rattle.weld_front.proofs.Answering.{placed_text}
+use Rattle.weld_front.proofs.AnswerLemmas.{placed_text}
 use Rattle.weld_front.proofs.answer.refused.Goals as goal
 
 pub returns-in_ok-format-in-At-clause-text : goal.returns-in_ok-format-in-At-clause-text

@@ -1,9 +1,9 @@
 use Rattle.weld_front.proofs.OneAnswer.{answers_one}
 use Rattle.weld_front.proofs.laws.one_answer.Goals as goal
 
-pub returns : goal.returns
-returns c =
-    answers_one
+pub returns-clause-status : goal.returns-clause-status
+returns-clause-status c = λ o job s t x y n h g.
+    (answers_one
     (record {
       one_program = c.one_answer.ensures.program;
       not_both = c.one_answer.ensures.not_both;
@@ -13,4 +13,18 @@ returns c =
       one_list = c.one_answer-2.ensures.arguments;
       not_both = c.one_answer-2.ensures.fits;
       one_code = c.one_answer-2.ensures.unfit;
+    }) o job s t x y n h g).0
+
+pub returns-clause-text : goal.returns-clause-text
+returns-clause-text c = λ o job s t x y n one h g.
+    (answers_one
+    (record {
+      one_program = c.one_answer.ensures.program;
+      not_both = c.one_answer.ensures.not_both;
+      one_refusal = c.one_answer.ensures.refusal;
     })
+    (record {
+      one_list = c.one_answer-2.ensures.arguments;
+      not_both = c.one_answer-2.ensures.fits;
+      one_code = c.one_answer-2.ensures.unfit;
+    }) o job s t x y n h g).1 one

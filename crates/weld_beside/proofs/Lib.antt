@@ -1,0 +1,16 @@
+pub mod Relabelled
+pub mod Relabelling
+pub mod Taking
+pub mod Looking
+pub mod Runs
+pub mod Bodies
+pub mod Fields
+pub mod Numbers
+pub mod Halves
+pub mod Placing
+pub mod Coming
+pub mod Renaming
+pub mod Counting
+pub mod BesideRule
+pub mod Lighter
+pub mod Cases

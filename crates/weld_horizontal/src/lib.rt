@@ -1,0 +1,14 @@
+//! Loops over one thing: a leg that stands twice in one loop stands once.
+#![tactic(auto)]
+
+mod doubles;
+pub mod laws;
+mod pass;
+mod picks;
+mod places;
+mod plain;
+mod row;
+
+pub use doubles::Doubles;
+pub use pass::join_legs;
+pub use picks::Picks;

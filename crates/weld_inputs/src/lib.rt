@@ -1,0 +1,8 @@
+//! The inputs of a script: read from the blocks of a job's data, one for each declaration.
+#![tactic(auto)]
+
+mod block;
+mod inputs;
+pub mod laws;
+
+pub use inputs::read_inputs;

@@ -1,0 +1,89 @@
+-- Each program has a normal form.
+use Rattle.std.proofs.Common.{◌≡◌, ◌↔◌, ℕ, zero, suc, ◌<◌, ◌≤◌, Bool, true, false, List, [], None, refl, sym, ◌∙◌, arith, Result, Ok, Err, IfOk}
+use Rattle.weld_tree.specs.ExprTree.{ExprTree}
+use Rattle.weld_tree.specs.TypeTree.{TypeTree}
+use Rattle.weld_tree.specs.Program.{ProgramTree, IsProgram, loops}
+use Rattle.weld_meaning.specs.Accepted.{IsAccepted}
+use Rattle.weld_meaning.specs.Available.{Splits}
+use Rattle.weld_meaning.specs.Linear.{Keeps}
+use Rattle.weld_meaning.specs.LinearWalk.{linear_refusal}
+use Rattle.weld_types.specs.Walk.{found, program_type}
+use Rattle.weld_type_walk.specs.Noted.{typed_program}
+use Rattle.weld_check_types.specs.Notes.{ProgramIsNoted}
+use Rattle.weld_check_types.specs.Typed.{IsTyped}
+use Rattle.weld_check_types.proofs.Found.{WalkIsTyping, ProgramWalkIsTyping, TypesAreUnique, program_made, same_program, typed_if_found}
+use Rattle.weld_unnoted.specs.Unnoted.{IsSameButNotes}
+use Rattle.weld_reads_back.specs.Texts.{TextSpells}
+use Rattle.weld_sweep.specs.Sweep.{RootRule, swept, swept_times, moves, IsStill}
+use Rattle.weld_replacing.specs.Tidy.{IsTidy}
+use Rattle.weld_replacing.specs.Rewriting.{Rewrites, RewritesProgram, SameMeaning}
+use Rattle.weld_rounds.specs.Weight.{weight}
+use Rattle.weld_pass.proofs.Spelled.{TextLaws, spelled_by}
+use Rattle.weld_passes.specs.Normal.{all_rules, IsNormal, IsOptimised, HasNormalForm}
+
+-- the laws of rounds that this rests on, for one rule
+pub record RoundsKnown (r : RootRule) : Type 0 where
+  pub lighter : (e : ExprTree) → moves r e ≡ true → weight (swept r e) < weight e
+  pub still : (e : ExprTree) → moves r e ≡ false → IsStill r e
+
+step : (r : RootRule) → RoundsKnown r → (e : ExprTree) (b : Bool) → moves r e ≡ b
+    → (weight (swept r e) < weight e → (n : ℕ) × IsStill r (swept_times n r (swept r e))) → (n : ℕ) × IsStill r (swept_times n r e)
+step r known e false m f = (zero, known.still e m)
+step r known e true m f = let k = f (known.lighter e m) in (suc k.0, k.1)
+
+-- rounds end
+rounds_end : (r : RootRule) → RoundsKnown r → (k : ℕ) (e : ExprTree) → weight e ≤ k → (n : ℕ) × IsStill r (swept_times n r e)
+rounds_end r known zero e l = step r known e (moves r e) refl (λ lt. absurd (omega (arith, lt, l)))
+rounds_end r known (suc k) e l = step r known e (moves r e) refl (λ lt. rounds_end r known k (swept r e) (omega (arith, lt, l)))
+
+-- the laws of programs that this rests on
+pub record Known : Type 0 where
+  pub rounds : RoundsKnown all_rules
+  pub normal : (p : ProgramTree) → IsStill all_rules p.body → IsNormal p
+  pub rewrites : (n : ℕ) (e : ExprTree) → IsTidy e → Rewrites (swept_times n all_rules e) e
+  pub tidy : (p : ProgramTree) → IsProgram p.params p.body → IsTidy p.body
+  pub accepted : (q p : ProgramTree) → RewritesProgram q p → IsAccepted p → ProgramIsNoted p → IsAccepted q
+  pub means : (q p : ProgramTree) → RewritesProgram q p → IsAccepted p → ProgramIsNoted p → SameMeaning q p
+  pub programs : (q p : ProgramTree) → RewritesProgram q p → IsProgram p.params p.body → IsProgram q.params q.body
+  pub fewer : (q p : ProgramTree) → RewritesProgram q p → loops q.body ≤ loops p.body
+  pub walk : WalkIsTyping
+  pub program_walk : ProgramWalkIsTyping
+  pub unique : TypesAreUnique
+  pub linear : (p : ProgramTree) → (linear_refusal p ≡ None) ↔ (Keeps p.body [] × Splits p.body [])
+  pub noted : (p q : ProgramTree) → IsSameButNotes p q → linear_refusal p ≡ linear_refusal q
+  pub texts : TextLaws
+
+from_noted : Known → (text : List ℕ) (p m : ProgramTree) (t : TypeTree) → TextSpells text p → IsSameButNotes m p → IsProgram m.params m.body → IsTyped m t → linear_refusal p ≡ None → HasNormalForm p
+from_noted known text p m t s same made typed linear =
+    let uses = (known.linear m).0 (known.noted m p same ∙ linear) in
+    let accepted : IsAccepted m = record { typed = (t, typed.has); keeps = uses.0; splits = uses.1 } in
+    let ends = rounds_end all_rules known.rounds (weight m.body) m.body (omega arith) in
+    let q : ProgramTree = record { params = m.params; body = swept_times ends.0 all_rules m.body } in
+    let rewritten : RewritesProgram q m = record { params = refl; body = known.rewrites ends.0 m.body (known.tidy m made) } in
+    let read = spelled_by known.texts q m rewritten (known.programs q m rewritten made) text p s (sym same) in
+    record {
+      noted = m;
+      same = same;
+      normal = q;
+      optimised = record {
+        params = refl;
+        accepted = known.accepted q m rewritten accepted typed.noted;
+        normal = known.normal q ends.1;
+        means = known.means q m rewritten accepted typed.noted;
+        loops = known.fewer q m rewritten;
+      };
+      read = read.0;
+      spelled = read.1;
+      reads_back = read.2;
+    }
+
+pub normal_form : Known → (text : List ℕ) (p : ProgramTree) (t : TypeTree) → TextSpells text p → IsProgram p.params p.body → program_type p ≡ found t → linear_refusal p ≡ None → HasNormalForm p
+normal_form known text p t s made typed linear =
+    from_noted known text p (typed_program p) t s (same_program p) (program_made p.params p.body made)
+    (typed_if_found p t known.walk known.program_walk known.unique made typed) linear
+
+-- what a pass keeps, put together
+pub optimised_of : {E : Type 0} (p : ProgramTree) (r : Result ProgramTree E) → ((q : ProgramTree) → IsStill all_rules q.body → IsNormal q) → IfOk r (λ q. IsAccepted q) → IfOk r (λ q. q.params ≡ p.params)
+    → IfOk r (λ q. SameMeaning q p) → IfOk r (λ q. loops q.body ≤ loops p.body) → IfOk r (λ q. IsStill all_rules q.body) → IfOk r (λ q. IsOptimised q p)
+optimised_of p (Err e) normal a b c d s = tt
+optimised_of p (Ok q) normal a b c d s = record { params = b; accepted = a; normal = normal q s; means = c; loops = d }

@@ -1,0 +1,56 @@
+//! Laws of the rules of all passes and of normal forms, each the contract of a function that does nothing.
+
+ghost use Rattle.std.specs.Prelude.{◌≡◌, ℕ, List, None};
+ghost use Rattle.weld_tree.specs.TypeTree.{TypeTree};
+ghost use Rattle.weld_tree.specs.Program.{ProgramTree, IsProgram};
+ghost use Rattle.weld_meaning.specs.LinearWalk.{linear_refusal};
+ghost use Rattle.weld_types.specs.Walk.{found, program_type};
+ghost use Rattle.weld_reads_back.specs.Texts.{TextSpells};
+ghost use Rattle.weld_rounds.specs.Rules.{Falls, IsSound};
+ghost use Rattle.weld_sweep.specs.Sweep.{IsStill};
+ghost use Rattle.weld_passes.specs.Normal.{all_rules, IsNormal, HasNormalForm};
+
+use weld_horizontal::laws::legs_may_stand_once;
+use weld_inline::laws::lets_may_be_rewritten;
+use weld_meaning::laws::{the_walk_is_linear_use, types_are_unique};
+use weld_pass::laws::rules_may_be_joined;
+use weld_predicate::laws::guards_may_be_rewritten;
+use weld_reads_back::laws::{printed_programs_read_back, texts_spell_the_spellable};
+use weld_replacing::laws::{rewritten_programs, tidiness_is_kept};
+use weld_rounds::laws::{rounds_rewrite, sweeps_fall};
+use weld_types::laws::the_walk_is_typing;
+use weld_unnoted::laws::notes_play_no_part;
+use weld_vertical::laws::loops_may_be_fused;
+
+/// The rules of all passes as one make lighter and are sound; and where none of them matches, a program is in
+/// normal form.
+pub fn all_rules_may_be_tried()
+    ensures falls { Falls all_rules }
+    ensures sound { IsSound all_rules }
+    ensures normal { (p : ProgramTree) → IsStill all_rules p.body → IsNormal p }
+{
+    lets_may_be_rewritten();
+    guards_may_be_rewritten();
+    loops_may_be_fused();
+    legs_may_stand_once();
+    rules_may_be_joined();
+}
+
+/// Each program that a text spells and no rule refuses has a normal form.
+pub fn each_program_has_a_normal_form()
+    ensures { (text : List ℕ) (p : ProgramTree) (t : TypeTree) → TextSpells text p
+        → IsProgram p.params p.body → program_type p ≡ found t → linear_refusal p ≡ None
+        → HasNormalForm p }
+{
+    all_rules_may_be_tried();
+    sweeps_fall();
+    rounds_rewrite();
+    tidiness_is_kept();
+    rewritten_programs();
+    the_walk_is_typing();
+    types_are_unique();
+    the_walk_is_linear_use();
+    notes_play_no_part();
+    texts_spell_the_spellable();
+    printed_programs_read_back();
+}

@@ -1,0 +1,7 @@
+//! The reader of scripts of library calls: the script that a text is, or the first line that is refused.
+#![tactic(auto)]
+
+mod line;
+pub mod read;
+
+pub use read::{ScriptFault, read_script};

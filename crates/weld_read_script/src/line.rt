@@ -1,0 +1,39 @@
+//! Lines.
+ghost use Rattle.std.specs.Prelude.{◌≡◌, ◌≤◌, length, OnOk};
+ghost use Rattle.weld_steps.specs.Keeping.{IsKnown};
+ghost use Rattle.weld_steps.specs.Steps.{Steps};
+ghost use Rattle.weld_read_script.specs.Reading.{LineSteps, after_saying};
+
+use std::alloc::Global;
+use weld_statements::laws::statements_are_sound;
+use weld_statements::{Saying, read_line};
+use weld_steps::laws::statements_keep;
+use weld_steps::{Known, LineFault};
+use weld_tree::Code;
+
+/// Takes what a line says.
+fn take_saying(alloc: Global, known: &mut Known, said: Saying) -> Result<(), LineFault>
+    requires { IsKnown known.old }
+    ensures { Steps (after_saying known.old said) result known.new }
+{
+    match said {
+        Saying::Nothing => Ok(()),
+        Saying::NoForm => Err(LineFault::Refused(Code::S1)),
+        Saying::States(statement) => known.take(alloc, statement),
+    }
+}
+
+/// Takes a line of at most 262,144 bytes, without its LF.
+pub(crate) fn take_line(alloc: Global, known: &mut Known, line: &[u8]) -> Result<(), LineFault>
+    requires short { length line.now ≤ 262144 }
+    requires known { IsKnown known.old }
+    ensures steps { LineSteps known.old line.now result known.new }
+    ensures keeps { OnOk result (IsKnown known.new) }
+{
+    statements_are_sound();
+    statements_keep();
+    match read_line(alloc, line) {
+        Ok(said) => take_saying(alloc, known, said),
+        Err(_) => Err(LineFault::Memory),
+    }
+}

@@ -1,0 +1,4 @@
+pub mod Callees
+pub mod Names
+pub mod Requests
+pub mod Sound

@@ -1,0 +1,8 @@
+mod Places
+mod Adding
+mod Building
+mod Agreeing
+mod Counting
+mod Gathering
+mod Kept
+mod Marks

@@ -1,0 +1,9 @@
+pub mod Spine
+pub mod Seen
+pub mod Related
+pub mod Handing
+pub mod SinkPlaced
+pub mod SinkMeans
+pub mod Recognised
+pub mod Cases
+pub mod SinkRule

@@ -1,0 +1,2 @@
+mod Fixed
+mod Rows

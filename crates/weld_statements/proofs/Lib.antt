@@ -1,0 +1,5 @@
+pub mod Reading
+pub mod Closing
+pub mod Types
+pub mod Joining
+pub mod Sound

@@ -1,0 +1,9 @@
+use Rattle.std.proofs.Common.{List, ap, ◌∙◌}
+use Rattle.weld_tree.specs.ExprTree.{LegTree, pack_legs}
+use Rattle.weld_sinking.specs.Sinking.{is_only_leg}
+use Rattle.weld_vertical.proofs.Legs.{more_legs_no}
+use Rattle.weld_vertical.proofs.producers.is_only_leg.Goals as goal
+
+pub returns-in_default-2 : goal.returns-in_default-2
+returns-in_default-2 c =
+    more_legs_no c.as_slice.result.now c.in_default.len_at_least ∙ ap (λ (ls : List LegTree). is_only_leg (pack_legs ls)) c.as_slice.ensures.value

@@ -1,0 +1,11 @@
+//! Loops over what other loops make, as one loop.
+#![tactic(auto)]
+
+pub mod laws;
+mod pass;
+mod producers;
+mod rule;
+mod sink;
+
+pub use pass::fuse_vertical;
+pub use rule::Loops;

@@ -1,0 +1,88 @@
+//! A consumer sunk into a producer's body.
+
+ghost use Rattle.std.specs.Prelude.{◌≡◌, IfOk};
+ghost use Rattle.weld_tree.specs.declared.known.Known.TheVariants.{Is};
+ghost use Rattle.weld_tree.specs.ExprTree.{At, leaf, let_in, name};
+ghost use Rattle.weld_tree.specs.ExprView.{view_form};
+ghost use Rattle.weld_meaning.specs.Typing.{place_type};
+ghost use Rattle.weld_sinking.specs.Sinking.{sunk};
+
+use std::alloc::{AllocError, Global};
+use std::mem;
+use weld_data::Kind;
+use weld_tree::{Binder, Expr, Form, Known, LeafForm, Place, Sym, Ty, TyForm};
+
+/// What a consumer does with a row: its row number, its row, and its body.
+#[derive(Drop)]
+pub(crate) struct Consumer {
+    pub(crate) number: Binder,
+    pub(crate) row: Binder,
+    pub(crate) body: Box<Expr>,
+}
+
+/// In the body of a producer, which has this row number, the consumer takes the place of the merge:
+/// its row number is the producer's, its row the value that was merged. The nodes have the
+/// consumer's type noted. It fails for want of memory alone; the body may be anything then.
+pub(crate) fn sink(
+    alloc: Global,
+    ty: &Known,
+    count: Sym,
+    consumer: Consumer,
+    e: &mut Expr,
+) -> Result<(), AllocError>
+    ensures { IfOk result (λ _.
+        e.new ≡ sunk ty.now count.0 consumer.number consumer.row consumer.body.value e.old) }
+{
+    let place = e.place;
+    match &mut e.form {
+        Form::Let(_, _, rest) => sink(alloc, ty, count, consumer, rest)?,
+        Form::Two(_, _, value) => {
+            let value = mem::replace(&mut **value, blank(place));
+            e.form = consume(alloc, ty, place, count, consumer, value)?;
+        }
+        _ => return Ok(()),
+    }
+    e.ty = ty.copy(alloc)?;
+    Ok(())
+}
+
+/// The consumer on the value.
+fn consume(
+    alloc: Global,
+    ty: &Known,
+    place: Place,
+    count: Sym,
+    consumer: Consumer,
+    value: Expr,
+) -> Result<Form, AllocError>
+    ensures { IfOk result (λ form. (at : At) → view_form form at
+        ≡ let_in at consumer.number (leaf (record { place = place; ty = Is place_type }) (name count.0))
+        (let_in (record { place = place; ty = ty.now }) consumer.row value consumer.body.value)) }
+{
+    let Consumer { number, row, body } = consumer;
+    let value = Box::new(alloc, value)?;
+    let inner = Expr {
+        form: Form::Let(row, value, body),
+        place,
+        ty: ty.copy(alloc)?,
+    };
+    let inner = Box::new(alloc, inner)?;
+    let count = Expr {
+        form: Form::Leaf(LeafForm::Name(count)),
+        place,
+        ty: Known::Is(Ty {
+            form: TyForm::Scalar(Kind::I64),
+        }),
+    };
+    let count = Box::new(alloc, count)?;
+    Ok(Form::Let(number, count, inner))
+}
+
+/// An expression that stands in for one that was taken.
+fn blank(place: Place) -> Expr {
+    Expr {
+        form: Form::Leaf(LeafForm::Truth(false)),
+        place,
+        ty: Known::Blank,
+    }
+}
