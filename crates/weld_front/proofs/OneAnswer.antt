@@ -1,5 +1,5 @@
 -- A job has one answer at most.
-use Rattle.std.proofs.Common.{◌≡◌, ◌≢◌, ◌&&◌, ℕ, inl, inr, Bool, true, false, List, Option, Some, None, sym, ap, subst, refl, ◌∙◌, [], ◌∷◌}
+use Rattle.std.proofs.Common.{◌≡◌, ◌≢◌, ◌&&◌, ℕ, inl, inr, Bool, true, false, List, Option, Some, None, Ok, Err, sym, ap, subst, refl, ◌∙◌, [], ◌∷◌}
 use Rattle.std.specs.Bool.{MatchBool}
 use Rattle.weld_data.specs.Value.{Value}
 use Rattle.weld_builders.specs.Outcome.{Outcome, done, fault}
@@ -22,11 +22,17 @@ use Rattle.weld_words.specs.declared.options.Command.{Command}
 use Rattle.weld_words.specs.declared.options.Command.TheVariants.{Run, Check, Show, Session, Soak}
 use Rattle.weld_front.specs.Asking.{reads_a_job}
 use Rattle.weld_front.specs.Concluding.{Concludes, IsReport, IsTold}
+use Rattle.weld_script.specs.declared.made.Declared.{Declared}
+use Rattle.weld_script.specs.Script.{PlainScript, declared_of}
+use Rattle.weld_read_script.specs.Reading.{IsRead}
+use Rattle.weld_read_script.specs.declared.read.ScriptFault.{ScriptFault}
+use Rattle.weld_read_script.specs.declared.read.ScriptFault.TheVariants as faults
+use Rattle.weld_inputs.specs.Inputs as of_script
 use Rattle.weld_session.specs.Answer.{shown_type, script_answer}
 use Rattle.weld_soak.specs.Soak.{soak_made, soak_shown, soak_table}
-use Rattle.weld_front.specs.Sessions.{IsScriptReport, soak_script}
+use Rattle.weld_front.specs.Sessions.{IsScriptReport, ScriptConcludes, ScriptAnswers, ScriptRefusalAnswers, SessionAnswers, soak_script}
 use Rattle.weld_front.specs.Answer.{Answers, CommandAnswers, CommandHasOneText, HasOneText, RunAnswers, CheckAnswers, ShowAnswers, RefusalAnswers, ProgramAnswers, ProgramConcludes, is_too_long}
-use Rattle.weld_front.specs.Texts.{value_text, ok_text, unfit_text, refusal_text}
+use Rattle.weld_front.specs.Texts.{value_text, ok_text, unfit_text, refusal_text, script_refusal_text}
 use Rattle.weld_front.specs.declared.status.Status.{Status}
 use Rattle.weld_front.specs.declared.status.Status.TheVariants.{Done, Fault, Words, Refused, Unfit, Read, Write, Memory}
 
@@ -41,6 +47,16 @@ pub record DataKnown : Type 0 where
   pub one_list : (ps : List Binder) (job : Job) (vs ws : List Value) → Arguments ps job vs → Arguments ps job ws → vs ≡ ws
   pub not_both : (ps : List Binder) (job : Job) (vs : List Value) (n : ℕ) (c : Code) → Arguments ps job vs → IsUnfit ps job n c → ⊥
   pub one_code : (ps : List Binder) (job : Job) (n m : ℕ) (c d : Code) → IsUnfit ps job n c → IsUnfit ps job m d → (n ≡ m) × (c ≡ d)
+
+-- what is known of scripts and their data: one script, or one refusal, and not both; one list of values, or one thing wrong
+-- with the data first, and not both
+pub record ScriptsKnown : Type 0 where
+  pub one_script : (text : List ℕ) (s t : PlainScript) → IsRead text (Ok s) → IsRead text (Ok t) → s ≡ t
+  pub one_fault : (text : List ℕ) (e f : ScriptFault) → e ≢ faults.Memory → f ≢ faults.Memory → IsRead text (Err e) → IsRead text (Err f) → e ≡ f
+  pub script_or_fault : (text : List ℕ) (s : PlainScript) (e : ScriptFault) → e ≢ faults.Memory → IsRead text (Ok s) → IsRead text (Err e) → ⊥
+  pub one_list : (ds : List Declared) (job : Job) (vs ws : List Value) → of_script.Inputs ds job vs → of_script.Inputs ds job ws → vs ≡ ws
+  pub not_both : (ds : List Declared) (job : Job) (vs : List Value) (n : ℕ) (c : Code) → of_script.Inputs ds job vs → of_script.IsUnfit ds job n c → ⊥
+  pub one_code : (ds : List Declared) (job : Job) (n m : ℕ) (c d : Code) → of_script.IsUnfit ds job n c → of_script.IsUnfit ds job m d → (n ≡ m) × (c ≡ d)
 
 -- ---- one program or one refusal
 
@@ -135,6 +151,9 @@ concludes_one b P t u s Read x y h g = absurd g
 concludes_one b P t u s Write x y h g = absurd g
 concludes_one b P t u s Memory x y h g = absurd g
 
+unfit_texts : (n m : ℕ) (c d : Code) (x y : List ℕ) → (n ≡ m) × (c ≡ d) → x ≡ unfit_text n c → y ≡ unfit_text m d → x ≡ y
+unfit_texts n m c d x y same e f = e ∙ ap (λ (i : ℕ). unfit_text i c) same.0 ∙ ap (unfit_text m) same.1 ∙ sym f
+
 -- the answers on data that fit, and those on data that don't
 data Split (o : Options) (p : ProgramTree) (t : TypeTree) (job : Job) (s : Status) (x : List ℕ) : Type 0 where
   on_data : (vs : List Value) → Arguments p.params job vs → ProgramConcludes o p t vs s x → Split o p t job s x
@@ -156,7 +175,7 @@ splits_one known o p t job s s' x y (on_data vs a c) (on_data ws b d) =
 splits_one known o p t job s s' x y (on_data vs a c) (off_data n k e u f) = absurd (known.not_both p.params job vs n k a u)
 splits_one known o p t job s s' x y (off_data n k e u f) (on_data ws b d) = absurd (known.not_both p.params job ws n k b u)
 splits_one known o p t job s s' x y (off_data n k e u f) (off_data m l g v h) =
-    (e ∙ sym g, λ r. f ∙ ap (λ (i : ℕ). unfit_text i k) (known.one_code p.params job n m k l u v).0 ∙ ap (unfit_text m) (known.one_code p.params job n m k l u v).1 ∙ sym h)
+    (e ∙ sym g, λ r. unfit_texts n m k l x y (known.one_code p.params job n m k l u v) f h)
 
 -- an answer to an accepted program, whatever its status
 record Accepted (o : Options) (job : Job) (s : Status) (x : List ℕ) : Type 0 where
@@ -234,12 +253,66 @@ shows_one texts job s Read x y h g = absurd g
 shows_one texts job s Write x y h g = absurd g
 shows_one texts job s Memory x y h g = absurd g
 
-commands_one : TextsKnown → DataKnown → (c : Command) (o : Options) (job : Job) (s s' : Status) (x y : List ℕ) → c ≢ Session → CommandAnswers c o job s x → CommandAnswers c o job s' y → Same (CommandHasOneText c o.report) s x s' y
-commands_one texts known Run o job s s' x y n h g = runs_one texts known o job s s' x y (run_split o job s x h) (run_split o job s' y g)
-commands_one texts known Check o job s s' x y n h g = checks_one texts job s s' x y h g
-commands_one texts known Show o job s s' x y n h g = shows_one texts job s s' x y h g
-commands_one texts known Session o job s s' x y n h g = absurd (n refl)
-commands_one texts known Soak o job s s' x y n h g =
+-- ---- what a script is answered with
+
+-- the answers on values of the declarations, and those on data that don't fit
+data ScriptSplit (o : Options) (p : PlainScript) (job : Job) (s : Status) (x : List ℕ) : Type 0 where
+  on_values : (vs : List Value) → of_script.Inputs (declared_of p.made) job vs → ScriptConcludes o p vs s x → ScriptSplit o p job s x
+  off_values : (number : ℕ) (code : Code) → s ≡ Unfit → of_script.IsUnfit (declared_of p.made) job number code → x ≡ unfit_text number code → ScriptSplit o p job s x
+
+script_split : (o : Options) (p : PlainScript) (job : Job) (s : Status) (x : List ℕ) → ScriptAnswers o p job s x → ScriptSplit o p job s x
+script_split o p job Unfit x (n, c, u, e) = off_values n c refl u e
+script_split o p job Done x (vs, a, c) = on_values vs a c
+script_split o p job Fault x (vs, a, c) = on_values vs a c
+script_split o p job Words x (vs, a, c) = absurd c
+script_split o p job Refused x (vs, a, c) = absurd c
+script_split o p job Read x (vs, a, c) = absurd c
+script_split o p job Write x (vs, a, c) = absurd c
+script_split o p job Memory x (vs, a, c) = absurd c
+
+script_splits_one : ScriptsKnown → (o : Options) (p : PlainScript) (job : Job) (s s' : Status) (x y : List ℕ) → ScriptSplit o p job s x → ScriptSplit o p job s' y → Same (o.report ≡ false) s x s' y
+script_splits_one known o p job s s' x y (on_values vs a c) (on_values ws b d) =
+    concludes_one o.report (IsScriptReport p ws o.cut) (shown_type p.made p.shown) (script_answer p.made p.shown ws) s s' x y
+    (subst (λ (us : List Value). ScriptConcludes o p us s x) (known.one_list (declared_of p.made) job vs ws a b) c) d
+script_splits_one known o p job s s' x y (on_values vs a c) (off_values n k e u f) = absurd (known.not_both (declared_of p.made) job vs n k a u)
+script_splits_one known o p job s s' x y (off_values n k e u f) (on_values ws b d) = absurd (known.not_both (declared_of p.made) job ws n k b u)
+script_splits_one known o p job s s' x y (off_values n k e u f) (off_values m l g v h) =
+    (e ∙ sym g, λ r. unfit_texts n m k l x y (known.one_code (declared_of p.made) job n m k l u v) f h)
+
+-- an answer of `session` is a refusal, or one to a script
+data SessionSplit (o : Options) (job : Job) (s : Status) (x : List ℕ) : Type 0 where
+  no_script : s ≡ Refused → ScriptRefusalAnswers job x → SessionSplit o job s x
+  a_script : (p : PlainScript) → IsRead job.text (Ok p) → ScriptAnswers o p job s x → SessionSplit o job s x
+
+session_split : (o : Options) (job : Job) (s : Status) (x : List ℕ) → SessionAnswers o job s x → SessionSplit o job s x
+session_split o job Refused x h = no_script refl h
+session_split o job Done x (p, r, h) = a_script p r h
+session_split o job Fault x (p, r, h) = a_script p r h
+session_split o job Unfit x (p, r, h) = a_script p r h
+session_split o job Words x (p, r, h) = a_script p r h
+session_split o job Read x (p, r, h) = a_script p r h
+session_split o job Write x (p, r, h) = a_script p r h
+session_split o job Memory x (p, r, h) = a_script p r h
+
+script_refusal_texts : ScriptsKnown → (job : Job) (x y : List ℕ) → ScriptRefusalAnswers job x → ScriptRefusalAnswers job y → x ≡ y
+script_refusal_texts known job x y (e, m, h, t) (f, n, g, u) = t ∙ ap script_refusal_text (known.one_fault job.text e f m n h g) ∙ sym u
+
+sessions_one : ScriptsKnown → (o : Options) (job : Job) (s s' : Status) (x y : List ℕ) → SessionSplit o job s x → SessionSplit o job s' y → Same (o.report ≡ false) s x s' y
+sessions_one known o job s s' x y (no_script e h) (no_script f g) = (e ∙ sym f, λ r. script_refusal_texts known job x y h g)
+sessions_one known o job s s' x y (no_script e (f, m, h, t)) (a_script p r a) = absurd (known.script_or_fault job.text p f m r h)
+sessions_one known o job s s' x y (a_script p r a) (no_script e (f, m, h, t)) = absurd (known.script_or_fault job.text p f m r h)
+sessions_one known o job s s' x y (a_script p r a) (a_script q l b) =
+    script_splits_one known o q job s s' x y
+    (script_split o q job s x (subst (λ (z : PlainScript). ScriptAnswers o z job s x) (known.one_script job.text p q r l) a)) (script_split o q job s' y b)
+
+-- ---- all commands
+
+commands_one : TextsKnown → DataKnown → ScriptsKnown → (c : Command) (o : Options) (job : Job) (s s' : Status) (x y : List ℕ) → CommandAnswers c o job s x → CommandAnswers c o job s' y → Same (CommandHasOneText c o.report) s x s' y
+commands_one texts known scripts Run o job s s' x y h g = runs_one texts known o job s s' x y (run_split o job s x h) (run_split o job s' y g)
+commands_one texts known scripts Check o job s s' x y h g = checks_one texts job s s' x y h g
+commands_one texts known scripts Show o job s s' x y h g = shows_one texts job s s' x y h g
+commands_one texts known scripts Session o job s s' x y h g = sessions_one scripts o job s s' x y (session_split o job s x h) (session_split o job s' y g)
+commands_one texts known scripts Soak o job s s' x y h g =
     let vs : List Value = soak_table o.seed o.rows ∷ [] in
     concludes_one o.report (IsScriptReport soak_script vs o.cut) (shown_type soak_made soak_shown) (script_answer soak_made soak_shown vs) s s' x y h g
 
@@ -247,6 +320,6 @@ one_by : (One : Type 0) (b : Bool) (s s' : Status) (x y text : List ℕ) (P Q : 
 one_by One true s s' x y text P Q f h g = (h.0 ∙ sym g.0, λ r. h.1 ∙ sym g.1)
 one_by One false s s' x y text P Q f h g = f h g
 
-pub answers_one : TextsKnown → DataKnown → (o : Options) (bytes : List ℕ) (s s' : Status) (x y : List ℕ) → o.command ≢ Session → Answers o bytes s x → Answers o bytes s' y → (s ≡ s') × (HasOneText o → x ≡ y)
-answers_one texts known o bytes s s' x y n h g =
-    one_by (HasOneText o) (reads_a_job o.command && is_too_long bytes) s s' x y _ _ _ (commands_one texts known o.command o (job_of bytes) s s' x y n) h g
+pub answers_one : TextsKnown → DataKnown → ScriptsKnown → (o : Options) (bytes : List ℕ) (s s' : Status) (x y : List ℕ) → Answers o bytes s x → Answers o bytes s' y → (s ≡ s') × (HasOneText o → x ≡ y)
+answers_one texts known scripts o bytes s s' x y h g =
+    one_by (HasOneText o) (reads_a_job o.command && is_too_long bytes) s s' x y _ _ _ (commands_one texts known scripts o.command o (job_of bytes) s s' x y) h g

@@ -24,11 +24,3 @@ reads_a_job Soak = false
 -- the words ask for what reads a job
 abbrev pub AskForAJob : List (List ℕ) → Type 0
 AskForAJob words = (options : Options) × Asks words options × (reads_a_job options.command ≡ true)
-
--- the command is about a program's text, and not about scripts
-abbrev pub IsOnPrograms : Command → Type 0
-IsOnPrograms Run = Unit {0}
-IsOnPrograms Check = Unit {0}
-IsOnPrograms Show = Unit {0}
-IsOnPrograms Session = ⊥
-IsOnPrograms Soak = ⊥

@@ -19,7 +19,7 @@ use Rattle.weld_replacing.specs.Tidy.{IsTidy}
 use Rattle.weld_replacing.specs.Rewriting.{Rewrites, RewritesProgram, SameMeaning}
 use Rattle.weld_rounds.specs.Weight.{weight}
 use Rattle.weld_pass.proofs.Spelled.{TextLaws, spelled_by}
-use Rattle.weld_passes.specs.Normal.{all_rules, IsNormal, IsOptimised, HasNormalForm}
+use Rattle.weld_passes.specs.Normal.{all_rules, IsNormal, IsOptimised, HasNormalForm, CanBeOptimised}
 
 -- the laws of rounds that this rests on, for one rule
 pub record RoundsKnown (r : RootRule) : Type 0 where
@@ -51,20 +51,23 @@ pub record Known : Type 0 where
   pub unique : TypesAreUnique
   pub linear : (p : ProgramTree) → (linear_refusal p ≡ None) ↔ (Keeps p.body [] × Splits p.body [])
   pub noted : (p q : ProgramTree) → IsSameButNotes p q → linear_refusal p ≡ linear_refusal q
-  pub texts : TextLaws
 
-from_noted : Known → (text : List ℕ) (p m : ProgramTree) (t : TypeTree) → TextSpells text p → IsSameButNotes m p → IsProgram m.params m.body → IsTyped m t → linear_refusal p ≡ None → HasNormalForm p
-from_noted known text p m t s same made typed linear =
-    let uses = (known.linear m).0 (known.noted m p same ∙ linear) in
+-- an optimised program in the place of one whose types are noted
+record NormalOf (m : ProgramTree) : Type 0 where
+  normal : ProgramTree
+  rewrites : RewritesProgram normal m
+  optimised : IsOptimised normal m
+
+normal_of : Known → (m : ProgramTree) (t : TypeTree) → IsProgram m.params m.body → IsTyped m t → linear_refusal m ≡ None → NormalOf m
+normal_of known m t made typed linear =
+    let uses = (known.linear m).0 linear in
     let accepted : IsAccepted m = record { typed = (t, typed.has); keeps = uses.0; splits = uses.1 } in
     let ends = rounds_end all_rules known.rounds (weight m.body) m.body (omega arith) in
     let q : ProgramTree = record { params = m.params; body = swept_times ends.0 all_rules m.body } in
     let rewritten : RewritesProgram q m = record { params = refl; body = known.rewrites ends.0 m.body (known.tidy m made) } in
-    let read = spelled_by known.texts q m rewritten (known.programs q m rewritten made) text p s (sym same) in
     record {
-      noted = m;
-      same = same;
       normal = q;
+      rewrites = rewritten;
       optimised = record {
         params = refl;
         accepted = known.accepted q m rewritten accepted typed.noted;
@@ -72,15 +75,34 @@ from_noted known text p m t s same made typed linear =
         means = known.means q m rewritten accepted typed.noted;
         loops = known.fewer q m rewritten;
       };
+    }
+
+-- the program with its types noted
+noted_typed : Known → (p : ProgramTree) (t : TypeTree) → IsProgram p.params p.body → program_type p ≡ found t → IsTyped (typed_program p) t
+noted_typed known p t made typed = typed_if_found p t known.walk known.program_walk known.unique made typed
+
+pub normal_form : Known → TextLaws → (text : List ℕ) (p : ProgramTree) (t : TypeTree) → TextSpells text p → IsProgram p.params p.body → program_type p ≡ found t → linear_refusal p ≡ None → HasNormalForm p
+normal_form known texts text p t s made typed linear =
+    let m : ProgramTree = typed_program p in
+    let made_too : IsProgram m.params m.body = program_made p.params p.body made in
+    let n = normal_of known m t made_too (noted_typed known p t made typed) (known.noted m p (same_program p) ∙ linear) in
+    let read = spelled_by texts n.normal m n.rewrites (known.programs n.normal m n.rewrites made_too) text p s (sym (same_program p)) in
+    record {
+      noted = m;
+      same = same_program p;
+      normal = n.normal;
+      optimised = n.optimised;
       read = read.0;
       spelled = read.1;
       reads_back = read.2;
     }
 
-pub normal_form : Known → (text : List ℕ) (p : ProgramTree) (t : TypeTree) → TextSpells text p → IsProgram p.params p.body → program_type p ≡ found t → linear_refusal p ≡ None → HasNormalForm p
-normal_form known text p t s made typed linear =
-    from_noted known text p (typed_program p) t s (same_program p) (program_made p.params p.body made)
-    (typed_if_found p t known.walk known.program_walk known.unique made typed) linear
+pub optimisable : Known → (p : ProgramTree) (t : TypeTree) → IsProgram p.params p.body → IsAccepted p → program_type p ≡ found t → CanBeOptimised p
+optimisable known p t made accepted typed =
+    let m : ProgramTree = typed_program p in
+    let linear : linear_refusal p ≡ None = (known.linear p).1 (accepted.keeps, accepted.splits) in
+    let n = normal_of known m t (program_made p.params p.body made) (noted_typed known p t made typed) (known.noted m p (same_program p) ∙ linear) in
+    record { noted = m; same = same_program p; normal = n.normal; optimised = n.optimised }
 
 -- what a pass keeps, put together
 pub optimised_of : {E : Type 0} (p : ProgramTree) (r : Result ProgramTree E) → ((q : ProgramTree) → IsStill all_rules q.body → IsNormal q) → IfOk r (λ q. IsAccepted q) → IfOk r (λ q. q.params ≡ p.params)

@@ -45,3 +45,10 @@ pub record HasNormalForm (p : ProgramTree) : Type 0 where
   pub read : ProgramTree
   pub spelled : TextSpellsSoundly (program_text normal) read
   pub reads_back : AreSame normal read
+
+-- some optimised program may stand in the place of this one with its types noted
+pub record CanBeOptimised (p : ProgramTree) : Type 0 where
+  pub noted : ProgramTree
+  pub same : IsSameButNotes noted p
+  pub normal : ProgramTree
+  pub optimised : IsOptimised normal noted

@@ -3,12 +3,13 @@
 ghost use Rattle.std.specs.Prelude.{◌≡◌, ℕ, List, None};
 ghost use Rattle.weld_tree.specs.TypeTree.{TypeTree};
 ghost use Rattle.weld_tree.specs.Program.{ProgramTree, IsProgram};
+ghost use Rattle.weld_meaning.specs.Accepted.{IsAccepted};
 ghost use Rattle.weld_meaning.specs.LinearWalk.{linear_refusal};
 ghost use Rattle.weld_types.specs.Walk.{found, program_type};
 ghost use Rattle.weld_reads_back.specs.Texts.{TextSpells};
 ghost use Rattle.weld_rounds.specs.Rules.{Falls, IsSound};
 ghost use Rattle.weld_sweep.specs.Sweep.{IsStill};
-ghost use Rattle.weld_passes.specs.Normal.{all_rules, IsNormal, HasNormalForm};
+ghost use Rattle.weld_passes.specs.Normal.{all_rules, IsNormal, HasNormalForm, CanBeOptimised};
 
 use weld_horizontal::laws::legs_may_stand_once;
 use weld_inline::laws::lets_may_be_rewritten;
@@ -53,4 +54,19 @@ pub fn each_program_has_a_normal_form()
     notes_play_no_part();
     texts_spell_the_spellable();
     printed_programs_read_back();
+}
+
+/// Each accepted program whose types keep their sizes can be optimised, whether a text spells it or not.
+pub fn each_accepted_program_can_be_optimised()
+    ensures { (p : ProgramTree) (t : TypeTree) → IsProgram p.params p.body → IsAccepted p → program_type p ≡ found t → CanBeOptimised p }
+{
+    all_rules_may_be_tried();
+    sweeps_fall();
+    rounds_rewrite();
+    tidiness_is_kept();
+    rewritten_programs();
+    the_walk_is_typing();
+    types_are_unique();
+    the_walk_is_linear_use();
+    notes_play_no_part();
 }

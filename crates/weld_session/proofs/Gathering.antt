@@ -38,7 +38,7 @@ answer_same made shown inputs mean is fit =
     ∙ (λ i. and_then (all_done (sym (all_same (script_denote made inputs) (denote os) (length made) (kept keep 0 made) below same) i))
     (λ vs. map_out (λ ws. struct (values ws)) (all_done (sym (all_same (script_denote made inputs) (denote os) (length made) shown is.there same) i))))
 
-type_same : (made : List Made) (shown : List ℕ) (inputs : List Value) → IsScript made shown → lowering.shown_type (objects_from [] inputs made) shown ≡ shown_type made shown
+pub type_same : (made : List Made) (shown : List ℕ) (inputs : List Value) → IsScript made shown → lowering.shown_type (objects_from [] inputs made) shown ≡ shown_type made shown
 type_same made shown inputs is =
     let os = objects_from [] inputs made in
     ap (λ ts. struct_type (pack ts)) (same_notes os shown (subst (λ n. AreBelow n shown) (sym (objects_count [] inputs made)) is.there)

@@ -6,3 +6,5 @@ mod Counting
 mod Gathering
 mod Kept
 mod Marks
+mod Standing
+mod Existing

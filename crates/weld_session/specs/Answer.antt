@@ -2,9 +2,10 @@
 use Rattle.std.specs.Prelude.{◌≡◌, ℕ, suc, ◌+◌, ◌||◌, Bool, if◌then◌else◌, List, [], ◌∷◌, ◌++◌, map, length, Option, Some, None, slice_get}
 use Rattle.weld_data.specs.Value.{Value, number, struct, values}
 use Rattle.weld_tree.specs.TypeTree.{TypeTree, struct as struct_type, pack}
-use Rattle.weld_tree.specs.Program.{ProgramTree, IsOneOf, loops}
+use Rattle.weld_tree.specs.Program.{ProgramTree, IsProgram, IsOneOf, loops}
 use Rattle.weld_builders.specs.Outcome.{Outcome, done, stuck, and_then, map_out}
 use Rattle.weld_meaning.specs.Typing.{ProgramHas}
+use Rattle.weld_meaning.specs.Accepted.{IsAccepted}
 use Rattle.weld_meaning.specs.Meaning.{ArgumentsFit, meaning}
 use Rattle.weld_objects.specs.Objects.{with_one, all_done}
 use Rattle.weld_objects.specs.Reached.{is_one_of}
@@ -125,3 +126,11 @@ pub record IsGathered (p : ProgramTree) (given : List Value) (ty : TypeTree) (ma
   pub unchanged : given ≡ given_from (reached made shown) 0 inputs made
   pub means : meaning p given ≡ script_answer made shown inputs
   pub loops : loops p.body ≡ loops_from (reached made shown) 0 made
+
+-- there is an accepted program that the script is gathered to
+pub record MayBeGathered (made : List Made) (shown : List ℕ) (inputs : List Value) : Type 0 where
+  pub program : ProgramTree
+  pub given : List Value
+  pub is_program : IsProgram program.params program.body
+  pub accepted : IsAccepted program
+  pub gathered : IsGathered program given (shown_type made shown) made shown inputs

@@ -1,4 +1,5 @@
-//! Programs run in both ways, stretches shared by workers and stretches mapped over the processors.
+//! Programs run in both ways, stretches shared by workers and stretches mapped over the processors; also the fixed script of
+//! `weld soak` on a large table.
 
 ghost use Rattle.std.specs.Prelude.{◌≡◌, ◌≤◌, IfOk};
 ghost use Rattle.weld_data.specs.View.{view_val};
@@ -18,7 +19,9 @@ use weld_exec_tests::programs::{
 use weld_meaning::laws::typed_programs_are_never_stuck;
 use weld_plan::{Plan, make_plan};
 use weld_ports::NoGate;
+use weld_session::{Gathered, gather};
 use weld_share::{RunNote, run_mapped, run_plan};
+use weld_soak::{Soak, make_soak};
 use weld_tree::Ty;
 
 /// The numbers of workers, each with a cut.
@@ -108,4 +111,35 @@ fn both_ways_come_to_the_same(rt: HostRuntime) -> Result<(), Fail> {
     all_hold(&rt, alloc, &ABOVE_LOOPS)?;
     all_hold(&rt, alloc, &FAULTS)?;
     all_hold(&rt, alloc, &SEVEN_ROWS)
+}
+
+/// Whether both ways agree on the fixed script, with a table of so many rows made from the seed 1.
+fn holds_of_soak(
+    rt: &(impl Threads + Sync),
+    alloc: Global,
+    rows: u32,
+    wanted: &str,
+    workers: u32,
+    cut: u32,
+) -> Result<bool, Fail>
+    requires { rows ≤ 1000000 }
+{
+    let Soak { script, inputs } = make_soak(alloc, 1, rows)?;
+    let Gathered {
+        program,
+        inputs,
+        ty,
+    } = gather(alloc, &script, inputs)?;
+    let plan = make_plan(alloc, &program)?;
+    agree(rt, alloc, &plan, &ty, &inputs, wanted, workers, cut)
+}
+
+#[test]
+fn both_ways_agree_on_a_large_made_table(rt: HostRuntime) -> Result<(), Fail> {
+    let alloc = rt.alloc();
+    let wanted =
+        "{485739998,dict{0:1232211,1:1214027,2:1219341,3:1220803,4:1235032,5:1234804,6:1225171,7:1228532},179830}";
+    assert!(holds_of_soak(&rt, alloc, 200000, wanted, 4, 4096)?);
+    assert!(holds_of_soak(&rt, alloc, 200000, wanted, 3, 100)?);
+    Ok(())
 }

@@ -57,7 +57,7 @@ objects = (
   ),
 )
 
-is_soak : IsScript soak_made soak_shown
+pub is_soak : IsScript soak_made soak_shown
 is_soak = record {
   objects = objects;
   declarations = omega arith;

@@ -112,7 +112,7 @@ y_small : (s n : ℕ) → AreSmall (λ r. r.y) (rows_from s n)
 y_small s zero = tt
 y_small s (suc n) = (rest_below (next_number (next_number (next_number s)) / 65536) 100 (omega arith) (omega arith), y_small (next_number (next_number (next_number s))) n)
 
-table_fits : (seed rows : ℕ) → AreInputs (declared_of soak_made) (soak_table seed rows ∷ [])
+pub table_fits : (seed rows : ℕ) → AreInputs (declared_of soak_made) (soak_table seed rows ∷ [])
 table_fits seed rows =
     ((column_fits (λ r. r.k) (rows_from seed rows) (k_small seed rows), (column_fits (λ r. r.x) (rows_from seed rows) (x_small seed rows), (column_fits (λ r. r.y) (rows_from seed rows) (y_small seed rows), tt))), tt)
 

@@ -1,6 +1,7 @@
 //! A table made from a number, and the fixed script on it.
 #![tactic(auto)]
 
+pub mod laws;
 mod script;
 mod soak;
 mod table;

@@ -2,7 +2,7 @@ use Rattle.weld_front.proofs.OneAnswer.{answers_one}
 use Rattle.weld_front.proofs.laws.one_answer.Goals as goal
 
 pub returns-clause-status : goal.returns-clause-status
-returns-clause-status c = λ o job s t x y n h g.
+returns-clause-status c = λ o job s t x y h g.
     (answers_one
     (record {
       one_program = c.one_answer.ensures.program;
@@ -13,10 +13,18 @@ returns-clause-status c = λ o job s t x y n h g.
       one_list = c.one_answer-2.ensures.arguments;
       not_both = c.one_answer-2.ensures.fits;
       one_code = c.one_answer-2.ensures.unfit;
-    }) o job s t x y n h g).0
+    })
+    (record {
+      one_script = c.one_script.ensures.script;
+      one_fault = c.one_script.ensures.fault;
+      script_or_fault = c.one_script.ensures.not_both;
+      one_list = c.one_answer-3.ensures.inputs;
+      not_both = c.one_answer-3.ensures.fits;
+      one_code = c.one_answer-3.ensures.unfit;
+    }) o job s t x y h g).0
 
 pub returns-clause-text : goal.returns-clause-text
-returns-clause-text c = λ o job s t x y n one h g.
+returns-clause-text c = λ o job s t x y one h g.
     (answers_one
     (record {
       one_program = c.one_answer.ensures.program;
@@ -27,4 +35,12 @@ returns-clause-text c = λ o job s t x y n one h g.
       one_list = c.one_answer-2.ensures.arguments;
       not_both = c.one_answer-2.ensures.fits;
       one_code = c.one_answer-2.ensures.unfit;
-    }) o job s t x y n h g).1 one
+    })
+    (record {
+      one_script = c.one_script.ensures.script;
+      one_fault = c.one_script.ensures.fault;
+      script_or_fault = c.one_script.ensures.not_both;
+      one_list = c.one_answer-3.ensures.inputs;
+      not_both = c.one_answer-3.ensures.fits;
+      one_code = c.one_answer-3.ensures.unfit;
+    }) o job s t x y h g).1 one

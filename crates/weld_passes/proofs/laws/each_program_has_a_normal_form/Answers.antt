@@ -5,7 +5,8 @@ use Rattle.weld_passes.proofs.laws.each_program_has_a_normal_form.Goals as goal
 pub returns : goal.returns
 returns c =
     let falls = c.all_rules_may_be_tried.ensures.falls in
-    normal_form (record {
+    normal_form
+    (record {
       rounds = record { lighter = λ e m. c.sweeps_fall.ensures.lighter all_rules e falls m; still = λ e m. c.sweeps_fall.ensures.still all_rules e m };
       normal = c.all_rules_may_be_tried.ensures.normal;
       rewrites = λ n e tidy. c.rounds_rewrite.ensures all_rules n e c.all_rules_may_be_tried.ensures.sound tidy;
@@ -19,5 +20,5 @@ returns c =
       unique = c.types_are_unique.ensures;
       linear = c.the_walk_is_linear_use.ensures;
       noted = c.notes_play_no_part.ensures.linear;
-      texts = record { spellable = c.texts_spell_the_spellable.ensures; printed = c.printed_programs_read_back.ensures.made };
     })
+    (record { spellable = c.texts_spell_the_spellable.ensures; printed = c.printed_programs_read_back.ensures.made })

@@ -1,0 +1,23 @@
+use Rattle.weld_passes.specs.Normal.{all_rules}
+use Rattle.weld_passes.proofs.Existing.{optimisable}
+use Rattle.weld_passes.proofs.laws.each_accepted_program_can_be_optimised.Goals as goal
+
+pub returns : goal.returns
+returns c =
+    let falls = c.all_rules_may_be_tried.ensures.falls in
+    optimisable
+    (record {
+      rounds = record { lighter = λ e m. c.sweeps_fall.ensures.lighter all_rules e falls m; still = λ e m. c.sweeps_fall.ensures.still all_rules e m };
+      normal = c.all_rules_may_be_tried.ensures.normal;
+      rewrites = λ n e tidy. c.rounds_rewrite.ensures all_rules n e c.all_rules_may_be_tried.ensures.sound tidy;
+      tidy = c.tidiness_is_kept.ensures.program;
+      accepted = c.rewritten_programs.ensures.accepted;
+      means = c.rewritten_programs.ensures.same_meaning;
+      programs = c.rewritten_programs.ensures.program;
+      fewer = c.rewritten_programs.ensures.loops;
+      walk = c.the_walk_is_typing.ensures.expression;
+      program_walk = c.the_walk_is_typing.ensures.program;
+      unique = c.types_are_unique.ensures;
+      linear = c.the_walk_is_linear_use.ensures;
+      noted = c.notes_play_no_part.ensures.linear;
+    })
