@@ -139,7 +139,10 @@ fn both_ways_agree_on_a_large_made_table(rt: HostRuntime) -> Result<(), Fail> {
     let alloc = rt.alloc();
     let wanted =
         "{485739998,dict{0:1232211,1:1214027,2:1219341,3:1220803,4:1235032,5:1234804,6:1225171,7:1228532},179830}";
-    assert!(holds_of_soak(&rt, alloc, 200000, wanted, 4, 4096)?);
-    assert!(holds_of_soak(&rt, alloc, 200000, wanted, 3, 100)?);
+    for (workers, cut) in &[(4u32, 4096u32), (3, 100)] {
+        if !holds_of_soak(&rt, alloc, 200000, wanted, *workers, *cut)? {
+            return Err(Fail::from("both ways don't agree"));
+        }
+    }
     Ok(())
 }
