@@ -1,20 +1,25 @@
 -- Answers of numbers, seen as values.
-use Rattle.std.proofs.Common.{◌≡◌, Bool, ℤ, ◌*ℤ◌, List, [], ◌∷◌, map, ap, sym, refl, ◌∙◌, subst}
+use Rattle.std.proofs.Common.{◌≡◌, Bool, ℤ, ◌*ℤ◌, List, [], ◌∷◌, map, Result, ap, sym, refl, ◌∙◌, subst}
 use Rattle.weld_data.specs.declared.kind.Kind.{Kind}
 use Rattle.weld_data.specs.declared.op.BinOp.{BinOp}
 use Rattle.weld_data.specs.declared.op.BinOp.TheVariants as ops
+use Rattle.weld_data.specs.declared.op.MergeOp.{MergeOp}
 use Rattle.weld_data.specs.declared.op.MergeOp.TheVariants as merges
+use Rattle.weld_data.specs.declared.stop.Stop.{Stop}
+use Rattle.weld_data.specs.declared.value.Val.{Val}
 use Rattle.weld_data.specs.Operation.{operation, start_of}
 use Rattle.weld_data.specs.Wrapped.{wrapped}
-use Rattle.weld_data.specs.Value.{Value}
+use Rattle.weld_data.specs.Value.{Value, number}
+use Rattle.weld_data.specs.View.{view_val}
 use Rattle.weld_data.proofs.Wrapping.{IsWrapped-wrapped}
 use Rattle.weld_builders.specs.Outcome.{Outcome, done, fault, stuck, and_then, map_out, or_fault}
 use Rattle.weld_builders.specs.Range.{AllInRange}
+use Rattle.weld_eval_values.specs.Answers.{Answers}
 use Rattle.weld_lists.specs.Lists.{number_vector, paired, each, elementwise, chosen, wrapped_sum, dot}
 use Rattle.weld_call_laws.specs.Folds.{combined_all}
 use Rattle.weld_call_laws.proofs.Outcomes.{map_out-map_out, map_out-same}
 use Rattle.weld_call_laws.proofs.Eaches.{each_done}
-use Rattle.weld_call_laws.proofs.Totals.{combined_is, sum_of_wrapped}
+use Rattle.weld_call_laws.proofs.Totals.{total_of, combined_is, sum_of_wrapped}
 
 pub vector_or_fault : (op : BinOp) (k : Kind) (xs ys us vs zs : List ℤ) (v : Value) → xs ≡ us → ys ≡ vs → elementwise op k xs ys ≡ done zs → v ≡ number_vector k zs → map_out (number_vector k) (elementwise op k us vs) ≡ done v
 vector_or_fault op k xs ys us vs zs v e f h g = (λ i. map_out (number_vector k) (elementwise op k (sym e i) (sym f i))) ∙ ap (map_out (number_vector k)) h ∙ ap done (sym g)
@@ -50,3 +55,11 @@ dot_there k xs ys zs x h e = dot_is k xs ys ∙ ap (map_out (wrapped_sum k)) h �
 
 pub dot_fault : (k : Kind) (xs ys : List ℤ) → elementwise ops.Mul k xs ys ≡ fault → dot k xs ys ≡ fault
 dot_fault k xs ys h = dot_is k xs ys ∙ ap (map_out (wrapped_sum k)) h
+
+pub dot_or_fault : (k m : Kind) (xs ys us vs : List ℤ) (x : ℤ) → xs ≡ us → ys ≡ vs → dot k xs ys ≡ done x → m ≡ k → map_out (number k) (dot k us vs) ≡ done (number m x)
+dot_or_fault k m xs ys us vs x e f h g = (λ i. map_out (number k) (dot k (sym e i) (sym f i))) ∙ ap (map_out (number k)) h ∙ (λ i. done (number (sym g i) x))
+
+-- ---- totals
+
+pub total_answer : (op : MergeOp) (k : Kind) (xs : List ℤ) (r : Result Val Stop) → Answers view_val r (done (number k (combined_all op k (start_of op k) xs))) → Answers view_val r (done (number k (total_of op k xs)))
+total_answer op k xs r a = subst (λ x. Answers view_val r (done (number k x))) (combined_is op k xs) a

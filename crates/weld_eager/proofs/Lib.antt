@@ -7,3 +7,4 @@ pub mod Taking
 pub mod Tallying
 pub mod DotRows
 pub mod Grouping
+pub mod ByNumber

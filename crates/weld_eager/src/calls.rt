@@ -8,6 +8,7 @@ ghost use Rattle.weld_data.specs.View.{view_val};
 ghost use Rattle.weld_data.specs.Wrapped.{wrapped};
 ghost use Rattle.weld_tree.specs.TypeTree.{scalar, vec};
 ghost use Rattle.weld_fits.specs.HasValue.{HasValue};
+ghost use Rattle.weld_builders.specs.Outcome.{map_out};
 ghost use Rattle.weld_builders.specs.Range.{AllInRange};
 ghost use Rattle.weld_call_laws.specs.Folds.{combined_all};
 ghost use Rattle.weld_calls.specs.CallTypes.{IsArithmetic, truth_type};
@@ -103,6 +104,22 @@ pub fn dot_of(alloc: Global, kind: Kind, xs: &[i64], ys: &[i64]) -> Result<Optio
 {
     match elementwise(alloc, BinOp::Mul, kind, xs, ys)? {
         Some(products) => Ok(Some(total(MergeOp::Add, kind, &products))),
+        None => Ok(None),
+    }
+}
+
+/// The same of two vectors of numbers.
+#[tactic(auto, using(crate::proofs::Answering::dot_or_fault))]
+pub fn dot(alloc: Global, kind: Kind, v: &Val, w: &Val) -> Result<Option<Val>, AllocError>
+    requires integer { IsInteger kind }
+    requires left { HasValue (vec (scalar kind)) (view_val v.now) }
+    requires right { HasValue (vec (scalar kind)) (view_val w.now) }
+    ensures { IfOk result (λ r. IsFaultOr r view_val (map_out (number kind) (dot_list kind (numbers (view_val v.now)) (numbers (view_val w.now))))) }
+{
+    let xs = numbers_as(alloc, kind, v)?;
+    let ys = numbers_as(alloc, kind, w)?;
+    match dot_of(alloc, kind, &xs, &ys)? {
+        Some(number) => Ok(Some(Val::Num(number))),
         None => Ok(None),
     }
 }

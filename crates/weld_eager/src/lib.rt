@@ -1,7 +1,10 @@
 //! The library calls in code, by plain loops over columns: each answers exactly what it means by lists.
 #![tactic(auto)]
 
+pub mod answer;
+pub mod arguments;
 pub mod calls;
+pub mod eager;
 pub mod filter;
 pub mod groups;
 pub mod histogram;

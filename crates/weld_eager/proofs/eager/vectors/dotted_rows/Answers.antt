@@ -1,0 +1,29 @@
+use Rattle.std.proofs.Common.{◌∙◌, ap, sym, subst, arith, length}
+use Rattle.weld_data.specs.Kind.{IsInteger}
+use Rattle.weld_data.specs.View.{view_val}
+use Rattle.weld_tree.specs.TypeTree.{scalar, vec}
+use Rattle.weld_eval_values.specs.Answers.{Answers}
+use Rattle.weld_lists.specs.CallMeaning.{kind_at, rows_dot_meaning}
+use Rattle.weld_eager.proofs.ByNumber.{enough, has_type}
+use Rattle.weld_eager.proofs.eager.vectors.dotted_rows.Goals as goal
+
+pub kind_at-kind-requires : goal.kind_at-kind-requires
+kind_at-kind-requires c = omega (arith, ap length c.requires.row.2)
+
+pub argument-m-requires : goal.argument-m-requires
+argument-m-requires c = omega (arith, enough _ _ _ c.requires.row.2 c.requires.values)
+
+pub argument-w-requires : goal.argument-w-requires
+argument-w-requires c = omega (arith, enough _ _ _ c.requires.row.2 c.requires.values)
+
+pub rows_dot-requires-clause-integer : goal.rows_dot-requires-clause-integer
+rows_dot-requires-clause-integer c = subst IsInteger (sym (c.kind_at-kind.ensures ∙ ap (kind_at 1) c.requires.row.2)) c.requires.row.1
+
+pub rows_dot-requires-clause-rows : goal.rows_dot-requires-clause-rows
+rows_dot-requires-clause-rows c = has_type _ _ _ 0 _ _ c.requires.row.2 c.requires.values (omega arith) (ap (λ m. vec (vec (scalar m))) (sym (c.kind_at-kind.ensures ∙ ap (kind_at 1) c.requires.row.2))) c.argument-m.ensures
+
+pub rows_dot-requires-clause-vector : goal.rows_dot-requires-clause-vector
+rows_dot-requires-clause-vector c = has_type _ _ _ 1 _ _ c.requires.row.2 c.requires.values (omega arith) (ap (λ m. vec (scalar m)) (sym (c.kind_at-kind.ensures ∙ ap (kind_at 1) c.requires.row.2))) c.argument-w.ensures
+
+pub returns : goal.returns
+returns c = subst (Answers view_val c.or_fault.result) (λ i. rows_dot_meaning (c.kind_at-kind.ensures i) (c.argument-m.ensures i) (c.argument-w.ensures i)) (c.or_fault.ensures _ c.rows_dot.ensures)
