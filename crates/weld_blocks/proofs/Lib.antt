@@ -8,3 +8,6 @@ pub mod PairLemmas
 pub mod PutLemmas
 pub mod Scalars
 pub mod WorkLemmas
+pub mod DeedForms
+pub mod ManyPuts
+pub mod ThroughLemmas

@@ -1,7 +1,9 @@
 pub mod Block
+pub mod Choices
 pub mod Deeds
 pub mod Does
 pub mod Numbers
 pub mod Puts
 pub mod Scope
+pub mod Through
 pub mod Works

@@ -109,23 +109,6 @@ impl<'a> Does for AnyDeed<'a> {
     }
 }
 
-/// A number is merged.
-#[derive(Clone, Copy)]
-pub struct EachNumber<'a> {
-    pub numbers: &'a Numbers,
-}
-
-impl<'a> Does for EachNumber<'a> {
-    ghost does = { λ d. number_done d.numbers.now };
-
-    ghost fits = { λ d. NumberFits d.numbers.now };
-
-    #[inline(always)]
-    fn at(&self, place: usize, builder: &mut Owned) -> Result<(), Stop> {
-        put_number(builder, self.numbers.at(place))
-    }
-}
-
 /// Two numbers are merged as a struct.
 #[derive(Clone, Copy)]
 pub struct EachPair<'a> {

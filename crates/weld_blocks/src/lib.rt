@@ -15,7 +15,9 @@ mod pairs;
 pub mod puts;
 pub mod scalar;
 pub mod scope;
+mod through;
 mod works;
 
 pub use body::block_of;
-pub use deed::{AnyDeed, Deed, Does, EachGuarded, EachNumber, EachPair, do_deed};
+pub use deed::Deed;
+pub use through::do_through;

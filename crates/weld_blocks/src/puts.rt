@@ -9,8 +9,11 @@ ghost use Rattle.weld_eval.specs.ShortView.{view_short};
 ghost use Rattle.weld_eval.specs.ThingView.{thing_of, held_of};
 ghost use Rattle.weld_eval.specs.Takes.{IsPlain};
 ghost use Rattle.weld_built.specs.Pair.{pair};
+ghost use Rattle.weld_blocks.specs.Does.{number_done, NumberFits};
+ghost use Rattle.weld_blocks.specs.Through.{FitsThrough, done_through};
 ghost use Rattle.weld_blocks.specs.Puts.{IsPut, PutsThing};
 
+use crate::numbers::Numbers;
 use std::alloc::Global;
 use weld_data::{Stop, Val};
 use weld_eval::short::Short;
@@ -25,6 +28,21 @@ pub fn put_number(builder: &mut Owned, x: Short) -> Result<(), Stop>
 {
     match builder {
         Owned::Built(built) => built.merge_number(x.kind, x.value),
+        _ => unreachable!(),
+    }
+}
+
+/// Merges the first of these numbers, so many, one after another.
+#[tactic(auto, using(crate::proofs::ManyPuts::put_all, crate::proofs::ManyPuts::put_none, crate::proofs::ManyPuts::numbers_there, crate::proofs::ManyPuts::numbers_taken, crate::proofs::ManyPuts::all_in_range))]
+pub fn put_numbers(numbers: &Numbers, count: usize, builder: &mut Owned) -> Result<(), Stop>
+    requires { FitsThrough (number_done numbers.now) (NumberFits numbers.now) 0 count (thing_of builder.old) }
+    ensures { Acts result (done_through (number_done numbers.now) 0 count (thing_of builder.old)) (thing_of builder.new) }
+{
+    if count == 0 {
+        return Ok(());
+    }
+    match builder {
+        Owned::Built(built) => built.merge_numbers(numbers.kind, &numbers.items[..count]),
         _ => unreachable!(),
     }
 }

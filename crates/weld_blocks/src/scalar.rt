@@ -7,7 +7,7 @@ ghost use Rattle.weld_data.specs.Wrapped.{wrapped};
 ghost use Rattle.weld_data.specs.Operation.{truth, operation, answer_kind as kind_of_answer, TakesKind, Divides};
 ghost use Rattle.weld_builders.specs.Outcome.{done};
 ghost use Rattle.weld_meaning.specs.Evaluation.{operated as operated_value, negated as negated_value, contrary as contrary_value, cast_to, truth_of as truth_value_of, whole_number as whole_number_value};
-ghost use Rattle.weld_eval_values.specs.Answers.{Answers};
+ghost use Rattle.weld_eval_values.specs.Answers.{Answers, IsSure};
 ghost use Rattle.weld_eval_values.specs.Fits.{AreOperands, IsIntegerNumber, IsTruth};
 ghost use Rattle.weld_eval.specs.ShortView.{view_short};
 
@@ -20,7 +20,8 @@ use weld_eval::short::Short;
 #[inline(always)]
 pub fn operated(op: BinOp, x: Short, y: Short) -> Result<Short, Stop>
     requires { AreOperands op (view_short x) (view_short y) }
-    ensures { Answers view_short result (operated_value op (view_short x) (view_short y)) }
+    ensures value { Answers view_short result (operated_value op (view_short x) (view_short y)) }
+    ensures sure { IsSure result }
 {
     match operation(op, x.kind, x.value, y.value) {
         Some(value) => Ok(Short {

@@ -1,2 +1,3 @@
 pub mod CellsLemmas
 pub mod KeyLemmas
+pub mod ManyLemmas

@@ -1,5 +1,6 @@
 pub mod CellsState
 pub mod Logged
+pub mod Merges
 pub mod Pair
 pub mod PartCode
 pub mod State

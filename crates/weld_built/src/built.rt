@@ -1,9 +1,10 @@
-ghost use Rattle.std.specs.Prelude.{◌≡◌, IfOk, OnOk};
+ghost use Rattle.std.specs.Prelude.{◌≡◌, map, IfOk, OnOk};
 ghost use Rattle.weld_data.specs.Kind.{InRange};
 ghost use Rattle.weld_data.specs.Value.{number};
 ghost use Rattle.weld_data.specs.View.{view_val};
 ghost use Rattle.weld_builders.specs.Part.{shape_of, bare, merge_part, after_part, result_of};
-ghost use Rattle.weld_builders.specs.Range.{IsInRange};
+ghost use Rattle.weld_builders.specs.Range.{AllInRange, IsInRange};
+ghost use Rattle.weld_built.specs.Merges.{merge_all, TakesNumbers};
 ghost use Rattle.weld_built.specs.Logged.{IsItemOf, HasResult};
 ghost use Rattle.weld_built.specs.Pair.{pair};
 ghost use Rattle.weld_built.specs.State.{MergeAnswer, part_of_state, IsState};
@@ -53,12 +54,13 @@ impl Model for Built {
 }
 
 impl Built {
-    ghost use Rattle.std.specs.Prelude.{◌≡◌, IfOk, OnOk};
+    ghost use Rattle.std.specs.Prelude.{◌≡◌, map, IfOk, OnOk};
     ghost use Rattle.weld_data.specs.Kind.{IsInteger, InRange};
     ghost use Rattle.weld_data.specs.Value.{number};
     ghost use Rattle.weld_data.specs.View.{view_val};
     ghost use Rattle.weld_builders.specs.Part.{total_part, list_shape, total_shape, cells_shape, keyed_shape, groups_shape, start_part, shape_of, bare, merge_part, after_part, result_of};
-    ghost use Rattle.weld_builders.specs.Range.{IsInRange};
+    ghost use Rattle.weld_builders.specs.Range.{AllInRange, IsInRange};
+    ghost use Rattle.weld_built.specs.Merges.{merge_all, TakesNumbers};
     ghost use Rattle.weld_built.specs.Logged.{IsItemOf, HasResult};
     ghost use Rattle.weld_built.specs.Pair.{pair};
     ghost use Rattle.weld_built.specs.State.{MergeAnswer};
@@ -158,6 +160,16 @@ impl Built {
         ensures { MergeAnswer result (merge_part self.old (number kind x)) self.new }
     {
         number_into(&mut self.state, kind, x)
+    }
+
+    /// Merges items that are numbers of a kind, the first one first. It makes no values where the
+    /// builder keeps numbers of that kind.
+    pub fn merge_numbers(&mut self, kind: Kind, items: &[i64]) -> Result<(), Stop>
+        requires numbers { AllInRange kind items.now }
+        requires items { TakesNumbers self.old kind }
+        ensures { MergeAnswer result (merge_all self.old (map (number kind) items.now)) self.new }
+    {
+        numbers_into(&mut self.state, kind, items)
     }
 
     /// Merges an item that is a struct of two numbers, as a number at an index or at a key. It faults
@@ -278,6 +290,28 @@ fn number_into(state: &mut State, kind: Kind, x: i64) -> Result<(), Stop>
             return Ok(());
         }
         State::List(alloc, items) => match list::push_number(*alloc, items, kind, x) {
+            Ok(()) => return Ok(()),
+            Err(_) => return Err(Stop::Memory),
+        },
+        _ => unreachable!(),
+    }
+}
+
+/// Merges numbers.
+#[tactic(auto, using(crate::proofs::ManyLemmas::merged_list, crate::proofs::ManyLemmas::merged_total))]
+fn numbers_into(state: &mut State, kind: Kind, items: &[i64]) -> Result<(), Stop>
+    requires state { IsState state.old }
+    requires numbers { AllInRange kind items.now }
+    requires items { TakesNumbers (part_of_state state.old) kind }
+    ensures answer { MergeAnswer result (merge_all (part_of_state state.old) (map (number kind) items.now)) (part_of_state state.new) }
+    ensures state { IsState state.new }
+{
+    match state {
+        State::Total(total) => {
+            total.merge_numbers(items);
+            return Ok(());
+        }
+        State::List(alloc, list) => match list::push_numbers(*alloc, list, kind, items) {
             Ok(()) => return Ok(()),
             Err(_) => return Err(Stop::Memory),
         },

@@ -1,6 +1,7 @@
 //! The items of a list.
 
-ghost use Rattle.std.specs.Prelude.{◌≡◌, ◌∷◌, ◌++◌, [], None, OnOk};
+ghost use Rattle.std.specs.Prelude.{◌≡◌, ◌∷◌, ◌++◌, [], map, None, OnOk};
+ghost use Rattle.weld_builders.specs.Range.{AllInRange};
 ghost use Rattle.weld_data.specs.Kind.{InRange};
 ghost use Rattle.weld_data.specs.Value.{number};
 ghost use Rattle.weld_data.specs.View.{view_val};
@@ -28,6 +29,48 @@ pub(crate) fn push_number(
         return list.push_number(kind, x);
     }
     push_item(alloc, list, number_of(kind, x))
+}
+
+/// Appends numbers.
+pub(crate) fn push_numbers(
+    alloc: Global,
+    list: &mut ListPart,
+    kind: Kind,
+    items: &[i64],
+) -> Result<(), AllocError>
+    requires { AllInRange kind items.now }
+    ensures { OnOk result (items_of_list list.new ≡ items_of_list list.old ++ map (number kind) items.now) }
+{
+    make_ready_for(alloc, list, kind);
+    if keeps(list.kind(), kind) {
+        return list.push_numbers(kind, items);
+    }
+    push_each(alloc, list, kind, items)
+}
+
+/// Keeps numbers of the kind where there are no items yet. It takes no memory.
+fn make_ready_for(alloc: Global, list: &mut ListPart, kind: Kind)
+    ensures { items_of_list list.new ≡ items_of_list list.old }
+{
+    if list.is_empty() && !keeps(list.kind(), kind) {
+        *list = ListPart::empty(alloc, Some(kind));
+    }
+}
+
+/// Appends numbers one by one.
+fn push_each(
+    alloc: Global,
+    list: &mut ListPart,
+    kind: Kind,
+    items: &[i64],
+) -> Result<(), AllocError>
+    requires { AllInRange kind items.now }
+    ensures { OnOk result (items_of_list list.new ≡ items_of_list list.old ++ map (number kind) items.now) }
+{
+    for i in 0..items.len() {
+        push_number(alloc, list, kind, items[i])?;
+    }
+    Ok(())
 }
 
 /// Appends an item.

@@ -15,3 +15,9 @@ abbrev pub OnFault : {T : Type 0} → Result T Stop → Type 0 → Type 0
 OnFault (Ok x) P = Unit {0}
 OnFault (Err Fault) P = P
 OnFault (Err Memory) P = Unit {0}
+
+-- it tells of no want of memory
+abbrev pub IsSure : {T : Type 0} → Result T Stop → Type 0
+IsSure (Ok x) = Unit {0}
+IsSure (Err Fault) = Unit {0}
+IsSure (Err Memory) = ⊥

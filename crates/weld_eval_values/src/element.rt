@@ -6,7 +6,7 @@ ghost use Rattle.weld_data.specs.View.{view_val, view_column};
 ghost use Rattle.weld_builders.specs.Outcome.{done};
 ghost use Rattle.weld_meaning.specs.Evaluation.{looked_up, has_key as has_key_value, truth_value};
 ghost use Rattle.weld_meaning.specs.Thing.{value_field};
-ghost use Rattle.weld_eval_values.specs.Answers.{Answers};
+ghost use Rattle.weld_eval_values.specs.Answers.{Answers, IsSure};
 ghost use Rattle.weld_eval_values.specs.Elements.{view_element, PlaceAnswer};
 ghost use Rattle.weld_eval_values.specs.Fits.{IsLookUp, IsKeyLookUp, HasField};
 
@@ -55,7 +55,8 @@ pub fn place_of(index: &Val, count: usize) -> Result<usize, Stop>
 #[tactic(auto, using(crate::proofs::VectorLemmas::element_there, crate::proofs::VectorLemmas::element_outside))]
 pub fn look_up<'a>(v: &'a Val, w: &Val) -> Result<Element<'a>, Stop>
     requires { IsLookUp (view_val v.now) (view_val w.now) }
-    ensures { Answers view_element result (looked_up (view_val v.now) (view_val w.now)) }
+    ensures value { Answers view_element result (looked_up (view_val v.now) (view_val w.now)) }
+    ensures sure { IsSure result }
 {
     match v {
         Val::List(column) => match place_of(w, column.len()) {

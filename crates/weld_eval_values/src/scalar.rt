@@ -8,7 +8,7 @@ ghost use Rattle.weld_data.specs.View.{view_val};
 ghost use Rattle.weld_builders.specs.Outcome.{done};
 ghost use Rattle.weld_meaning.specs.Evaluation.{operated as operated_value, negated as negated_value, contrary as contrary_value, cast_to, length_of, truth_of as truth_value_of, whole_number as whole_number_value};
 ghost use Rattle.weld_data.specs.Operation.{answer_kind as kind_of_answer};
-ghost use Rattle.weld_eval_values.specs.Answers.{Answers};
+ghost use Rattle.weld_eval_values.specs.Answers.{Answers, IsSure};
 ghost use Rattle.weld_eval_values.specs.Elements.{view_num};
 ghost use Rattle.weld_eval_values.specs.Fits.{AreOperands, IsIntegerNumber, IsTruth, IsList};
 
@@ -29,7 +29,8 @@ fn number_of(v: &Val) -> Num
 /// It faults exactly where it divides by 0. It takes no memory.
 pub fn operated(op: BinOp, v: &Val, w: &Val) -> Result<Num, Stop>
     requires { AreOperands op (view_val v.now) (view_val w.now) }
-    ensures { Answers view_num result (operated_value op (view_val v.now) (view_val w.now)) }
+    ensures value { Answers view_num result (operated_value op (view_val v.now) (view_val w.now)) }
+    ensures sure { IsSure result }
 {
     match (v, w) {
         (Val::Num(x), Val::Num(y)) => operated_numbers(op, *x, *y),
@@ -41,7 +42,8 @@ pub fn operated(op: BinOp, v: &Val, w: &Val) -> Result<Num, Stop>
 #[tactic(auto, using(crate::proofs::ScalarLemmas::left_in_range, crate::proofs::ScalarLemmas::right_in_range, crate::proofs::ScalarLemmas::takes_operands, crate::proofs::ScalarLemmas::operated_some, crate::proofs::ScalarLemmas::operated_none))]
 fn operated_numbers(op: BinOp, x: Num, y: Num) -> Result<Num, Stop>
     requires { AreOperands op (number x.kind x.value) (number y.kind y.value) }
-    ensures { Answers view_num result (operated_value op (number x.kind x.value) (number y.kind y.value)) }
+    ensures value { Answers view_num result (operated_value op (number x.kind x.value) (number y.kind y.value)) }
+    ensures sure { IsSure result }
 {
     match binary(op, x.kind, x.value, y.value) {
         Some(value) => Ok(Num {

@@ -9,6 +9,7 @@ use Rattle.weld_data.specs.declared.op.MergeOp.{MergeOp}
 use Rattle.weld_data.specs.Kind.{InRange}
 use Rattle.weld_data.specs.Operation.{combination}
 use Rattle.weld_pieces.specs.Answer.{IsOutside}
+use Rattle.weld_pieces.specs.Total.{combined_all}
 use Rattle.weld_builders.specs.Outcome.{done, fault, map_out, or_fault}
 use Rattle.weld_builders.specs.Part.{merge_cell, join_cells, repeated}
 use Rattle.weld_builders.specs.Range.{AllInRange}
@@ -120,3 +121,29 @@ old_in_range k xs x i l is h = bits_in_range k x (subst (InRange k) (sym is) (al
 -- cells one by one, as a list of numbers
 pub more_numbers : (k : Kind) (xs : List ℤ) (i : ℕ) → i < length xs → map (number k) (take (i + 1) xs) ≡ map (number k) (take i xs) ++ number k (slice_index_or xs i (pos 0)) ∷ []
 more_numbers k xs i l = rw (take_more xs i (pos 0) l, map-append) refl
+
+-- what is left of a list, from a place on
+rest_at : (xs : List ℤ) (i : ℕ) → i < length xs → drop i xs ≡ slice_index_or xs i (pos 0) ∷ drop (suc i) xs
+rest_at [] i l = absurd (omega arith)
+rest_at (x ∷ xs) zero l = refl
+rest_at (x ∷ xs) (suc i) l = rest_at xs i (omega arith)
+
+-- one more number is combined
+pub total_step : (op : MergeOp) (k : Kind) (x t r : ℤ) (xs : List ℤ) (i : ℕ) → i < length xs → AllInRange k xs → InRange k r → combined_all op k x xs ≡ combined_all op k t (drop i xs)
+    → r ≡ combination op k t (bits (slice_index_or xs i (pos 0))) → combined_all op k x xs ≡ combined_all op k (bits r) (drop (i + 1) xs)
+total_step op k x t r xs i l h f e v =
+    let y = slice_index_or xs i (pos 0) in
+    e ∙ ap (combined_all op k t) (rest_at xs i l)
+    ∙ ap (λ z. combined_all op k (combination op k t z) (drop (suc i) xs)) (sym (bits_are k y (all_in_range_at k xs i (pos 0) h l)))
+    ∙ ap (λ z. combined_all op k z (drop (suc i) xs)) (sym v ∙ sym (bits_are k r f))
+    ∙ ap (λ n. combined_all op k (bits r) (drop n xs)) (sym (add-one i))
+
+-- all are combined
+pub total_end : (op : MergeOp) (k : Kind) (x t : ℤ) (xs : List ℤ) (i : ℕ) → length xs ≤ i → combined_all op k x xs ≡ combined_all op k t (drop i xs) → t ≡ combined_all op k x xs
+total_end op k x t xs i l e = sym (e ∙ ap (combined_all op k t) (none xs i l))
+  where
+    none : (ys : List ℤ) (j : ℕ) → length ys ≤ j → drop j ys ≡ []
+    none [] zero m = refl
+    none [] (suc j) m = refl
+    none (y ∷ ys) zero m = absurd (omega arith)
+    none (y ∷ ys) (suc j) m = none ys j (omega arith)

@@ -1,8 +1,9 @@
 -- A total and cells in the code.
-use Rattle.std.specs.Prelude.{ℤ, List}
+use Rattle.std.specs.Prelude.{ℤ, List, [], ◌∷◌}
 use Rattle.weld_data.specs.declared.kind.Kind.{Kind}
 use Rattle.weld_data.specs.declared.op.MergeOp.{MergeOp}
 use Rattle.weld_data.specs.Kind.{IsInteger, InRange}
+use Rattle.weld_data.specs.Operation.{combination}
 use Rattle.weld_builders.specs.Part.{Part, total_part, cells_part}
 use Rattle.weld_builders.specs.Range.{AllInRange}
 
@@ -31,3 +32,8 @@ part_of_cells c = cells_part c.op c.kind c.cells
 pub record AreCells (kind : Kind) (xs : List ℤ) : Type 0 where
   pub integer : IsInteger kind
   pub in_range : AllInRange kind xs
+
+-- a number with others combined into it, one after another
+abbrev pub combined_all : MergeOp → Kind → ℤ → List ℤ → ℤ
+combined_all op kind x [] = x
+combined_all op kind x (y ∷ ys) = combined_all op kind (combination op kind x y) ys

@@ -19,10 +19,11 @@ pub enum ListPart {
 }
 
 impl ListPart {
-    ghost use Rattle.std.specs.Prelude.{◌≡◌, ◌<◌, ◌≤◌, ◌+◌, [], Some, None, IsTrue, IsOk, IfOk, OnOk, OnErr, ◌∷◌, ◌++◌};
+    ghost use Rattle.std.specs.Prelude.{◌≡◌, ◌<◌, ◌≤◌, ◌+◌, [], map, Some, None, IsTrue, IsOk, IfOk, OnOk, OnErr, ◌∷◌, ◌++◌};
     ghost use Rattle.weld_data.specs.Value.{number};
     ghost use Rattle.weld_data.specs.Kind.{InRange};
     ghost use Rattle.weld_data.specs.View.{view_val, view_column};
+    ghost use Rattle.weld_builders.specs.Range.{AllInRange};
     ghost use Rattle.weld_pieces.specs.Items.{kind_of_items, items_of_list, spare_of_list};
     ghost use Rattle.weld_pieces.specs.Kept.{IsKeptAs};
 
@@ -91,6 +92,32 @@ impl ListPart {
             ListPart::I64(items) => append_item(items, x),
             ListPart::Nest(_) => unreachable!(),
         }
+    }
+
+    /// Appends numbers of the list's kind, the first one first, false being 0 and true 1.
+    pub fn push_numbers(&mut self, kind: Kind, items: &[i64]) -> Result<(), AllocError>
+        requires kind { kind_of_items self.old ≡ Some kind }
+        requires in_range { AllInRange kind items.now }
+        ensures ok { OnOk result (items_of_list self.new ≡ items_of_list self.old ++ map (number kind) items.now) }
+        ensures kind { kind_of_items self.new ≡ kind_of_items self.old }
+    {
+        match self {
+            ListPart::I64(own) => own.extend_from_slice(items),
+            _ => self.push_each(kind, items),
+        }
+    }
+
+    /// The same, one by one.
+    fn push_each(&mut self, kind: Kind, items: &[i64]) -> Result<(), AllocError>
+        requires kind { kind_of_items self.old ≡ Some kind }
+        requires in_range { AllInRange kind items.now }
+        ensures ok { OnOk result (items_of_list self.new ≡ items_of_list self.old ++ map (number kind) items.now) }
+        ensures kind { kind_of_items self.new ≡ kind_of_items self.old }
+    {
+        for i in 0..items.len() {
+            self.push_number(kind, items[i])?;
+        }
+        Ok(())
     }
 
     /// Appends an item: a number of the list's kind, or any value where it is a list of values. Room

@@ -4,6 +4,8 @@ ghost use Rattle.std.specs.Prelude.{◌≡◌};
 ghost use Rattle.weld_data.specs.Kind.{IsInteger, InRange};
 ghost use Rattle.weld_data.specs.declared.kind.Kind.TheVariants as kinds;
 ghost use Rattle.weld_data.specs.Operation.{combination, start_of};
+ghost use Rattle.weld_builders.specs.Range.{AllInRange};
+ghost use Rattle.weld_pieces.specs.Total.{combined_all};
 
 use weld_data::{Kind, MergeOp, combine, neutral};
 
@@ -33,6 +35,54 @@ fn combine_i64(op: MergeOp, x: i64, y: i64) -> i64
         MergeOp::Min => x.min(y),
         MergeOp::Max => x.max(y),
     }
+}
+
+/// Numbers of an integer kind combined one after another with what is there by the operator of a
+/// builder. The operator and the kind are looked at once. It takes no memory.
+pub(crate) fn combine_all(op: MergeOp, kind: Kind, x: i64, items: &[i64]) -> i64
+    requires integer { IsInteger kind }
+    requires start { InRange kind x }
+    requires items { AllInRange kind items.now }
+    ensures value { result ≡ combined_all op kind x items.now }
+    ensures in_range { InRange kind result }
+{
+    match op {
+        MergeOp::Add => combine_by(MergeOp::Add, kind, x, items),
+        MergeOp::Mul => combine_by(MergeOp::Mul, kind, x, items),
+        MergeOp::Min => combine_by(MergeOp::Min, kind, x, items),
+        MergeOp::Max => combine_by(MergeOp::Max, kind, x, items),
+    }
+}
+
+/// The same by an operator that is known where it is compiled.
+#[inline(always)]
+fn combine_by(op: MergeOp, kind: Kind, x: i64, items: &[i64]) -> i64
+    requires integer { IsInteger kind }
+    requires start { InRange kind x }
+    requires items { AllInRange kind items.now }
+    ensures value { result ≡ combined_all op kind x items.now }
+    ensures in_range { InRange kind result }
+{
+    match kind {
+        Kind::I64 => combine_each(op, Kind::I64, x, items),
+        _ => combine_each(op, kind, x, items),
+    }
+}
+
+/// The same by an operator and at a kind that are known where it is compiled.
+#[inline(always)]
+fn combine_each(op: MergeOp, kind: Kind, x: i64, items: &[i64]) -> i64
+    requires integer { IsInteger kind }
+    requires start { InRange kind x }
+    requires items { AllInRange kind items.now }
+    ensures value { result ≡ combined_all op kind x items.now }
+    ensures in_range { InRange kind result }
+{
+    let mut total = x;
+    for i in 0..items.len() {
+        total = combine_kept(op, kind, total, items[i]);
+    }
+    total
 }
 
 /// The number that a builder of the operator starts with.

@@ -1,4 +1,4 @@
-use crate::number::{combine_kept, narrow, neutral_kept};
+use crate::number::{combine_all, combine_kept, narrow, neutral_kept};
 use crate::part::Part;
 use std::alloc::{AllocError, Global};
 use std::marker::Model;
@@ -33,7 +33,8 @@ impl TotalPart {
     ghost use Rattle.std.specs.Prelude.{◌≡◌};
     ghost use Rattle.weld_data.specs.Kind.{IsInteger, InRange};
     ghost use Rattle.weld_data.specs.Operation.{combination, start_of};
-    ghost use Rattle.weld_pieces.specs.Total.{Total, part_of_total};
+    ghost use Rattle.weld_builders.specs.Range.{AllInRange};
+    ghost use Rattle.weld_pieces.specs.Total.{Total, part_of_total, combined_all};
 
     /// The total of no numbers: the neutral number of the operator. It takes no memory.
     pub fn neutral(op: MergeOp, kind: Kind) -> TotalPart
@@ -66,6 +67,16 @@ impl TotalPart {
         ensures value { self.new.value ≡ combination self.old.op self.old.kind self.old.value x }
     {
         self.value = combine_kept(self.op, self.kind, self.value, x);
+    }
+
+    /// Merges numbers of the total's kind, the first one first. It takes no memory.
+    pub fn merge_numbers(&mut self, items: &[i64])
+        requires { AllInRange self.old.kind items.now }
+        ensures op { self.new.op ≡ self.old.op }
+        ensures kind { self.new.kind ≡ self.old.kind }
+        ensures value { self.new.value ≡ combined_all self.old.op self.old.kind self.old.value items.now }
+    {
+        self.value = combine_all(self.op, self.kind, self.value, items);
     }
 
     /// Appends what a later total of the same operator and kind has merged. It takes no memory.

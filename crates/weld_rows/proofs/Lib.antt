@@ -1,5 +1,4 @@
 pub mod ActLemmas
-pub mod DeedForms
 pub mod FormLemmas
 pub mod Numbers
 pub mod RangeSteps

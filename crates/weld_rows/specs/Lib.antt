@@ -1,4 +1,3 @@
-pub mod Choices
 pub mod Numbers
 pub mod RangeOn
 pub mod RowActs

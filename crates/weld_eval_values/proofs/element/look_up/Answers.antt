@@ -13,14 +13,14 @@ get-requires c =
     subst (λ l. IsKeyFor l (view_val c.args.w.now)) (list_of_entries-entries c.in-Dict.pairs)
     (subst (λ u. IsLookUp (view_val u) (view_val c.args.w.now)) c.in-Dict.is c.requires)
 
-pub returns-in-Some : goal.returns-in-Some
-returns-in-Some c =
+pub returns-in-Some-clause-value : goal.returns-in-Some-clause-value
+returns-in-Some-clause-value c =
     ap (λ u. looked_up (view_val u) (view_val c.args.w.now)) c.in-Dict.is
     ∙ ap (λ l. or_fault (value_of_key l (view_val c.args.w.now))) (list_of_entries-entries c.in-Dict.pairs)
     ∙ ap or_fault (sym c.in-Some.ensures)
 
-pub returns-in-None : goal.returns-in-None
-returns-in-None c =
+pub returns-in-None-clause-value : goal.returns-in-None-clause-value
+returns-in-None-clause-value c =
     ap (λ u. looked_up (view_val u) (view_val c.args.w.now)) c.in-Dict.is
     ∙ ap (λ l. or_fault (value_of_key l (view_val c.args.w.now))) (list_of_entries-entries c.in-Dict.pairs)
     ∙ ap or_fault (sym c.in-None.ensures)

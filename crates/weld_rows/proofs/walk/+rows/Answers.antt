@@ -204,7 +204,7 @@ binary-operated-requires t c =
 pub binary-returns-in-Ok-number : goal.binary-returns-in-Ok-number
 binary-returns-in-Ok-number t c =
     let is : c.args.e.now ≡ two (record { place = c.e.inside.place; ty = c.e.inside.ty }) (view_two c.in-Two.form) c.deref.result.now c.deref-in-Two.result.now = sym c.e.view_is ∙ ap (λ (f : Form). view_form f (record { place = c.e.inside.place; ty = c.e.inside.ty })) c.in-Two.is ∙ (λ i. two (record { place = c.e.inside.place; ty = c.e.inside.ty }) (view_two c.in-Two.form) (sym c.deref.ensures i) (sym c.deref-in-Two.ensures i)) in
-    binary_answers c.operated.result _ c.operator_of-op.result c.deref.result.now c.deref-in-Two.result.now (env_of c.args.frame.now) c.args.e.now (view_short c.in-Ok.x) (view_short c.in-Ok-number.y) (is ∙ ap (λ (o : Two). two (record { place = c.e.inside.place; ty = c.e.inside.ty }) o c.deref.result.now c.deref-in-Two.result.now) c.operator_of-op.ensures) c.in-Ok.ensures c.in-Ok-number.ensures c.operated.ensures
+    binary_answers c.operated.result _ c.operator_of-op.result c.deref.result.now c.deref-in-Two.result.now (env_of c.args.frame.now) c.args.e.now (view_short c.in-Ok.x) (view_short c.in-Ok-number.y) (is ∙ ap (λ (o : Two). two (record { place = c.e.inside.place; ty = c.e.inside.ty }) o c.deref.result.now c.deref-in-Two.result.now) c.operator_of-op.ensures) c.in-Ok.ensures c.in-Ok-number.ensures c.operated.ensures.value
 
 pub either-number-requires-else-decides : goal.either-number-requires-else-decides
 either-number-requires-else-decides t c =

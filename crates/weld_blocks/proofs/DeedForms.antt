@@ -9,7 +9,7 @@ use Rattle.weld_blocks.specs.Does.{DoesAs, number_done, NumberFits, pair_done, P
 use Rattle.weld_blocks.specs.declared.deed.Deed.{Deed}
 use Rattle.weld_blocks.specs.declared.deed.Deed as deed
 use Rattle.weld_blocks.specs.declared.numbers.Numbers.{Numbers}
-use Rattle.weld_rows.specs.Choices.{IsChoice}
+use Rattle.weld_blocks.specs.Choices.{IsChoice}
 
 pub any_as : (d : Deed) → DoesAs (do_of d) (DeedFits d) d
 any_as d = record { same = λ j s. refl; can = λ j s h. h }

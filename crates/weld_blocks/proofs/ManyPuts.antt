@@ -1,0 +1,87 @@
+-- Numbers that are merged one after another.
+use Rattle.std.proofs.Common.{◌≡◌, ℕ, zero, suc, ◌+◌, ◌<◌, ◌≤◌, ℤ, pos, List, [], ◌∷◌, length, take, drop, map, get_or, Result, Ok, Err, refl, sym, ap, subst, ◌∙◌, arith}
+use Rattle.weld_data.specs.declared.stop.Stop.{Stop}
+use Rattle.weld_data.specs.declared.stop.Stop.TheVariants.{Fault, Memory}
+use Rattle.weld_data.specs.declared.kind.Kind.{Kind}
+use Rattle.weld_data.specs.Kind.{InRange}
+use Rattle.weld_data.specs.Value.{Value, number}
+use Rattle.weld_builders.specs.Outcome.{Outcome, done, fault, stuck, and_then, map_out}
+use Rattle.weld_builders.specs.Part.{Part, list_part, total_part, cells_part, keyed_part, groups_part, merge_part}
+use Rattle.weld_builders.specs.Range.{AllInRange}
+use Rattle.weld_meaning.specs.Thing.{Thing, plain, building, several}
+use Rattle.weld_meaning.specs.Evaluation.{merged}
+use Rattle.weld_built.specs.Merges.{merge_all, TakesNumbers}
+use Rattle.weld_built.specs.State.{MergeAnswer}
+use Rattle.weld_acts.specs.Act.{Acts}
+use Rattle.weld_blocks.specs.Does.{number_done, NumberFits}
+use Rattle.weld_blocks.specs.Numbers.{count_of, number_at}
+use Rattle.weld_blocks.specs.Puts.{IsPut}
+use Rattle.weld_blocks.specs.Through.{done_through, FitsThrough}
+use Rattle.weld_blocks.specs.declared.numbers.Numbers.{Numbers}
+
+-- a number that is put is merged
+put_done : (p : Part) (k : Kind) (x : ℤ) → IsPut (building p) (number k x) → (q : Part) × (merge_part p (number k x) ≡ done q)
+put_done (list_part vs) k x h = (_, refl)
+put_done (total_part op m y) k x h = (_, refl)
+put_done (cells_part op m xs) k x h = absurd h
+put_done (keyed_part op m n) k x h = absurd h
+put_done (groups_part m) k x h = absurd h
+
+pub numbers_there : (c : Numbers) (j n : ℕ) (s : Thing) → FitsThrough (number_done c) (NumberFits c) j n s → 0 < n → j + n ≤ count_of c
+numbers_there c j zero s h less = absurd (omega (arith, less))
+numbers_there c j (suc zero) s h less = omega (arith, h.0.0)
+numbers_there c j (suc (suc n)) (plain v) h less = absurd h.0.1
+numbers_there c j (suc (suc n)) (building p) h less =
+    let q = put_done p c.kind (get_or c.items.items j (pos 0)) h.0.1 in
+    let rest = numbers_there c (suc j) (suc n) (building q.0) (h.1 (building q.0) (ap (map_out building) q.1)) (omega arith) in
+    omega (arith, rest)
+numbers_there c j (suc (suc n)) (several ts) h less = absurd h.0.1
+
+pub numbers_taken : (c : Numbers) (n : ℕ) (p : Part) → FitsThrough (number_done c) (NumberFits c) 0 n (building p) → 0 < n → TakesNumbers p c.kind
+numbers_taken c zero p h less = absurd (omega (arith, less))
+numbers_taken c (suc n) p h less = by p h.0.1
+  where
+    by : (q : Part) → IsPut (building q) (number_at c 0) → TakesNumbers q c.kind
+    by (list_part vs) k = tt
+    by (total_part op m y) k = k.0
+    by (cells_part op m xs) k = absurd k
+    by (keyed_part op m o) k = absurd k
+    by (groups_part m) k = absurd k
+
+-- nothing but a builder takes numbers
+pub put_none : (c : Numbers) (n : ℕ) (s : Thing) → FitsThrough (number_done c) (NumberFits c) 0 n s → 0 < n → (p : Part) × (s ≡ building p)
+put_none c zero s h less = absurd (omega (arith, less))
+put_none c (suc n) (plain v) h less = absurd h.0.1
+put_none c (suc n) (building p) h less = (p, refl)
+put_none c (suc n) (several ts) h less = absurd h.0.1
+
+-- the numbers from a place on
+rest_from : (xs : List ℤ) (j : ℕ) → j < length xs → drop j xs ≡ get_or xs j (pos 0) ∷ drop (suc j) xs
+rest_from [] j l = absurd (omega arith)
+rest_from (x ∷ xs) zero l = refl
+rest_from (x ∷ xs) (suc j) l = rest_from xs j (omega arith)
+
+-- merged row by row they are merged as a list
+as_list : (c : Numbers) (j n : ℕ) (p : Part) → FitsThrough (number_done c) (NumberFits c) j n (building p)
+    → done_through (number_done c) j n (building p) ≡ map_out building (merge_all p (map (number c.kind) (take n (drop j c.items.items))))
+as_list c j zero p h = refl
+as_list c j (suc n) p h =
+    let x = get_or c.items.items j (pos 0) in
+    let q = put_done p c.kind x h.0.1 in
+    let next = as_list c (suc j) n q.0 (h.1 (building q.0) (ap (map_out building) q.1)) in
+    ap (λ o. and_then (map_out building o) (λ t. done_through (number_done c) (suc j) n t)) q.1
+    ∙ next
+    ∙ sym (ap (λ o. map_out building (and_then o (λ r. merge_all r (map (number c.kind) (take n (drop (suc j) c.items.items)))))) q.1)
+    ∙ ap (λ xs. map_out building (merge_all p (map (number c.kind) (take (suc n) xs)))) (sym (rest_from c.items.items j h.0.0))
+
+pub put_all : {T : Type 0} (r : Result T Stop) (c : Numbers) (n : ℕ) (p q : Part) → FitsThrough (number_done c) (NumberFits c) 0 n (building p)
+    → MergeAnswer r (merge_all p (map (number c.kind) (take n c.items.items))) q → Acts r (done_through (number_done c) 0 n (building p)) (building q)
+put_all (Ok x) c n p q h e = as_list c 0 n p h ∙ ap (map_out building) e
+put_all (Err Fault) c n p q h e = as_list c 0 n p h ∙ ap (map_out building) e
+put_all (Err Memory) c n p q h e = tt
+
+-- numbers that lie in the range at each place do so altogether
+pub all_in_range : (k : Kind) (xs : List ℤ) (n : ℕ) → ((i : ℕ) → InRange k (get_or xs i (pos 0))) → AllInRange k (take n xs)
+all_in_range k xs zero h = tt
+all_in_range k [] (suc n) h = tt
+all_in_range k (x ∷ xs) (suc n) h = (h 0, all_in_range k xs n (λ i. h (suc i)))

@@ -1,0 +1,87 @@
+//! What is done on all rows of a block, by a loop for its form, which is looked at once.
+
+ghost use Rattle.std.specs.Prelude.{◌≡◌, true};
+ghost use Rattle.weld_acts.specs.Act.{Acts};
+ghost use Rattle.weld_eval.specs.ThingView.{thing_of};
+ghost use Rattle.weld_blocks.specs.Choices.{IsChoice};
+ghost use Rattle.weld_blocks.specs.Deeds.{DeedFits, do_of};
+ghost use Rattle.weld_blocks.specs.Does.{DoesAs};
+ghost use Rattle.weld_blocks.specs.Through.{FitsThrough, done_through};
+ghost use Rattle.weld_blocks.specs.declared.deed.Deed.TheVariants.{Nothing as DoesNothing};
+
+use crate::deed::{AnyDeed, Deed, Does, EachGuarded, EachPair};
+use crate::numbers::Numbers;
+use crate::puts::put_numbers;
+use weld_data::Stop;
+use weld_eval::thing::Owned;
+
+/// Does it on the first rows of the block, so many, one after another.
+#[tactic(auto, using(crate::proofs::DeedForms::pair_as, crate::proofs::DeedForms::any_as, crate::proofs::ThroughLemmas::nothing_through))]
+pub fn do_through(deed: &Deed, count: usize, builder: &mut Owned) -> Result<(), Stop>
+    requires { FitsThrough (do_of deed.now) (DeedFits deed.now) 0 count (thing_of builder.old) }
+    ensures { Acts result (done_through (do_of deed.now) 0 count (thing_of builder.old)) (thing_of builder.new) }
+{
+    match deed {
+        Deed::Nothing => Ok(()),
+        Deed::Number(numbers) => put_numbers(numbers, count, builder),
+        Deed::Pair(keys, numbers) => {
+            let each = EachPair { keys, numbers };
+            do_each(deed, &each, count, builder)
+        }
+        Deed::Choice(truths, then, otherwise) => {
+            do_choice(deed, truths, then, otherwise, count, builder)
+        }
+        Deed::Fields(_) => do_each(deed, &AnyDeed { deed }, count, builder),
+    }
+}
+
+/// The same where a truth value says what is done: a loop of its own where that is a merge of a
+/// number or nothing.
+#[tactic(auto, using(crate::proofs::DeedForms::guarded_as, crate::proofs::DeedForms::any_as))]
+fn do_choice(
+    deed: &Deed,
+    truths: &Numbers,
+    then: &Deed,
+    otherwise: &Deed,
+    count: usize,
+    builder: &mut Owned,
+) -> Result<(), Stop>
+    requires fits { FitsThrough (do_of deed.now) (DeedFits deed.now) 0 count (thing_of builder.old) }
+    requires choice { IsChoice deed.now truths.now then.now otherwise.now }
+    ensures { Acts result (done_through (do_of deed.now) 0 count (thing_of builder.old)) (thing_of builder.new) }
+{
+    match then {
+        Deed::Number(numbers) if is_nothing(otherwise) => {
+            let each = EachGuarded { truths, numbers };
+            do_each(deed, &each, count, builder)
+        }
+        _ => do_each(deed, &AnyDeed { deed }, count, builder),
+    }
+}
+
+/// Whether it does nothing.
+fn is_nothing(deed: &Deed) -> bool
+    ensures { result ≡ true → deed.now ≡ DoesNothing }
+{
+    match deed {
+        Deed::Nothing => true,
+        _ => false,
+    }
+}
+
+/// The same, row by row.
+#[tactic(auto, using(crate::proofs::ThroughLemmas::come_start, crate::proofs::ThroughLemmas::come_end))]
+fn do_each<D: Does>(deed: &Deed, each: &D, count: usize, builder: &mut Owned) -> Result<(), Stop>
+    requires fits { FitsThrough (do_of deed.now) (DeedFits deed.now) 0 count (thing_of builder.old) }
+    requires each { DoesAs (D.does each.now) (D.fits each.now) deed.now }
+    ensures { Acts result (done_through (do_of deed.now) 0 count (thing_of builder.old)) (thing_of builder.new) }
+{
+    let _deed = deed;
+    for place in 0..count {
+        match each.at(place, builder) {
+            Ok(()) => {}
+            Err(stop) => return Err(stop),
+        }
+    }
+    Ok(())
+}
