@@ -9,5 +9,6 @@ pub mod PutLemmas
 pub mod Scalars
 pub mod WorkLemmas
 pub mod DeedForms
+pub mod FieldLemmas
 pub mod ManyPuts
 pub mod ThroughLemmas

@@ -20,7 +20,7 @@ use Rattle.weld_blocks.specs.Through.{done_through, FitsThrough}
 use Rattle.weld_blocks.specs.declared.numbers.Numbers.{Numbers}
 
 -- a number that is put is merged
-put_done : (p : Part) (k : Kind) (x : ℤ) → IsPut (building p) (number k x) → (q : Part) × (merge_part p (number k x) ≡ done q)
+pub put_done : (p : Part) (k : Kind) (x : ℤ) → IsPut (building p) (number k x) → (q : Part) × (merge_part p (number k x) ≡ done q)
 put_done (list_part vs) k x h = (_, refl)
 put_done (total_part op m y) k x h = (_, refl)
 put_done (cells_part op m xs) k x h = absurd h
@@ -36,6 +36,17 @@ numbers_there c j (suc (suc n)) (building p) h less =
     let rest = numbers_there c (suc j) (suc n) (building q.0) (h.1 (building q.0) (ap (map_out building) q.1)) (omega arith) in
     omega (arith, rest)
 numbers_there c j (suc (suc n)) (several ts) h less = absurd h.0.1
+
+-- as many are taken as are asked for
+pub taken_length : (c : Numbers) (n : ℕ) (s : Thing) (xs : List ℤ) → FitsThrough (number_done c) (NumberFits c) 0 n s → 0 < n → xs ≡ c.items.items → n ≡ length (take n xs)
+taken_length c n s xs h less e =
+    let there : n ≤ length c.items.items = omega (arith, numbers_there c 0 n s h less) in
+    long n xs (subst (λ (ys : List ℤ). n ≤ length ys) (sym e) there)
+  where
+    long : (m : ℕ) (ys : List ℤ) → m ≤ length ys → m ≡ length (take m ys)
+    long zero ys l = refl
+    long (suc m) [] l = absurd (omega (arith, l))
+    long (suc m) (y ∷ ys) l = ap suc (long m ys (omega (arith, l)))
 
 pub numbers_taken : (c : Numbers) (n : ℕ) (p : Part) → FitsThrough (number_done c) (NumberFits c) 0 n (building p) → 0 < n → TakesNumbers p c.kind
 numbers_taken c zero p h less = absurd (omega (arith, less))
@@ -74,11 +85,17 @@ as_list c j (suc n) p h =
     ∙ sym (ap (λ o. map_out building (and_then o (λ r. merge_all r (map (number c.kind) (take n (drop (suc j) c.items.items)))))) q.1)
     ∙ ap (λ xs. map_out building (merge_all p (map (number c.kind) (take (suc n) xs)))) (sym (rest_from c.items.items j h.0.0))
 
-pub put_all : {T : Type 0} (r : Result T Stop) (c : Numbers) (n : ℕ) (p q : Part) → FitsThrough (number_done c) (NumberFits c) 0 n (building p)
+all_put : {T : Type 0} (r : Result T Stop) (c : Numbers) (n : ℕ) (p q : Part) → FitsThrough (number_done c) (NumberFits c) 0 n (building p)
     → MergeAnswer r (merge_all p (map (number c.kind) (take n c.items.items))) q → Acts r (done_through (number_done c) 0 n (building p)) (building q)
-put_all (Ok x) c n p q h e = as_list c 0 n p h ∙ ap (map_out building) e
-put_all (Err Fault) c n p q h e = as_list c 0 n p h ∙ ap (map_out building) e
-put_all (Err Memory) c n p q h e = tt
+all_put (Ok x) c n p q h e = as_list c 0 n p h ∙ ap (map_out building) e
+all_put (Err Fault) c n p q h e = as_list c 0 n p h ∙ ap (map_out building) e
+all_put (Err Memory) c n p q h e = tt
+
+pub put_all : {T : Type 0} (r : Result T Stop) (c : Numbers) (n : ℕ) (s : Thing) (p q : Part) (xs : List ℤ) → s ≡ building p → xs ≡ c.items.items → FitsThrough (number_done c) (NumberFits c) 0 n s
+    → MergeAnswer r (merge_all p (map (number c.kind) (take n xs))) q → Acts r (done_through (number_done c) 0 n s) (building q)
+put_all r c n s p q xs is e h m =
+    subst (λ (t : Thing). Acts r (done_through (number_done c) 0 n t) (building q)) (sym is)
+    (all_put r c n p q (subst (FitsThrough (number_done c) (NumberFits c) 0 n) is h) (subst (λ (ys : List ℤ). MergeAnswer r (merge_all p (map (number c.kind) (take n ys))) q) e m))
 
 -- numbers that lie in the range at each place do so altogether
 pub all_in_range : (k : Kind) (xs : List ℤ) (n : ℕ) → ((i : ℕ) → InRange k (get_or xs i (pos 0))) → AllInRange k (take n xs)

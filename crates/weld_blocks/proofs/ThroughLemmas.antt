@@ -17,7 +17,8 @@ nothing_through n s = from 0 n
     from j (suc m) = from (suc j) m
 
 pub come_start : (does : ℕ → Thing → Outcome Thing) (fits : ℕ → Thing → Type 0) (count : ℕ) (s : Thing) → FitsThrough does fits 0 count s → HasCome does fits count s 0 (count - 0) s
-come_start does fits count s h = record { fit = h; same = refl }
+come_start does fits count s h =
+    let all : count ≡ count - 0 = omega arith in subst (λ n. HasCome does fits count s 0 n s) all (record { fit = h; same = refl })
 
 -- one more row is there
 at_one : (does : ℕ → Thing → Outcome Thing) (fits : ℕ → Thing → Type 0) (count : ℕ) (start : Thing) (j : ℕ) (s : Thing) → j < count → HasCome does fits count start j (count - j) s → HasCome does fits count start j (suc (count - suc j)) s

@@ -1,4 +1,5 @@
 pub mod Block
+pub mod Calm
 pub mod Choices
 pub mod Deeds
 pub mod Does

@@ -33,7 +33,7 @@ pub fn put_number(builder: &mut Owned, x: Short) -> Result<(), Stop>
 }
 
 /// Merges the first of these numbers, so many, one after another.
-#[tactic(auto, using(crate::proofs::ManyPuts::put_all, crate::proofs::ManyPuts::put_none, crate::proofs::ManyPuts::numbers_there, crate::proofs::ManyPuts::numbers_taken, crate::proofs::ManyPuts::all_in_range))]
+#[tactic(auto, using(crate::proofs::ManyPuts::put_none, crate::proofs::ManyPuts::numbers_there, crate::proofs::ManyPuts::numbers_taken))]
 pub fn put_numbers(numbers: &Numbers, count: usize, builder: &mut Owned) -> Result<(), Stop>
     requires { FitsThrough (number_done numbers.now) (NumberFits numbers.now) 0 count (thing_of builder.old) }
     ensures { Acts result (done_through (number_done numbers.now) 0 count (thing_of builder.old)) (thing_of builder.new) }

@@ -1,19 +1,20 @@
 //! What is done on all rows of a block, by a loop for its form, which is looked at once.
 
-ghost use Rattle.std.specs.Prelude.{◌≡◌, true};
+ghost use Rattle.std.specs.Prelude.{◌≡◌, ◌<◌, true};
 ghost use Rattle.weld_acts.specs.Act.{Acts};
-ghost use Rattle.weld_eval.specs.ThingView.{thing_of};
+ghost use Rattle.weld_eval.specs.ThingView.{thing_of, things_of};
+ghost use Rattle.weld_blocks.specs.Calm.{IsCalm, AreCalm};
 ghost use Rattle.weld_blocks.specs.Choices.{IsChoice};
-ghost use Rattle.weld_blocks.specs.Deeds.{DeedFits, do_of};
+ghost use Rattle.weld_blocks.specs.Deeds.{DeedFits, DeedsFit, do_of, do_all, DoesAll};
 ghost use Rattle.weld_blocks.specs.Does.{DoesAs};
 ghost use Rattle.weld_blocks.specs.Through.{FitsThrough, done_through};
-ghost use Rattle.weld_blocks.specs.declared.deed.Deed.TheVariants.{Nothing as DoesNothing};
+ghost use Rattle.weld_blocks.specs.declared.deed.Deed.TheVariants.{Nothing as DoesNothing, Fields as OfFields};
 
-use crate::deed::{AnyDeed, Deed, Does, EachGuarded, EachPair};
+use crate::deed::{AnyDeed, Deed, Deeds, Does, EachGuarded, EachPair};
 use crate::numbers::Numbers;
 use crate::puts::put_numbers;
 use weld_data::Stop;
-use weld_eval::thing::Owned;
+use weld_eval::thing::{Fields, Owned};
 
 /// Does it on the first rows of the block, so many, one after another.
 #[tactic(auto, using(crate::proofs::DeedForms::pair_as, crate::proofs::DeedForms::any_as, crate::proofs::ThroughLemmas::nothing_through))]
@@ -31,7 +32,80 @@ pub fn do_through(deed: &Deed, count: usize, builder: &mut Owned) -> Result<(), 
         Deed::Choice(truths, then, otherwise) => {
             do_choice(deed, truths, then, otherwise, count, builder)
         }
-        Deed::Fields(_) => do_each(deed, &AnyDeed { deed }, count, builder),
+        Deed::Fields(deeds) => do_struct(deed, deeds, count, builder),
+    }
+}
+
+/// The same of a struct of builders: field by field, where nothing that is done can fault.
+#[tactic(auto, using(crate::proofs::DeedForms::any_as))]
+fn do_struct(deed: &Deed, deeds: &Deeds, count: usize, builder: &mut Owned) -> Result<(), Stop>
+    requires fits { FitsThrough (do_of deed.now) (DeedFits deed.now) 0 count (thing_of builder.old) }
+    requires fields { deed.now ≡ OfFields deeds.now }
+    ensures { Acts result (done_through (do_of deed.now) 0 count (thing_of builder.old)) (thing_of builder.new) }
+{
+    if count == 0 {
+        return Ok(());
+    }
+    if are_calm(deeds) {
+        match builder {
+            Owned::Several(fields) => do_fields(deeds, count, fields),
+            _ => unreachable!(),
+        }
+    } else {
+        do_each(deed, &AnyDeed { deed }, count, builder)
+    }
+}
+
+/// The same of its fields, one after another.
+fn do_fields(deeds: &Deeds, count: usize, fields: &mut Fields) -> Result<(), Stop>
+    requires some { 0 < count }
+    requires calm { AreCalm deeds.now }
+    requires fits { FitsThrough (do_all deeds.now) (DeedsFit deeds.now) 0 count (things_of fields.old) }
+    ensures { DoesAll result (done_through (do_all deeds.now) 0 count (things_of fields.old)) (things_of fields.new) }
+{
+    match deeds {
+        Deeds::End => Ok(()),
+        Deeds::And(deed, rest) => match fields {
+            Fields::And(first, more) => match do_calm(deed, count, first) {
+                Ok(()) => do_fields(rest, count, more),
+                Err(stop) => Err(stop),
+            },
+            Fields::End => unreachable!(),
+        },
+    }
+}
+
+/// The same of a builder, nothing that is done being able to fault.
+#[tactic(auto, using(crate::proofs::ThroughLemmas::nothing_through))]
+fn do_calm(deed: &Deed, count: usize, builder: &mut Owned) -> Result<(), Stop>
+    requires calm { IsCalm deed.now }
+    requires fits { FitsThrough (do_of deed.now) (DeedFits deed.now) 0 count (thing_of builder.old) }
+    ensures { Acts result (done_through (do_of deed.now) 0 count (thing_of builder.old)) (thing_of builder.new) }
+{
+    match deed {
+        Deed::Nothing => Ok(()),
+        Deed::Number(numbers) => put_numbers(numbers, count, builder),
+        _ => unreachable!(),
+    }
+}
+
+/// Whether nothing that is done to any field can fault.
+fn are_calm(deeds: &Deeds) -> bool
+    ensures { result ≡ true → AreCalm deeds.now }
+{
+    match deeds {
+        Deeds::End => true,
+        Deeds::And(deed, rest) => is_calm(deed) && are_calm(rest),
+    }
+}
+
+/// Whether nothing that is done can fault.
+fn is_calm(deed: &Deed) -> bool
+    ensures { result ≡ true → IsCalm deed.now }
+{
+    match deed {
+        Deed::Nothing | Deed::Number(_) => true,
+        _ => false,
     }
 }
 

@@ -6,7 +6,7 @@ use Rattle.weld_data.specs.Value.{Value, values}
 use Rattle.weld_tree.specs.declared.binder.Binder.{Binder}
 use Rattle.weld_tree.specs.ExprTree.{ExprTree, loop}
 use Rattle.weld_fits.specs.HasValue.{HasValue, AllAre}
-use Rattle.weld_builders.specs.Outcome.{done, fault, and_then}
+use Rattle.weld_builders.specs.Outcome.{Outcome, done, fault, stuck, and_then}
 use Rattle.weld_meaning.specs.Thing.{Thing, plain, bare_thing}
 use Rattle.weld_meaning.specs.ThingType.{HasThing}
 use Rattle.weld_meaning.specs.Evaluation.{Env, rows_of, whole_number}
@@ -25,6 +25,7 @@ use Rattle.weld_acts.specs.ActFits.{ActFits}
 use Rattle.weld_acts.proofs.RangeLaw.{range_splits, range_has}
 use Rattle.weld_blocks.specs.Block.{IsBlock}
 use Rattle.weld_blocks.specs.Deeds.{do_of, DeedFits}
+use Rattle.weld_blocks.specs.Through.{FitsThrough, done_through}
 use Rattle.weld_blocks.specs.declared.deed.Deed.{Deed}
 use Rattle.weld_acts.proofs.RowActs.{OwnHas, row_acts, row_fits, bare_of_loop}
 use Rattle.weld_rows.specs.RangeOn.{RangeOn}
@@ -244,18 +245,56 @@ in_block (loop a ls e b n x f) env own lists from i count d s h low less fits =
     )
 in_block _ env own lists from i count d s h low less fits = absurd h
 
-pub block_fits : (m : ExprTree) (env : Env) (lists : List (List Value)) (from to : ℕ) (start own : Thing) (i : ℕ) (s : Thing) (d : Deed) → AreDirect m → IsBlock m env own lists from d (to - from) → from ≤ i → i < to → RangeOn m env lists from to start own i s → DeedFits d (i - from) s
+block_fits : (m : ExprTree) (env : Env) (lists : List (List Value)) (from to : ℕ) (start own : Thing) (i : ℕ) (s : Thing) (d : Deed) → AreDirect m → IsBlock m env own lists from d (to - from) → from ≤ i → i < to → RangeOn m env lists from to start own i s → DeedFits d (i - from) s
 block_fits m env lists from to start own i s d direct h low less on = (in_block m env own lists from i (to - from) d s h low (omega arith) (range_row_acts m env lists from to start own i s direct on less)).0
 
 block_is : (m : ExprTree) (env : Env) (lists : List (List Value)) (from to : ℕ) (start own : Thing) (i : ℕ) (s : Thing) (d : Deed) → AreDirect m → IsBlock m env own lists from d (to - from) → from ≤ i → i < to → RangeOn m env lists from to start own i s
     → row_act m env own (i, row_in lists i) s ≡ do_of d (i - from) s
 block_is m env lists from to start own i s d direct h low less on = (in_block m env own lists from i (to - from) d s h low (omega arith) (range_row_acts m env lists from to start own i s direct on less)).1
 
-pub block_next : (m : ExprTree) (env : Env) (lists : List (List Value)) (from to : ℕ) (start own : Thing) (i : ℕ) (s t : Thing) (d : Deed) → AreDirect m → IsBlock m env own lists from d (to - from) → from ≤ i → i < to → RangeOn m env lists from to start own i s
-    → do_of d (i - from) s ≡ done t → RangeOn m env lists from to start own (i + 1) t
-block_next m env lists from to start own i s t d direct h low less on q = range_act_next m env lists from to start own i s t direct on less (block_is m env lists from to start own i s d direct h low less on ∙ q)
+block_step : (m : ExprTree) (env : Env) (lists : List (List Value)) (from to : ℕ) (start own : Thing) (i : ℕ) (s : Thing) (d : Deed) → AreDirect m → IsBlock m env own lists from d (to - from) → from ≤ i → i < to → RangeOn m env lists from to start own i s
+    → row_step m env (i, row_in lists i) s ≡ do_of d (i - from) s
+block_step m env lists from to start own i s d direct h low less on = (on_loop m env lists from to start own i s direct on less).1 ∙ block_is m env lists from to start own i s d direct h low less on
 
-pub block_stops : (T U : Type 0) (stop : Stop) (m : ExprTree) (env : Env) (lists : List (List Value)) (from to : ℕ) (start own : Thing) (i : ℕ) (s t u : Thing) (d : Deed) → AreDirect m → IsBlock m env own lists from d (to - from) → from ≤ i → i < to → RangeOn m env lists from to start own i s
-    → Acts {T = T} (Err stop) (do_of d (i - from) s) t → Acts {T = U} (Err stop) (range_over m env lists from to start) u
-block_stops T U Fault m env lists from to start own i s t u d direct h low less on q = range_fault m env lists from to start own i s on less ((on_loop m env lists from to start own i s direct on less).1 ∙ block_is m env lists from to start own i s d direct h low less on ∙ q)
-block_stops T U Memory m env lists from to start own i s t u d direct h low less on q = tt
+-- the rows that are left, one after another
+abbrev LeftDone : ExprTree → Env → List (List Value) → ℕ → ℕ → Thing → Deed → ℕ → ℕ → Thing → Type 0
+LeftDone m env lists from to start d j n s =
+    FitsThrough (do_of d) (DeedFits d) j n s × (range_over m env lists from to start ≡ done_through (do_of d) j n s)
+
+left_done : (n : ℕ) (m : ExprTree) (env : Env) (lists : List (List Value)) (from to : ℕ) (start own : Thing) (i : ℕ) (s : Thing) (d : Deed) → AreDirect m → IsBlock m env own lists from d (to - from) → from ≤ i → i + n ≡ to → RangeOn m env lists from to start own i s
+    → LeftDone m env lists from to start d (i - from) n s
+left_done zero m env lists from to start own i s d direct h low is on = (tt, range_end m env lists from to start own i s on (omega arith))
+left_done (suc n) m env lists from to start own i s d direct h low is on =
+    let less : i < to = omega arith in
+    let place : (i + 1) - from ≡ suc (i - from) = omega arith in
+    let next : (t : Thing) → do_of d (i - from) s ≡ done t → LeftDone m env lists from to start d (suc (i - from)) n t =
+    λ t q. subst (λ j. LeftDone m env lists from to start d j n t) place
+    (left_done n m env lists from to start own (i + 1) t d direct h (omega arith) (omega arith)
+    (range_next m env lists from to start own i s t on less (block_step m env lists from to start own i s d direct h low less on ∙ q))) in (
+      (block_fits m env lists from to start own i s d direct h low less on, λ t q. (next t q).0),
+      by (do_of d (i - from) s) refl next (block_step m env lists from to start own i s d direct h low less on) less,
+    )
+  where
+    by : (o : Outcome Thing) → do_of d (i - from) s ≡ o → ((t : Thing) → do_of d (i - from) s ≡ done t → LeftDone m env lists from to start d (suc (i - from)) n t)
+        → row_step m env (i, row_in lists i) s ≡ do_of d (i - from) s → i < to → range_over m env lists from to start ≡ and_then o (λ t. done_through (do_of d) (suc (i - from)) n t)
+    by (done t) q next step less = (next t q).1
+    by fault q next step less = range_fault m env lists from to start own i s on less (step ∙ q)
+    by stuck q next step less =
+        on.same ∙ one_row m env on.rows i to (row_in lists i) s less (row_at m env lists from to start own i s on less)
+        ∙ ap (λ o. and_then o (λ u. rows_from m env (i + 1) (take (to - (i + 1)) (drop (i + 1) on.rows)) u)) (step ∙ q)
+
+all_done : (m : ExprTree) (env : Env) (lists : List (List Value)) (from to : ℕ) (own s : Thing) (d : Deed) → AreDirect m → IsBlock m env own lists from d (to - from) → RangeOn m env lists from to s own from s → LeftDone m env lists from to s d 0 (to - from) s
+all_done m env lists from to own s d direct h on =
+    let none : from - from ≡ 0 = omega arith in
+    subst (λ j. LeftDone m env lists from to s d j (to - from) s) none (left_done (to - from) m env lists from to s own from s d direct h (omega arith) (omega (arith, on.reached)) on)
+
+pub block_ready : (m : ExprTree) (env : Env) (lists : List (List Value)) (from to : ℕ) (own s : Thing) (d : Deed) → AreDirect m → IsBlock m env own lists from d (to - from) → RangeOn m env lists from to s own from s → FitsThrough (do_of d) (DeedFits d) 0 (to - from) s
+block_ready m env lists from to own s d direct h on = (all_done m env lists from to own s d direct h on).0
+
+pub block_done : (m : ExprTree) (env : Env) (lists : List (List Value)) (from to : ℕ) (own s : Thing) (d : Deed) → AreDirect m → IsBlock m env own lists from d (to - from) → RangeOn m env lists from to s own from s → range_over m env lists from to s ≡ done_through (do_of d) 0 (to - from) s
+block_done m env lists from to own s d direct h on = (all_done m env lists from to own s d direct h on).1
+
+pub block_stops : (T U : Type 0) (stop : Stop) (m : ExprTree) (env : Env) (lists : List (List Value)) (from to : ℕ) (own s t u : Thing) (d : Deed) → AreDirect m → IsBlock m env own lists from d (to - from) → RangeOn m env lists from to s own from s
+    → Acts {T = T} (Err stop) (done_through (do_of d) 0 (to - from) s) t → Acts {T = U} (Err stop) (range_over m env lists from to s) u
+block_stops T U Fault m env lists from to own s t u d direct h on q = block_done m env lists from to own s d direct h on ∙ q
+block_stops T U Memory m env lists from to own s t u d direct h on q = tt
