@@ -204,6 +204,14 @@ impl Built {
         values_into(&mut self.state, number_of(key_kind, key), item)
     }
 
+    /// Makes room for so many more items where it is a list: of numbers of the kind, where one is
+    /// given. It holds what it held, whether there is room or not.
+    pub fn reserve(&mut self, kind: Option<Kind>, items: u64) -> Result<(), AllocError>
+        ensures { self.new ≡ self.old }
+    {
+        reserve_in(&mut self.state, kind, items)
+    }
+
     /// Appends what a later builder of the same shape has merged. After want of memory it is only
     /// good to be dropped.
     pub fn join(&mut self, later: Built) -> Result<(), AllocError>
@@ -390,6 +398,20 @@ fn merge_into(state: &mut State, item: Val) -> Result<(), Stop>
         _ => {
             let (first, second) = two_fields(item);
             return values_into(state, first, second);
+        }
+    }
+}
+
+/// Makes room for so many more items of a list.
+fn reserve_in(state: &mut State, kind: Option<Kind>, items: u64) -> Result<(), AllocError>
+    requires { IsState state.old }
+    ensures same { part_of_state state.new ≡ part_of_state state.old }
+    ensures state { IsState state.new }
+{
+    match state {
+        State::List(alloc, list) => return list::reserve(*alloc, list, kind, items),
+        State::Total(_) | State::Cells(_) | State::Keyed(_, _) | State::Groups(_, _) => {
+            return Ok(());
         }
     }
 }

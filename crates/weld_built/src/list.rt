@@ -98,13 +98,32 @@ pub(crate) fn push_pair(
     push_item(alloc, list, Val::Struct(fields))
 }
 
+/// Makes room for so many more items. Where there are none yet, those to come are taken to be numbers
+/// of the kind, where one is given.
+pub(crate) fn reserve(
+    alloc: Global,
+    list: &mut ListPart,
+    kind: Option<Kind>,
+    items: u64,
+) -> Result<(), AllocError>
+    ensures { items_of_list list.new ≡ items_of_list list.old }
+{
+    if list.is_empty() && !are_alike(list.kind(), kind) {
+        *list = ListPart::empty(alloc, kind);
+    }
+    list.reserve(items)
+}
+
 /// Chooses how items are kept such that the item can be one of them.
 fn make_ready(alloc: Global, list: &mut ListPart, item: &Val) -> Result<(), AllocError>
     ensures items { OnOk result (items_of_list list.new ≡ items_of_list list.old) }
     ensures kept { OnOk result (IsKeptAs (kind_of_items list.new) (view_val item.now)) }
 {
     if list.is_empty() {
-        *list = ListPart::empty(alloc, best_for(item));
+        let kind = best_for(item);
+        if !are_alike(list.kind(), kind) {
+            *list = ListPart::empty(alloc, kind);
+        }
         return Ok(());
     }
     if keeps_item(list.kind(), item) {

@@ -6,6 +6,7 @@ pub mod env;
 mod evaluate;
 mod gather;
 mod range;
+mod room;
 mod stack;
 mod steps;
 pub mod tile;

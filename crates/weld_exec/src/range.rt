@@ -8,6 +8,7 @@ ghost use Rattle.weld_eval.specs.LegsView.{lists_of};
 ghost use Rattle.weld_eval.specs.ThingView.{thing_of, held_of};
 ghost use Rattle.weld_eval_forms.specs.Legs.{elements_in, leg_lists, IsVector, AreVectors};
 
+use crate::room::make_room;
 use std::alloc::Global;
 use weld_acts::is_direct;
 use weld_data::{Column, Stop, Val};
@@ -18,8 +19,28 @@ use weld_rows::run_range;
 use weld_tiles::Tile;
 use weld_tree::Expr;
 
-/// Hands a builder through the rows of a tile, over these vectors. After a stop it is only good to be dropped.
+/// Hands a builder through the rows of a tile, over these vectors, with room made for what they append. After a stop it is
+/// only good to be dropped.
 pub(crate) fn run_rows(
+    node: &Expr,
+    frame: &Frame,
+    vectors: &[Held],
+    tile: Tile,
+    builder: &mut Owned,
+    alloc: Global,
+) -> Result<(), Stop>
+    requires vectors { AreVectors vectors.now }
+    requires holds { HoldsRange node.now (env_of frame.now) (leg_lists vectors.now) tile.lo tile.hi (thing_of builder.old) }
+    ensures { RangeAnswer result (record { node = node.now; names = env_of frame.now; lists = leg_lists vectors.now; start = thing_of builder.old }) tile.lo tile.hi (thing_of builder.old) (thing_of builder.new) }
+{
+    match make_room(node, tile, builder) {
+        Ok(()) => run_in_room(node, frame, vectors, tile, builder, alloc),
+        Err(_) => Err(Stop::Memory),
+    }
+}
+
+/// The same, as the builder is.
+fn run_in_room(
     node: &Expr,
     frame: &Frame,
     vectors: &[Held],

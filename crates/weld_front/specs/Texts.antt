@@ -43,8 +43,8 @@ script_refusal_text faults.Memory = []
 abbrev pub unfit_text : ℕ → Code → List ℕ
 unfit_text number code = line (codes "parameter " ++ decimal number ++ codes ": " ++ code_text code)
 
--- the loops of the program that was given and of the one that ran; of these, those whose list had its room before and those that ran
--- by lanes; the tiles and the rows of all evaluations of its shared loops
+-- the loops of the program that was given and of the one that ran; of these, those that append to one list once a row and those that
+-- ran by lanes; the tiles and the rows of all evaluations of its shared loops
 abbrev pub loops_line : ℕ → ℕ → List ℕ
 loops_line before after = line (codes "loops " ++ decimal before ++ codes " -> " ++ decimal after)
 

@@ -14,7 +14,7 @@ fn loops_line(alloc: Global, before: u64, after: u64) -> Result<String, AllocErr
     Ok(format!(in alloc; "loops {before} -> {after}\n")?)
 }
 
-/// The loops whose list had its room before, and those that ran by lanes.
+/// The loops that append to one list once a row, and those that ran by lanes.
 fn marks_line(alloc: Global, sized: u64, lanes: u64) -> Result<String, AllocError>
     ensures { IfOk result (λ s. string_bytes s ≡ marks_line sized lanes) }
 {

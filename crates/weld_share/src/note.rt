@@ -1,4 +1,4 @@
-/// What a run counted: the loops of the program, those whose vectors are sized beforehand, those that run by lanes, and the
+/// What a run counted: the loops of the program, those that append to one list once a row, those that run by lanes, and the
 /// tiles and the rows of all evaluations of its shared loops.
 #[derive(Clone, Copy, Debug, PartialEq, Eq)]
 pub struct RunNote {

@@ -6,17 +6,17 @@ ghost use Rattle.weld_tree.specs.ExprView.{view_leg};
 ghost use Rattle.weld_sizes.specs.Sized.{set_among, sized_marks, marks_among, marks_in_leg, marks_in_legs};
 
 use crate::form::is_sized;
-use weld_meaning::Accepted;
-use weld_tree::{Expr, Exprs, Form, Leg, Legs};
+use weld_tree::{Expr, Exprs, Form, Leg, Legs, Program};
 
-/// How many loops of the program are of the sized form, or the greatest u64 where that is less. It
-/// takes no memory.
-pub fn count_sized(p: &Accepted) -> u64
-    ensures { result ≡ min (set_among (sized_marks p.now.body)) u64.MAX }
+/// How many loops of the program are of the sized form: a program has fewer than a u64 can count.
+/// It takes no memory.
+pub fn count_sized(p: &Program) -> u64
+    ensures { result ≡ set_among (sized_marks p.now.body) }
 {
-    count(&p.program().body)
+    count(&p.body)
 }
 
+/// How many loops of the expression are of the sized form, or the greatest u64 where that is less.
 #[cycle(count)]
 #[tactic(auto, using(crate::proofs::Left::set_both))]
 fn count(e: &Expr) -> u64

@@ -2,9 +2,21 @@
 
 ghost use Rattle.std.specs.Prelude.{◌≡◌, ◌&&◌};
 ghost use Rattle.weld_tree.specs.TypeView.{view_build};
-ghost use Rattle.weld_sizes.specs.Sized.{is_list, is_new_list, is_that_name, merges_once};
+ghost use Rattle.weld_sizes.specs.Sized.{has_sized_form as has_form, is_list, is_new_list, is_that_name, merges_once};
 
 use weld_tree::{BuildTy, Expr, Form, LeafForm, Sym, ThreeForm, TwoForm};
+
+/// Whether the expression is a loop of the sized form (the Weld papers): its builder is one
+/// `vecbuilder`, and each row merges into it exactly once. It takes no memory.
+pub fn has_sized_form(e: &Expr) -> bool
+    ensures { result ≡ has_form e.now }
+{
+    match &e.form {
+        Form::For(_, builder, binder, _, _, body) => is_sized(builder, binder.sym, body),
+        Form::Leaf(_) | Form::One(_, _) | Form::Two(_, _, _) | Form::Three(_, _, _, _) => false,
+        Form::Many(_, _) | Form::Let(_, _, _) | Form::Iterate(_, _, _) => false,
+    }
+}
 
 /// Whether a loop from this builder, with this builder binder and body, is of the sized form. It
 /// takes no memory.

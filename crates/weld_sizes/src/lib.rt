@@ -8,5 +8,6 @@ mod marking;
 mod marks;
 
 pub use count::count_sized;
+pub use form::has_sized_form;
 pub use marking::mark_sizes;
 pub use marks::Marks;
