@@ -1,17 +1,21 @@
 //! The sized form of a loop.
 
-ghost use Rattle.std.specs.Prelude.{◌≡◌, ◌&&◌};
+ghost use Rattle.std.specs.Prelude.{◌≡◌};
 ghost use Rattle.weld_tree.specs.TypeView.{view_build};
-ghost use Rattle.weld_sizes.specs.Sized.{is_list, is_new_list, is_that_name, merges_once};
+ghost use Rattle.weld_sizes.specs.Sized.{has_sized_form, is_list, is_new_list, is_that_name, merges_once};
 
 use weld_tree::{BuildTy, Expr, Form, LeafForm, Sym, ThreeForm, TwoForm};
 
-/// Whether a loop from this builder, with this builder binder and body, is of the sized form. It
-/// takes no memory.
-pub(crate) fn is_sized(builder: &Expr, binder: Sym, body: &Expr) -> bool
-    ensures { result ≡ (is_new_list builder.now && merges_once body.now binder.0) }
+/// Whether the expression is a loop of the sized form. It takes no memory.
+pub(crate) fn has_sized_form(e: &Expr) -> bool
+    ensures { result ≡ has_sized_form e.now }
 {
-    is_new_list(builder) && merges_once(body, binder)
+    match &e.form {
+        Form::For(_, builder, binder, _, _, body) => {
+            is_new_list(builder) && merges_once(body, binder.sym)
+        }
+        _ => false,
+    }
 }
 
 /// Whether the expression is one `vecbuilder`.
@@ -52,7 +56,7 @@ fn merges_once(e: &Expr, binder: Sym) -> bool
 }
 
 /// Whether the expression is the name.
-fn is_that_name(e: &Expr, name: Sym) -> bool
+pub(crate) fn is_that_name(e: &Expr, name: Sym) -> bool
     ensures { result ≡ is_that_name e.now name.0 }
 {
     match &e.form {
