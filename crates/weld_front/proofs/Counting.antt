@@ -7,7 +7,9 @@ use Rattle.weld_data.specs.Value.{Value}
 use Rattle.weld_tree.specs.Program.{ProgramTree, loops}
 use Rattle.weld_tiles.specs.Tiling.{middle, Halves, empty, whole, halved}
 use Rattle.weld_plan.specs.SharedRows.{program_rows}
-use Rattle.weld_sizes.specs.Sized.{set_among, sized_marks}
+use Rattle.weld_sizes.specs.Lanes.{lane_marks}
+use Rattle.weld_sizes.specs.Marks.{set_among}
+use Rattle.weld_sizes.specs.Sized.{sized_marks}
 use Rattle.weld_share.specs.Counts.{AreCut, AreAllCut, IsNote}
 use Rattle.weld_share.specs.declared.note.RunNote.{RunNote}
 
@@ -42,5 +44,5 @@ all_cut cut c (rows ∷ more) =
 pub note_exists : (p : ProgramTree) (vs : List Value) (cut : ℕ) → 1 ≤ cut → (note : RunNote) × IsNote p vs cut note
 note_exists p vs cut c =
     let tiles = all_cut cut c (program_rows p vs) in
-    let note : RunNote = record { loops = loops p.body; sized = set_among (sized_marks p.body); lanes = 0; tiles = tiles.0; turns = sum (program_rows p vs) } in
+    let note : RunNote = record { loops = loops p.body; sized = set_among (sized_marks p.body); lanes = set_among (lane_marks p.body); tiles = tiles.0; turns = sum (program_rows p vs) } in
     (note, record { loops = refl; sized = refl; lanes = refl; tiles = tiles.1; turns = refl })

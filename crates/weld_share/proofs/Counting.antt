@@ -9,7 +9,9 @@ use Rattle.weld_meaning.specs.Meaning.{meaning}
 use Rattle.weld_tiles.specs.declared.tile.Tile.{Tile}
 use Rattle.weld_tiles.specs.Tiling.{numbered, AddsHalves}
 use Rattle.weld_plan.specs.SharedRows.{program_rows}
-use Rattle.weld_sizes.specs.Sized.{set_among, sized_marks}
+use Rattle.weld_sizes.specs.Lanes.{lane_marks}
+use Rattle.weld_sizes.specs.Marks.{set_among}
+use Rattle.weld_sizes.specs.Sized.{sized_marks}
 use Rattle.weld_plan.specs.declared.plan.Plan.{Plan}
 use Rattle.weld_exec.specs.Run.{env_inputs, program_meaning, rows_left, left_of}
 use Rattle.weld_exec.specs.declared.env.Env.{Env}
@@ -31,7 +33,7 @@ tiles_are_cut cut rows list h = (h.ranges, h.cuts, ap length h.behind ∙ length
 pub record HasCounted (p : Plan) (e : Env) (cut : ℕ) (note : RunNote) : Type 0 where
   pub loops : note.loops ≡ loops p.program.now.body
   pub sized : note.sized ≡ set_among (sized_marks p.program.now.body)
-  pub lanes : note.lanes ≡ 0
+  pub lanes : note.lanes ≡ set_among (lane_marks p.program.now.body)
   pub tiles : (v : Value) → program_meaning p e ≡ done v → (n : ℕ) → AreAllCut cut (rows_left p e) n → AreAllCut cut (program_rows p.program.now (env_inputs e)) (note.tiles + n)
   pub turns : (v : Value) → program_meaning p e ≡ done v → note.turns + sum (rows_left p e) ≡ sum (program_rows p.program.now (env_inputs e))
 
@@ -42,7 +44,7 @@ pub record HasRoom (p : Plan) (e : Env) (note : RunNote) : Type 0 where
   pub turns : note.turns + left_of p e * 18446744073709551616 ≤ length p.steps.items * 18446744073709551616
 
 pub counted_start : (p : Plan) (e : Env) (cut : ℕ) (note : RunNote) (inputs : List Value) → env_inputs e ≡ inputs → ((v : Value) → meaning p.program.now inputs ≡ done v → rows_left p e ≡ program_rows p.program.now inputs)
-    → note.loops ≡ loops p.program.now.body → note.sized ≡ set_among (sized_marks p.program.now.body) → note.lanes ≡ 0 → note.tiles ≡ 0 → note.turns ≡ 0 → HasCounted p e cut note
+    → note.loops ≡ loops p.program.now.body → note.sized ≡ set_among (sized_marks p.program.now.body) → note.lanes ≡ set_among (lane_marks p.program.now.body) → note.tiles ≡ 0 → note.turns ≡ 0 → HasCounted p e cut note
 counted_start p e cut note inputs same start is sized lanes tiles turns =
     let all : (v : Value) → program_meaning p e ≡ done v → rows_left p e ≡ program_rows p.program.now (env_inputs e) =
     λ v q. start v (sym (ap (meaning p.program.now) same) ∙ q) ∙ ap (program_rows p.program.now) (sym same) in

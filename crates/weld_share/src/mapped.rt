@@ -6,7 +6,9 @@ ghost use Rattle.weld_data.specs.View.{view_val};
 ghost use Rattle.weld_meaning.specs.Meaning.{ArgumentsFit, meaning};
 ghost use Rattle.weld_eval_values.specs.Answers.{Answers};
 ghost use Rattle.weld_plan.specs.PlanView.{IsPlan};
-ghost use Rattle.weld_sizes.specs.Sized.{set_among, sized_marks};
+ghost use Rattle.weld_sizes.specs.Lanes.{lane_marks};
+ghost use Rattle.weld_sizes.specs.Marks.{set_among};
+ghost use Rattle.weld_sizes.specs.Sized.{sized_marks};
 ghost use Rattle.weld_share.specs.Counts.{IsNote};
 
 use crate::note::RunNote;
@@ -18,7 +20,7 @@ use weld_data::{Stop, Val, Vals};
 use weld_exec::{Env, Next};
 use weld_plan::Plan;
 use weld_ports::Gate;
-use weld_sizes::count_sized;
+use weld_sizes::{count_lanes, count_sized};
 
 /// The value of the plan's program on inputs of its parameters' types, and what the run counted. The rows of each shared loop
 /// are cut into tiles of at most `cut` rows. Stretches of neighbouring tiles, as many at a time as there are `workers`, are
@@ -91,7 +93,7 @@ fn no_counts(plan: &Plan) -> RunNote
     requires { IsPlan plan.now }
     ensures loops { result.loops ≡ loops plan.now.program.now.body }
     ensures sized { result.sized ≡ set_among (sized_marks plan.now.program.now.body) }
-    ensures lanes { result.lanes ≡ 0 }
+    ensures lanes { result.lanes ≡ set_among (lane_marks plan.now.program.now.body) }
     ensures tiles { result.tiles ≡ 0 }
     ensures turns { result.turns ≡ 0 }
     ensures few { length plan.now.steps.items < 2 ^ 64 }
@@ -101,7 +103,7 @@ fn no_counts(plan: &Plan) -> RunNote
     RunNote {
         loops: program.body.loops(),
         sized: count_sized(program),
-        lanes: 0,
+        lanes: count_lanes(program),
         tiles: 0,
         turns: 0,
     }

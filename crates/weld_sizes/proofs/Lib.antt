@@ -1,3 +1,4 @@
 pub mod Cases
 pub mod Few
+pub mod LaneLegs
 pub mod Left

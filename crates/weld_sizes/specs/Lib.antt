@@ -1,1 +1,4 @@
+pub mod LaneViews
+pub mod Lanes
+pub mod Marks
 pub mod Sized

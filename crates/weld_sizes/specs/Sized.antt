@@ -1,7 +1,8 @@
 -- Loops that append to one list once a row, so that the list has as many items as there are rows (the Weld papers).
-use Rattle.std.specs.Prelude.{ℕ, ◌+◌, ◌==◌, if◌then◌else◌, Bool, true, false, ◌&&◌, List, [], ◌∷◌, ◌++◌}
+use Rattle.std.specs.Prelude.{ℕ, ◌==◌, Bool, true, false, ◌&&◌, List}
 use Rattle.weld_tree.specs.TypeTree.{BuildTree, list, total, keyed, cells, groups}
-use Rattle.weld_tree.specs.ExprTree.{ExprTree, leaf, one, two, three, many, let_in, loop, iterate, ExprTrees, no_exprs, more_exprs, LegTree, whole, strided, LegTrees, no_legs, more_legs, Leaf, int, truth, chars, name, fresh, Two, binary, and, or, look_up, key_exists, merge, Three, if_else, select, slice}
+use Rattle.weld_tree.specs.ExprTree.{ExprTree, leaf, one, two, three, many, let_in, loop, iterate, Leaf, int, truth, chars, name, fresh, Two, binary, and, or, look_up, key_exists, merge, Three, if_else, select, slice}
+use Rattle.weld_sizes.specs.Marks.{marks_by}
 
 -- ---- one list
 
@@ -88,32 +89,6 @@ has_sized_form (let_in a b e f) = false
 has_sized_form (loop a ls e b n x f) = is_new_list e && merges_once f b.sym.0
 has_sized_form (iterate a e b f) = false
 
-abbrev mutual
-  -- one mark for each loop of the expression, in the order in which they begin in the text: whether it is of the sized form
-  pub sized_marks : ExprTree → List Bool
-  sized_marks (leaf a l) = []
-  sized_marks (one a o e) = sized_marks e
-  sized_marks (two a o e f) = sized_marks e ++ sized_marks f
-  sized_marks (three a o c e f) = sized_marks c ++ (sized_marks e ++ sized_marks f)
-  sized_marks (many a o es) = marks_among es
-  sized_marks (let_in a b e f) = sized_marks e ++ sized_marks f
-  sized_marks (loop a ls e b n x f) =
-      has_sized_form (loop a ls e b n x f) ∷ (marks_in_legs ls ++ (sized_marks e ++ sized_marks f))
-  sized_marks (iterate a e b f) = sized_marks e ++ sized_marks f
-
-  pub marks_among : ExprTrees → List Bool
-  marks_among no_exprs = []
-  marks_among (more_exprs e es) = sized_marks e ++ marks_among es
-
-  pub marks_in_leg : LegTree → List Bool
-  marks_in_leg (whole e) = sized_marks e
-  marks_in_leg (strided e f g h) = sized_marks e ++ (sized_marks f ++ (sized_marks g ++ sized_marks h))
-
-  pub marks_in_legs : LegTrees → List Bool
-  marks_in_legs no_legs = []
-  marks_in_legs (more_legs l ls) = marks_in_leg l ++ marks_in_legs ls
-
--- how many of the marks are set
-abbrev pub set_among : List Bool → ℕ
-set_among [] = 0
-set_among (b ∷ bs) = (if b then 1 else 0) + set_among bs
+-- one mark for each loop of the expression, in the order in which they begin in the text: whether it is of the sized form
+abbrev pub sized_marks : ExprTree → List Bool
+sized_marks e = marks_by has_sized_form e

@@ -1,6 +1,6 @@
 //! The sized form of a loop.
 
-ghost use Rattle.std.specs.Prelude.{◌≡◌, ◌&&◌};
+ghost use Rattle.std.specs.Prelude.{◌≡◌};
 ghost use Rattle.weld_tree.specs.TypeView.{view_build};
 ghost use Rattle.weld_sizes.specs.Sized.{has_sized_form as has_form, is_list, is_new_list, is_that_name, merges_once};
 
@@ -12,18 +12,11 @@ pub fn has_sized_form(e: &Expr) -> bool
     ensures { result ≡ has_form e.now }
 {
     match &e.form {
-        Form::For(_, builder, binder, _, _, body) => is_sized(builder, binder.sym, body),
-        Form::Leaf(_) | Form::One(_, _) | Form::Two(_, _, _) | Form::Three(_, _, _, _) => false,
-        Form::Many(_, _) | Form::Let(_, _, _) | Form::Iterate(_, _, _) => false,
+        Form::For(_, builder, binder, _, _, body) => {
+            is_new_list(builder) && merges_once(body, binder.sym)
+        }
+        _ => false,
     }
-}
-
-/// Whether a loop from this builder, with this builder binder and body, is of the sized form. It
-/// takes no memory.
-pub(crate) fn is_sized(builder: &Expr, binder: Sym, body: &Expr) -> bool
-    ensures { result ≡ (is_new_list builder.now && merges_once body.now binder.0) }
-{
-    is_new_list(builder) && merges_once(body, binder)
 }
 
 /// Whether the expression is one `vecbuilder`.
@@ -64,7 +57,7 @@ fn merges_once(e: &Expr, binder: Sym) -> bool
 }
 
 /// Whether the expression is the name.
-fn is_that_name(e: &Expr, name: Sym) -> bool
+pub(crate) fn is_that_name(e: &Expr, name: Sym) -> bool
     ensures { result ≡ is_that_name e.now name.0 }
 {
     match &e.form {

@@ -1,13 +1,14 @@
-//! Which loops append to one list once a row: their list has as many items as there are rows, and
-//! can be reserved before the loop runs.
+//! The marks of loops: which append to one list once a row, so that the list has as many items as
+//! there are rows; and which are plain arithmetic on numbers of one kind, worked out side by side.
 #![tactic(auto)]
 
 mod count;
 mod form;
+mod lanes;
 mod marking;
 mod marks;
 
-pub use count::count_sized;
+pub use count::{count_lanes, count_sized};
 pub use form::has_sized_form;
 pub use marking::mark_sizes;
 pub use marks::Marks;

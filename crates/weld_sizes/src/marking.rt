@@ -3,9 +3,10 @@
 ghost use Rattle.std.specs.Prelude.{◌≡◌, ◌++◌, map, IfOk, OnOk};
 ghost use Rattle.weld_tree.specs.ExprTree.{pack_exprs, pack_legs};
 ghost use Rattle.weld_tree.specs.ExprView.{view_leg};
-ghost use Rattle.weld_sizes.specs.Sized.{sized_marks, marks_among, marks_in_leg, marks_in_legs};
+ghost use Rattle.weld_sizes.specs.Marks.{marks_among, marks_in_leg, marks_in_legs};
+ghost use Rattle.weld_sizes.specs.Sized.{has_sized_form as sized_form, sized_marks};
 
-use crate::form::is_sized;
+use crate::form::has_sized_form;
 use crate::marks::Marks;
 use std::alloc::{AllocError, Global};
 use weld_meaning::Accepted;
@@ -39,8 +40,8 @@ fn mark(e: &Expr, marks: &mut Marks) -> Result<(), AllocError>
             mark_two(second, third, marks)
         }
         Form::Many(_, parts) => mark_all(parts, marks),
-        Form::For(legs, builder, binder, _, _, body) => {
-            marks.push(is_sized(builder, binder.sym, body))?;
+        Form::For(legs, builder, _, _, _, body) => {
+            marks.push(has_sized_form(e))?;
             mark_legs(legs, marks)?;
             mark_two(builder, body, marks)
         }
@@ -58,7 +59,7 @@ fn mark_two(first: &Expr, second: &Expr, marks: &mut Marks) -> Result<(), AllocE
 #[cycle(mark)]
 #[tactic(auto, using(crate::proofs::Left::marks_left, crate::proofs::Left::no_marks_left, crate::proofs::Left::more_marks))]
 fn mark_all(parts: &Exprs, marks: &mut Marks) -> Result<(), AllocError>
-    ensures { OnOk result (marks.new ≡ marks.old ++ marks_among (pack_exprs parts.now)) }
+    ensures { OnOk result (marks.new ≡ marks.old ++ marks_among sized_form (pack_exprs parts.now)) }
 {
     for part in parts.as_slice() {
         mark(part, marks)?;
@@ -68,7 +69,7 @@ fn mark_all(parts: &Exprs, marks: &mut Marks) -> Result<(), AllocError>
 
 #[cycle(mark)]
 fn mark_leg(leg: &Leg, marks: &mut Marks) -> Result<(), AllocError>
-    ensures { OnOk result (marks.new ≡ marks.old ++ marks_in_leg (view_leg leg.now)) }
+    ensures { OnOk result (marks.new ≡ marks.old ++ marks_in_leg sized_form (view_leg leg.now)) }
 {
     match leg {
         Leg::Whole(e) => mark(e, marks),
@@ -83,7 +84,7 @@ fn mark_leg(leg: &Leg, marks: &mut Marks) -> Result<(), AllocError>
 #[cycle(mark)]
 #[tactic(auto, using(crate::proofs::Left::leg_marks_left, crate::proofs::Left::no_leg_marks_left, crate::proofs::Left::more_marks))]
 fn mark_legs(legs: &Legs, marks: &mut Marks) -> Result<(), AllocError>
-    ensures { OnOk result (marks.new ≡ marks.old ++ marks_in_legs (pack_legs legs.now)) }
+    ensures { OnOk result (marks.new ≡ marks.old ++ marks_in_legs sized_form (pack_legs legs.now)) }
 {
     for leg in legs.as_slice() {
         mark_leg(leg, marks)?;

@@ -1,16 +1,14 @@
-use Rattle.std.proofs.Common.{arith, ap, ◌≡◌, ◌∙◌, ◌<◌, ℕ, min}
+use Rattle.std.proofs.Common.{ap, ◌∙◌, ℕ, min}
 use Rattle.weld_tree.specs.ExprTree.{ExprTree}
 use Rattle.weld_tree.specs.Program.{ProgramTree}
-use Rattle.weld_sizes.specs.Sized.{set_among, sized_marks}
-use Rattle.weld_sizes.proofs.Few.{few_sized}
+use Rattle.weld_sizes.specs.Marks.{set_among}
+use Rattle.weld_sizes.specs.Sized.{has_sized_form, sized_marks}
+use Rattle.weld_sizes.proofs.Few.{few_of, capped}
 use Rattle.weld_sizes.proofs.count.count_sized.Goals as goal
-
-capped : (n m : ℕ) → n ≡ min m 18446744073709551615 → m < 4294967295 → n ≡ m
-capped n m e l = omega (arith, e, l)
 
 pub returns : goal.returns
 returns c =
     let program : ProgramTree = record { params = c.p.inside.params; body = c.p.inside.body.value } in
     let counted = ap (λ (e : ExprTree). set_among (sized_marks e)) c.deref.ensures in
-    capped c.count.result (set_among (sized_marks program.body)) (c.count.ensures ∙ ap (λ (n : ℕ). min n 18446744073709551615) counted) (few_sized program c.p.invariant)
+    capped c.count.result (set_among (sized_marks program.body)) (c.count.ensures ∙ ap (λ (n : ℕ). min n 18446744073709551615) counted) (few_of has_sized_form program c.p.invariant)
     ∙ ap (λ (q : ProgramTree). set_among (sized_marks q.body)) c.p.view_is

@@ -2,7 +2,8 @@ use Rattle.std.proofs.Common.{◌≡◌, ◌+◌, ◌*◌, ◌++◌, drop, map}
 use Rattle.weld_tree.specs.ExprTree.{pack_exprs, pack_legs}
 use Rattle.weld_tree.specs.ExprView.{view_leg}
 use Rattle.weld_tree.specs.ExprFalls.{expr_nodes, exprs_nodes, leg_nodes, legs_nodes}
-use Rattle.weld_sizes.specs.Sized.{marks_among, marks_in_legs}
+use Rattle.weld_sizes.specs.Marks.{marks_among, marks_in_legs}
+use Rattle.weld_sizes.specs.Sized.{has_sized_form}
 use Rattle.weld_sizes.proofs.marking.+mark.Given as goal
 
 abbrev pub decreases-mark : goal.decreases-mark
@@ -24,8 +25,8 @@ decreases-mark_legs l = 4 * legs_nodes (pack_legs l.legs.now) + 3
 
 abbrev pub invariant-mark_all-loop-part : goal.invariant-mark_all-loop-part
 invariant-mark_all-loop-part l =
-    l.initial.marks ++ marks_among (pack_exprs l.part-items) ≡ l.marks ++ marks_among (pack_exprs (drop l.part-index l.part-items))
+    l.initial.marks ++ marks_among has_sized_form (pack_exprs l.part-items) ≡ l.marks ++ marks_among has_sized_form (pack_exprs (drop l.part-index l.part-items))
 
 abbrev pub invariant-mark_legs-loop-leg : goal.invariant-mark_legs-loop-leg
 invariant-mark_legs-loop-leg l =
-    l.initial.marks ++ marks_in_legs (pack_legs (map view_leg l.leg-items)) ≡ l.marks ++ marks_in_legs (pack_legs (map view_leg (drop l.leg-index l.leg-items)))
+    l.initial.marks ++ marks_in_legs has_sized_form (pack_legs (map view_leg l.leg-items)) ≡ l.marks ++ marks_in_legs has_sized_form (pack_legs (map view_leg (drop l.leg-index l.leg-items)))
