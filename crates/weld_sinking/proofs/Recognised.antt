@@ -68,13 +68,13 @@ abbrev pub Numbered : ℕ → ExprTree → ℕ → ExprTree → Type 0
 Numbered n h d g = (ends_in_merge d g ≡ true) ⊎ (uses h n ≡ 0)
 
 -- one of both
-abbrev AtMade : ℕ → ExprTree → (ExprTree → Type 0) → Type 0
+abbrev pub AtMade : ℕ → ExprTree → (ExprTree → Type 0) → Type 0
 AtMade n h P =
     (p o : At) (item : TypeTree) (ks : LegTrees) (d i r : Binder) (g : ExprTree) → is_spine d.sym.0 g ≡ true → merges g ≡ 1 → Numbered n h d.sym.0 g
     → P (loop p ks (leaf o (fresh (list item))) d i r g)
 
 module _ (n : ℕ) (h : ExprTree) where
-  made_by : (P : ExprTree → Type 0) → AtMade n h P → (q : ExprTree) → is_made n h q ≡ true → P q
+  pub made_by : (P : ExprTree → Type 0) → AtMade n h P → (q : ExprTree) → is_made n h q ≡ true → P q
   made_by P f q m = by (or_true (is_producer q) (is_filter q && (uses h n == 0)) m)
     where
       by : (is_producer q ≡ true) ⊎ ((is_filter q && (uses h n == 0)) ≡ true) → P q
