@@ -1,6 +1,8 @@
 pub mod Spine
 pub mod Seen
 pub mod Related
+pub mod Grafting
+pub mod Arms
 pub mod Handing
 pub mod SinkPlaced
 pub mod SinkMeans

@@ -4,13 +4,13 @@ use Rattle.std.proofs.lemmas.Bool.{cases_eq}
 use Rattle.weld_tree.specs.declared.binder.Binder.{Binder}
 use Rattle.weld_tree.specs.declared.known.Known.TheVariants.{Is}
 use Rattle.weld_tree.specs.TypeTree.{TypeTree, build, list}
-use Rattle.weld_tree.specs.Types.{IsBuilderFree, IsWellFormed, takes as taken_type}
-use Rattle.weld_tree.specs.ExprTree.{At, ExprTree, leaf, two, let_in, name, merge}
+use Rattle.weld_tree.specs.Types.{IsBuilderFree, IsWellFormed}
+use Rattle.weld_tree.specs.ExprTree.{At, ExprTree, leaf, two, three, let_in, name, merge, if_else}
 use Rattle.weld_meaning.specs.Environment.{Named, look_for}
-use Rattle.weld_meaning.specs.Typing.{Types, AreFormed, NoteFits, place_type, body_types}
-use Rattle.weld_meaning.specs.Origin.{Path, Origin, value, known_origin, origin_of_name, origin, own_paths, from_within, outside, in_body}
-use Rattle.weld_meaning.specs.Linear.{IsSeen}
-use Rattle.weld_meaning.specs.Available.{Taken, takes, without, is_builder_path}
+use Rattle.weld_meaning.specs.Typing.{Types, AreFormed, NoteFits, place_type, HasType, body_types}
+use Rattle.weld_meaning.specs.Origin.{Path, Origin, value, known_origin, origin_of_name, origin, own_paths, from_within, outside, in_body, by_name}
+use Rattle.weld_meaning.specs.Linear.{IsSeen, IsNotMade}
+use Rattle.weld_meaning.specs.Available.{Taken, Apart, TakesAll, takes, without, is_below, is_builder_path}
 use Rattle.weld_meaning.specs.Names.{IsFree, AgreeOn, Binds}
 use Rattle.weld_meaning.proofs.Before.{origin_outside}
 use Rattle.weld_meaning.proofs.FreeNames.{origin_free, taken_free}
@@ -20,17 +20,19 @@ use Rattle.weld_meaning.proofs.WellFormed.{type_formed, formed_bind}
 use Rattle.weld_replacing.specs.Forms.{NamesHaveForms}
 use Rattle.weld_replacing.specs.Placed.{IsPlaced}
 use Rattle.weld_replacing.proofs.Forms.{names_form, names_have, free_origin, no_builder_path, chain_takes_none}
-use Rattle.weld_replacing.proofs.Parts.{second_of_two, value_of_let, body_of_let}
+use Rattle.weld_replacing.proofs.Parts.{first_of_three, second_of_three, third_of_three, value_of_let, body_of_let}
 use Rattle.weld_putting.proofs.Bindings.{agree_over, agree_after}
 use Rattle.weld_putting.proofs.Chains.{or_true, taken_builds, taken_named}
-use Rattle.weld_putting.proofs.Following.{or_left, or_right}
+use Rattle.weld_putting.proofs.Following.{or_left, or_right, same_truth, chain_takes_it}
 use Rattle.weld_putting.proofs.Values.{look_behind}
 use Rattle.weld_putting.proofs.Gaining.{without_is, else_without}
 use Rattle.weld_putting.proofs.Unnamed.{binds_so, kept_seen}
 use Rattle.weld_substitution.specs.Uses.{uses}
 use Rattle.weld_substitution.proofs.UsedNames.{used_or_free}
-use Rattle.weld_sinking.specs.Sinking.{at_of, sunk, ends_in_merge}
+use Rattle.weld_sinking.specs.Sinking.{at_of, is_spine, sunk}
 use Rattle.weld_sinking.proofs.Spine.{spine_by}
+use Rattle.weld_sinking.proofs.Grafting.{grafted, own_not_made, own_seen}
+use Rattle.weld_sinking.proofs.Arms.{merged_typed, Names, Answers, name_answers, let_answers, if_answers, merge_answers, names_by_name}
 use Rattle.weld_sinking.proofs.Seen.{seen_no_path}
 use Rattle.weld_sinking.proofs.Related.{IsAside, IsElse, IsBehind, placed_free, let_placed, let_taken}
 
@@ -52,6 +54,7 @@ module _ (d i : ℕ) (a : At) (b n x : Binder) (f : ExprTree) (item builder : Ty
     pub row_note : NoteFits x.note item
     pub body : IsPlaced f consumer_types consumer_origins builder
     pub comes : origin f consumer_origins ≡ own_paths start
+    pub all : TakesAll b.sym.0 (own_paths start) (takes f consumer_origins)
     pub builder_number : b.sym.0 ≢ n.sym.0
     pub builder_row : b.sym.0 ≢ x.sym.0
 
@@ -76,6 +79,8 @@ module _ (d i : ℕ) (a : At) (b n x : Binder) (f : ExprTree) (item builder : Ty
     pub behind_origins : AgreeOn Behind ((b.sym.0, own_paths start) ∷ outside around) q
     pub number_type : look_for i k ≡ Some place_type
     pub number_origin : look_for i q ≡ Some value
+    pub builder_type : look_for b.sym.0 k ≡ Some builder
+    pub builder_origin : look_for b.sym.0 q ≡ Some (own_paths start)
     pub formed : AreFormed k
     pub forms : NamesHaveForms q k
 
@@ -90,17 +95,19 @@ module _ (d i : ℕ) (a : At) (b n x : Binder) (f : ExprTree) (item builder : Ty
     behind_origins = agree_after Behind _ q ((z, o) ∷ q) r.behind_origins (agree_over Behind z o q (λ f. c.4 f.0));
     number_type = look_over i z u k place_type c.2 r.number_type;
     number_origin = look_over i z o q value c.2 r.number_origin;
+    builder_type = look_over b.sym.0 z u k builder c.1 r.builder_type;
+    builder_origin = look_over b.sym.0 z o q (own_paths start) c.1 r.builder_origin;
     formed = formed_bind k z u w r.formed;
     forms = names_have (forms_bind q k z o u m (names_form r.forms));
   }
 
   -- what is to be shown of the producer's body with the consumer sunk into it
   pub record Sunk (h k : Types) (p q : Named Origin) (g : ExprTree) : Type 0 where
-    pub placed : IsPlaced (sunk a.ty i n x f g) k q builder
-    pub comes : origin (sunk a.ty i n x f g) q ≡ own_paths start
-    pub to : (s : ℕ) (w : Path) → takes (sunk a.ty i n x f g) q s w ≡ true → ((s ≢ d) × (takes g p s w ≡ true)) ⊎ (s ≡ b.sym.0)
-    pub back : (s : ℕ) (w : Path) → s ≢ d → takes g p s w ≡ true → takes (sunk a.ty i n x f g) q s w ≡ true
-    pub whole : (w : Path) → takes f consumer_origins b.sym.0 w ≡ true → takes (sunk a.ty i n x f g) q b.sym.0 w ≡ true
+    pub placed : IsPlaced (sunk a.ty b.sym.0 i n x f g) k q builder
+    pub comes : origin (sunk a.ty b.sym.0 i n x f g) q ≡ own_paths start
+    pub to : (s : ℕ) (w : Path) → takes (sunk a.ty b.sym.0 i n x f g) q s w ≡ true → ((s ≢ d) × (takes g p s w ≡ true)) ⊎ (s ≡ b.sym.0)
+    pub back : (s : ℕ) (w : Path) → s ≢ d → takes g p s w ≡ true → takes (sunk a.ty b.sym.0 i n x f g) q s w ≡ true
+    pub whole : (w : Path) → is_builder_path (own_paths start) w ≡ true → takes (sunk a.ty b.sym.0 i n x f g) q b.sym.0 w ≡ true
 
   abbrev pub Sinks : ExprTree → Type 0
   Sinks g = (h k : Types) (p q : Named Origin) → Binds Clear g → (IsFree g b.sym.0 → ⊥) → (IsFree g n.sym.0 → ⊥) → Related h k p q → IsPlaced g h p (build (list item)) → Sunk h k p q g
@@ -110,6 +117,31 @@ module _ (d i : ℕ) (a : At) (b n x : Binder) (f : ExprTree) (item builder : Ty
 
   else_of : (v : ExprTree) → (IsFree v d → ⊥) → (IsFree v b.sym.0 → ⊥) → (s : ℕ) → IsFree v s → Else s
   else_of v not_d not_b s f = ((λ e. not_d (subst (IsFree v) e f)), (λ e. not_b (subst (IsFree v) e f)))
+
+  -- ---- the name of the producer's builder
+
+  below_all : (y : Path) → is_below [] y ≡ true
+  below_all [] = refl
+  below_all (m ∷ y) = below_all y
+
+  sinks_name : Consumer → (w : At) → Sinks (leaf w (name d))
+  sinks_name known w h k p q c nb nn r m =
+      let from : origin_of_name b.sym.0 q ≡ own_paths start = ap known_origin r.builder_origin in
+      record {
+        placed = record {
+          formed = r.formed;
+          forms = r.forms;
+          typed = r.builder_type;
+          keeps = subst IsSeen (sym from) (own_seen start);
+          splits = tt;
+          noted = (builder, known.note, r.builder_type);
+        };
+        comes = from;
+        to = λ s y e. inr (taken_named (leaf (at_of w a.ty) (name b.sym.0)) q s y e);
+        back = λ s y ne e. absurd (ne (taken_named (leaf w (name d)) p s y e));
+        whole = λ y e.
+            chain_takes_it (leaf (at_of w a.ty) (name b.sym.0)) (b.sym.0, []) q b.sym.0 y refl refl (below_all y) (subst (λ o. is_builder_path o y ≡ true) (sym from) e);
+      }
 
   -- ---- a `let` of the producer's
 
@@ -128,16 +160,16 @@ module _ (d i : ℕ) (a : At) (b n x : Binder) (f : ExprTree) (item builder : Ty
       let it = sinks ((z.sym.0, u) ∷ h) ((z.sym.0, u) ∷ k) ((z.sym.0, o) ∷ p) ((z.sym.0, o) ∷ q) c.2 (λ f. nb (inr (f, λ e. c.0.1 (sym e)))) (λ f. nn (inr (f, λ e. c.0.3 (sym e)))) inner (body_of_let w z v g h p (build (list item)) m) in
       record {
         placed =
-            let_placed (at_of w a.ty) z v (sunk a.ty i n x f g) k q u builder o from known.note m.typed.2 there it.placed
-            (record { apart = λ s y e l. apart same it s y e (without_is z.sym.0 s y (takes (sunk a.ty i n x f g) ((z.sym.0, o) ∷ q)) l) })
+            let_placed (at_of w a.ty) z v (sunk a.ty b.sym.0 i n x f g) k q u builder o from known.note m.typed.2 there it.placed
+            (record { apart = λ s y e l. apart same it s y e (without_is z.sym.0 s y (takes (sunk a.ty b.sym.0 i n x f g) ((z.sym.0, o) ∷ q)) l) })
             (record { all = λ y e. it.back z.sym.0 y c.0.0 (m.splits.3.all y e) });
-        comes = ap (λ y. origin (sunk a.ty i n x f g) ((z.sym.0, y) ∷ q)) from ∙ it.comes;
-        to = λ s y e. to same it s y (or_true (takes v q s y) (without z.sym.0 (takes (sunk a.ty i n x f g) ((z.sym.0, o) ∷ q)) s y) (sym (let_taken (at_of w a.ty) z v (sunk a.ty i n x f g) q o from s y) ∙ e));
-        back = λ s y ne e. let_taken (at_of w a.ty) z v (sunk a.ty i n x f g) q o from s y ∙ back same it s y ne (or_true (takes v p s y) (without z.sym.0 (takes g ((z.sym.0, o) ∷ p)) s y) e);
+        comes = ap (λ y. origin (sunk a.ty b.sym.0 i n x f g) ((z.sym.0, y) ∷ q)) from ∙ it.comes;
+        to = λ s y e. to same it s y (or_true (takes v q s y) (without z.sym.0 (takes (sunk a.ty b.sym.0 i n x f g) ((z.sym.0, o) ∷ q)) s y) (sym (let_taken (at_of w a.ty) z v (sunk a.ty b.sym.0 i n x f g) q o from s y) ∙ e));
+        back = λ s y ne e. let_taken (at_of w a.ty) z v (sunk a.ty b.sym.0 i n x f g) q o from s y ∙ back same it s y ne (or_true (takes v p s y) (without z.sym.0 (takes g ((z.sym.0, o) ∷ p)) s y) e);
         whole = λ y e.
-            let_taken (at_of w a.ty) z v (sunk a.ty i n x f g) q o from b.sym.0 y
-            ∙ or_right (takes v q b.sym.0 y) (without z.sym.0 (takes (sunk a.ty i n x f g) ((z.sym.0, o) ∷ q)) b.sym.0 y)
-            (else_without z.sym.0 b.sym.0 y (takes (sunk a.ty i n x f g) ((z.sym.0, o) ∷ q)) c.0.1 (it.whole y e));
+            let_taken (at_of w a.ty) z v (sunk a.ty b.sym.0 i n x f g) q o from b.sym.0 y
+            ∙ or_right (takes v q b.sym.0 y) (without z.sym.0 (takes (sunk a.ty b.sym.0 i n x f g) ((z.sym.0, o) ∷ q)) b.sym.0 y)
+            (else_without z.sym.0 b.sym.0 y (takes (sunk a.ty b.sym.0 i n x f g) ((z.sym.0, o) ∷ q)) c.0.1 (it.whole y e));
       }
     where
       now : Named Origin
@@ -147,7 +179,7 @@ module _ (d i : ℕ) (a : At) (b n x : Binder) (f : ExprTree) (item builder : Ty
       before = (z.sym.0, origin v p) ∷ p
 
       inside : ExprTree
-      inside = sunk a.ty i n x f g
+      inside = sunk a.ty b.sym.0 i n x f g
 
       It : Type 0
       It = Sunk ((z.sym.0, m.typed.0) ∷ h) ((z.sym.0, m.typed.0) ∷ k) before now g
@@ -176,6 +208,137 @@ module _ (d i : ℕ) (a : At) (b n x : Binder) (f : ExprTree) (item builder : Ty
       back same it s y ne (inr e) =
           let l = without_is z.sym.0 s y (takes g before) e in
           or_right (takes v q s y) (without z.sym.0 (takes inside now) s y) (else_without z.sym.0 s y (takes inside now) l.0 (it.back s y ne l.1))
+
+  -- ---- an `if` of the producer's
+
+  -- the sunk one answers the consumer's builder where each name is its own origin
+  abbrev Gives : Consumer → ExprTree → Type 0
+  Gives known g = Answers a.ty d i b n x f item known.item_formed known.item_free start around known.comes g
+
+  sinks_if : (known : Consumer) → (w : At) (c e g : ExprTree) → uses c d ≡ 0 → Gives known e → Gives known g → Sinks e → Sinks g → Sinks (three w if_else c e g)
+  sinks_if known w c e g none first_gives second_gives first second h k p q cl nb nn r m = record {
+    placed = record {
+      formed = r.formed;
+      forms = r.forms;
+      typed = typed;
+      keeps = (
+        there.keeps,
+        one.placed.keeps,
+        other.placed.keeps,
+        record { same = first_answers ∙ sym second_answers; not_made = subst IsNotMade (sym first_answers) (own_not_made b.sym.0 start) },
+      );
+      splits = (
+        there.splits,
+        one.placed.splits,
+        other.placed.splits,
+        record { apart = λ s y j l. apart e (sink e) m.splits.3 one.to s y j l },
+        record { apart = λ s y j l. apart g (sink g) m.splits.4 other.to s y j l },
+        record { alike = alike },
+      );
+      noted = (there.noted, one.placed.noted, other.placed.noted, (builder, known.note, typed));
+    };
+    comes = one.comes;
+    to = λ s y j. to s y (or_true (takes c q s y) (takes (sink e) q s y || takes (sink g) q s y) j);
+    back = λ s y ne j. back s y ne (or_true (takes c p s y) (takes e p s y || takes g p s y) j);
+    whole = λ y j.
+        or_right (takes c q b.sym.0 y) (takes (sink e) q b.sym.0 y || takes (sink g) q b.sym.0 y)
+        (or_left (takes (sink e) q b.sym.0 y) (takes (sink g) q b.sym.0 y) (one.whole y j));
+  }
+    where
+      sink : ExprTree → ExprTree
+      sink y = sunk a.ty b.sym.0 i n x f y
+
+      other_name : (s : ℕ) → IsFree c s → Else s
+      other_name = else_of c (unnamed c cl.0 none) (λ y. nb (inl y))
+
+      origins : AgreeOn (IsFree c) p q
+      origins = agree_less Else (IsFree c) p q other_name r.origins
+
+      there : IsPlaced c k q m.typed.0
+      there =
+          placed_free c h k p q m.typed.0 (agree_less Else (IsFree c) h k other_name r.types) origins r.formed r.forms
+          (first_of_three w if_else c e g h p (build (list item)) m)
+
+      first_placed : IsPlaced e h p (build (list item))
+      first_placed = subst (IsPlaced e h p) m.typed.6.1 (second_of_three w if_else c e g h p (build (list item)) m)
+
+      second_placed : IsPlaced g h p (build (list item))
+      second_placed = subst (IsPlaced g h p) m.typed.6.2 (third_of_three w if_else c e g h p (build (list item)) m)
+
+      one : Sunk h k p q e
+      one = first h k p q cl.1 (λ y. nb (inr (inl y))) (λ y. nn (inr (inl y))) r first_placed
+
+      other : Sunk h k p q g
+      other = second h k p q cl.2 (λ y. nb (inr (inr y))) (λ y. nn (inr (inr y))) r second_placed
+
+      typed : HasType (three (at_of w a.ty) if_else c (sink e) (sink g)) k builder
+      typed = (m.typed.0, builder, builder, there.typed, one.placed.typed, other.placed.typed, (m.typed.6.0, refl, refl))
+
+      names : Names a.ty d i b n x f item known.item_formed known.item_free start around known.comes k (by_name q)
+      names = names_by_name a.ty d i b n x f item known.item_formed known.item_free start around known.comes k q r.behind_origins r.builder_origin r.number_origin r.formed (names_form r.forms)
+
+      first_answers : origin (sink e) (by_name q) ≡ grafted b.sym.0 (own_paths start)
+      first_answers =
+          first_gives h k (by_name q) cl.1 (λ y. nb (inr (inl y))) (λ y. nn (inr (inl y))) r.types first_placed.typed names
+
+      second_answers : origin (sink g) (by_name q) ≡ grafted b.sym.0 (own_paths start)
+      second_answers =
+          second_gives h k (by_name q) cl.2 (λ y. nb (inr (inr y))) (λ y. nn (inr (inr y))) r.types second_placed.typed names
+
+      taken_same : takes c p ≡ takes c q
+      taken_same = taken_free c p q origins
+
+      apart : (y z : ExprTree) → Apart (takes c p) (takes y p) → ((s : ℕ) (w : Path) → takes z q s w ≡ true → ((s ≢ d) × (takes y p s w ≡ true)) ⊎ (s ≡ b.sym.0)) → (s : ℕ) (w : Path) → takes c q s w ≡ true → takes z q s w ≡ true → ⊥
+      apart y z parts to s w j l = by (to s w l)
+        where
+          by : ((s ≢ d) × (takes y p s w ≡ true)) ⊎ (s ≡ b.sym.0) → ⊥
+          by (inl t) = parts.apart s w (ap (λ (t : Taken). t s w) taken_same ∙ j) t.1
+          by (inr t) = nb (inl (subst (IsFree c) t (taken_named c q s w j)))
+
+      -- each arm takes all of the consumer's builder, and else what the other's takes
+      builder_path : (s : ℕ) (w : Path) (y : ExprTree) → s ≡ b.sym.0 → takes y q s w ≡ true → is_builder_path (own_paths start) w ≡ true
+      builder_path s w y e t =
+          subst (λ o. is_builder_path o w ≡ true) (ap (λ j. origin_of_name j q) e ∙ ap known_origin r.builder_origin) (taken_builds y q s w t)
+
+      across : (y z : ExprTree) → Sunk h k p q y → Sunk h k p q z → ((s : ℕ) (w : Path) → takes y p s w ≡ takes z p s w) → (s : ℕ) (w : Path) → takes (sink y) q s w ≡ true → takes (sink z) q s w ≡ true
+      across y z u v same s w t = by (u.to s w t)
+        where
+          by : ((s ≢ d) × (takes y p s w ≡ true)) ⊎ (s ≡ b.sym.0) → takes (sink z) q s w ≡ true
+          by (inl l) = v.back s w l.0 (sym (same s w) ∙ l.1)
+          by (inr e) = subst (λ j. takes (sink z) q j w ≡ true) (sym e) (v.whole w (builder_path s w (sink y) e t))
+
+      alike : (s : ℕ) (w : Path) → takes (sink e) q s w ≡ takes (sink g) q s w
+      alike s w =
+          same_truth (takes (sink e) q s w) (takes (sink g) q s w) (across e g one other m.splits.5.alike s w)
+          (across g e other one (λ t y. sym (m.splits.5.alike t y)) s w)
+
+      Was : ℕ → Path → Type 0
+      Was s y = ((s ≢ d) × (takes (three w if_else c e g) p s y ≡ true)) ⊎ (s ≡ b.sym.0)
+
+      to : (s : ℕ) (y : Path) → (takes c q s y ≡ true) ⊎ ((takes (sink e) q s y || takes (sink g) q s y) ≡ true) → Was s y
+      to s y (inl j) =
+          inl ((λ t. unnamed c cl.0 none (subst (IsFree c) t (taken_named c q s y j))), or_left (takes c p s y) (takes e p s y || takes g p s y) (ap (λ (t : Taken). t s y) taken_same ∙ j))
+      to s y (inr j) = by (or_true (takes (sink e) q s y) (takes (sink g) q s y) j)
+        where
+          in_first : ((s ≢ d) × (takes e p s y ≡ true)) ⊎ (s ≡ b.sym.0) → Was s y
+          in_first (inl t) = inl (t.0, or_right (takes c p s y) (takes e p s y || takes g p s y) (or_left (takes e p s y) (takes g p s y) t.1))
+          in_first (inr t) = inr t
+
+          in_second : ((s ≢ d) × (takes g p s y ≡ true)) ⊎ (s ≡ b.sym.0) → Was s y
+          in_second (inl t) = inl (t.0, or_right (takes c p s y) (takes e p s y || takes g p s y) (or_right (takes e p s y) (takes g p s y) t.1))
+          in_second (inr t) = inr t
+
+          by : (takes (sink e) q s y ≡ true) ⊎ (takes (sink g) q s y ≡ true) → Was s y
+          by (inl l) = in_first (one.to s y l)
+          by (inr l) = in_second (other.to s y l)
+
+      back : (s : ℕ) (y : Path) → s ≢ d → (takes c p s y ≡ true) ⊎ ((takes e p s y || takes g p s y) ≡ true) → (takes c q s y || (takes (sink e) q s y || takes (sink g) q s y)) ≡ true
+      back s y ne (inl j) = or_left (takes c q s y) (takes (sink e) q s y || takes (sink g) q s y) (sym (ap (λ (t : Taken). t s y) taken_same) ∙ j)
+      back s y ne (inr j) = or_right (takes c q s y) (takes (sink e) q s y || takes (sink g) q s y) (by (or_true (takes e p s y) (takes g p s y) j))
+        where
+          by : (takes e p s y ≡ true) ⊎ (takes g p s y ≡ true) → (takes (sink e) q s y || takes (sink g) q s y) ≡ true
+          by (inl l) = or_left (takes (sink e) q s y) (takes (sink g) q s y) (one.back s y ne l)
+          by (inr l) = or_right (takes (sink e) q s y) (takes (sink g) q s y) (other.back s y ne l)
 
   -- ---- what the consumer's body takes is its builder
 
@@ -230,7 +393,7 @@ module _ (d i : ℕ) (a : At) (b n x : Binder) (f : ExprTree) (item builder : Ty
         (else_without n.sym.0 b.sym.0 y (takes rest q1) (λ t. known.builder_number (sym t))
         (let_taken node x v f q1 value from_value b.sym.0 y
         ∙ or_right (takes v q1 b.sym.0 y) (without x.sym.0 (takes f q2) b.sym.0 y)
-        (else_without x.sym.0 b.sym.0 y (takes f q2) (λ t. known.builder_row (sym t)) (sym (ap (λ (t : Taken). t b.sym.0 y) body_taken) ∙ e))));
+        (else_without x.sym.0 b.sym.0 y (takes f q2) (λ t. known.builder_row (sym t)) (sym (ap (λ (t : Taken). t b.sym.0 y) body_taken) ∙ known.all.all y e))));
   }
     where
       node : At
@@ -265,8 +428,14 @@ module _ (d i : ℕ) (a : At) (b n x : Binder) (f : ExprTree) (item builder : Ty
 
       value_placed : IsPlaced v h p item
       value_placed =
-          let same : list item ≡ m.typed.4.0 = let e : build (list item) ≡ build m.typed.4.0 = m.typed.4.3 ∙ m.typed.4.1 in cc in
-          subst (IsPlaced v h p) (m.typed.4.2 ∙ ap taken_type (sym same)) (second_of_two w merge (leaf c (name d)) v h p (build (list item)) m)
+          record {
+            formed = m.formed;
+            forms = m.forms;
+            typed = merged_typed w c d v h item m.typed;
+            keeps = m.keeps.1;
+            splits = m.splits.1;
+            noted = m.noted.1;
+          }
 
       value_origins : AgreeOn (IsFree v) p q1
       value_origins = agree_after (IsFree v) p q q1 (agree_less Else (IsFree v) p q (else_of v not_d not_b) r.origins) (agree_over (IsFree v) n.sym.0 value q not_n)
@@ -345,5 +514,12 @@ module _ (d i : ℕ) (a : At) (b n x : Binder) (f : ExprTree) (item builder : Ty
 
   -- ---- the producer's body
 
-  pub sinks_all : Consumer → (g : ExprTree) → ends_in_merge d g ≡ true → uses g d ≡ 1 → Sinks g
-  sinks_all known = spine_by d Sinks (sinks_let known) (sinks_merge known)
+  abbrev Both : Consumer → ExprTree → Type 0
+  Both known g = Gives known g × Sinks g
+
+  pub sinks_all : Consumer → (g : ExprTree) → is_spine d g ≡ true → Sinks g
+  sinks_all known g h =
+      (spine_by d (Both known) (λ w. (name_answers a.ty d i b n x f item known.item_formed known.item_free start around known.comes w, sinks_name known w))
+      (λ w z v g none k. (let_answers a.ty d i b n x f item known.item_formed known.item_free start around known.comes w z v g none k.0, sinks_let known w z v g none k.1))
+      (λ w c e g none k l. (if_answers a.ty d i b n x f item known.item_formed known.item_free start around known.comes w c e g none k.0 l.0, sinks_if known w c e g none k.0 l.0 k.1 l.1))
+      (λ w c v none. (merge_answers a.ty d i b n x f item known.item_formed known.item_free start around known.comes w c v none, sinks_merge known w c v none)) g h).1

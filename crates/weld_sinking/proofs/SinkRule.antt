@@ -18,7 +18,7 @@ use Rattle.weld_meaning.specs.Evaluation.{Env, Row, whole_number, with_row, rows
 use Rattle.weld_meaning.specs.Origin.{Origin, value, made, origin, own_paths, outside, in_body}
 use Rattle.weld_meaning.specs.Available.{takes, legs_take}
 use Rattle.weld_meaning.specs.Names.{IsFree, AgreeOn, Binds, answer_of}
-use Rattle.weld_meaning.proofs.Names.{agree_bind, same_answers}
+use Rattle.weld_meaning.proofs.Names.{agree_bind, eval_free, same_answers}
 use Rattle.weld_meaning.proofs.OneType.{one_type}
 use Rattle.weld_meaning.proofs.OriginTypes.{origin_forms, forms_in_body}
 use Rattle.weld_meaning.proofs.WellFormed.{type_formed, formed_body, row_formed}
@@ -38,13 +38,13 @@ use Rattle.weld_putting.proofs.Clear.{first_of, second_of, binds_each}
 use Rattle.weld_putting.proofs.Following.{or_left}
 use Rattle.weld_putting.proofs.Unnamed.{binds_so}
 use Rattle.weld_substitution.specs.Uses.{uses}
-use Rattle.weld_sinking.specs.Sinking.{ends_in_merge, is_consumer, sunk, fused}
-use Rattle.weld_sinking.proofs.Spine.{sunk_counted, Named as NamedIn, sunk_named}
+use Rattle.weld_sinking.specs.Sinking.{is_spine, merges, is_consumer, sunk, fused}
+use Rattle.weld_sinking.proofs.Spine.{sunk_counted, unnamed, Named as NamedIn, sunk_named}
 use Rattle.weld_sinking.proofs.Related.{IsAside, IsElse, IsBehind}
 use Rattle.weld_sinking.proofs.SinkPlaced.{Consumer, Related, Sunk, sinks_all}
-use Rattle.weld_sinking.proofs.SinkMeans.{row_value, row_appends, row_value_free, row_hands}
-use Rattle.weld_sinking.proofs.Recognised.{consumer_by}
-use Rattle.weld_sinking.proofs.Handing.{then_then, answers_at, answers, answers_swap, collect, run_collects, handed, run_rows, elements_collected, one_leg}
+use Rattle.weld_sinking.proofs.SinkMeans.{row_values, row_single, row_appends, row_values_free, row_hands}
+use Rattle.weld_sinking.proofs.Recognised.{Numbered, consumer_by}
+use Rattle.weld_sinking.proofs.Handing.{then_then, answers_at, answers, answers_swap, collect, list_of, run_collects, Steps, steps_of_one, steps_of_any, handed, run_rows, elements_collected, one_leg}
 
 -- ---- types
 
@@ -63,7 +63,7 @@ twice_more : (c : Bool) → c ≡ ((c || false) || false)
 twice_more true = refl
 twice_more false = refl
 
-module _ (a m p o : At) (item : TypeTree) (ks : LegTrees) (d i r : Binder) (g e : ExprTree) (b n x : Binder) (f : ExprTree) (ends : ends_in_merge d.sym.0 g ≡ true) (once : uses g d.sym.0 ≡ 1) where
+module _ (a m p o : At) (item : TypeTree) (ks : LegTrees) (d i r : Binder) (g e : ExprTree) (b n x : Binder) (f : ExprTree) (spine : is_spine d.sym.0 g ≡ true) (once : merges g ≡ 1) (numbered : Numbered n.sym.0 f d.sym.0 g) where
   abbrev empty : ExprTree
   empty = leaf o (fresh (list item))
 
@@ -80,7 +80,7 @@ module _ (a m p o : At) (item : TypeTree) (ks : LegTrees) (d i r : Binder) (g e 
   pattern = loop a only e b n x f
 
   abbrev body : ExprTree
-  body = sunk a.ty i.sym.0 n x f g
+  body = sunk a.ty b.sym.0 i.sym.0 n x f g
 
   abbrev answer : ExprTree
   answer = loop a ks e b i r body
@@ -112,6 +112,9 @@ module _ (a m p o : At) (item : TypeTree) (ks : LegTrees) (d i r : Binder) (g e 
     pub behind_row : IsFree f r.sym.0 → ⊥
     pub builder_number : b.sym.0 ≢ n.sym.0
     pub builder_row : b.sym.0 ≢ x.sym.0
+    pub builder_count : b.sym.0 ≢ i.sym.0
+    pub builder_item : b.sym.0 ≢ r.sym.0
+    pub own_number : Binds (λ z. n.sym.0 ≢ z) f
 
   tidily : IsTidy pattern → Tidily
   tidily tidy = record {
@@ -129,6 +132,9 @@ module _ (a m p o : At) (item : TypeTree) (ks : LegTrees) (d i r : Binder) (g e 
     behind_row = not_free r.sym.0 (inr (inr (inl refl)));
     builder_number = λ q. own.0 (inl q);
     builder_row = λ q. own.0 (inr (inl q));
+    builder_count = λ q. apart b.sym.0 (inr (inl q)) (inl refl);
+    builder_item = λ q. apart b.sym.0 (inr (inr (inl q))) (inl refl);
+    own_number = binds_each f (λ z. n.sym.0 ≢ z) (λ z h q. own.1.0 (subst (IsOneOf (x.sym.0 ∷ bound f)) (sym q) (inr h)));
   }
     where
       once_each : (s : ℕ) → times (bound pattern) s ≤ 1
@@ -184,7 +190,7 @@ module _ (a m p o : At) (item : TypeTree) (ks : LegTrees) (d i r : Binder) (g e 
 
   sunk_there : IsTidy pattern → (types : Types) (around : Named Origin) (t : TypeTree) (q : IsPlaced pattern types around t) (k : Known types around t q) → Place types around t k.producer.typed.1
   sunk_there tidy types around t q k =
-      sinks_all d.sym.0 i.sym.0 a b n x f item t types around (origin e around) consumer g ends once (body_types d i r (build (list item)) row types) (body_types b i r t row types) (in_body d i r made around)
+      sinks_all d.sym.0 i.sym.0 a b n x f item t types around (origin e around) consumer g spine (body_types d i r (build (list item)) row types) (body_types b i r t row types) (in_body d i r made around)
       (in_body b i r (origin e around) around) w.aside w.not_builder w.not_number related (body_of_loop p ks empty d i r g types around (build (list item)) k.producer)
     where
       row : TypeTree
@@ -212,6 +218,9 @@ module _ (a m p o : At) (item : TypeTree) (ks : LegTrees) (d i r : Binder) (g e 
       number : {A : Type 0} (u v : A) (l : Named A) → look_for i.sym.0 ((r.sym.0, v) ∷ (i.sym.0, u) ∷ l) ≡ Some u
       number u v l = rw (ne_eqb i.sym.0 r.sym.0 w.number_row) (rw (eq-eqb i.sym.0 i.sym.0 refl) refl)
 
+      builder : {A : Type 0} (z u v : A) (l : Named A) → look_for b.sym.0 ((r.sym.0, v) ∷ (i.sym.0, u) ∷ (b.sym.0, z) ∷ l) ≡ Some z
+      builder z u v l = rw (ne_eqb b.sym.0 r.sym.0 w.builder_item) (rw (ne_eqb b.sym.0 i.sym.0 w.builder_count) (rw (eq-eqb b.sym.0 b.sym.0 refl) refl))
+
       related : Related d.sym.0 i.sym.0 a b n x f item t types around (origin e around) (body_types d i r (build (list item)) row types) (body_types b i r t row types) (in_body d i r made around) (in_body b i r (origin e around) around)
       related = record {
         types = others (build (list item)) t place_type row types;
@@ -220,6 +229,8 @@ module _ (a m p o : At) (item : TypeTree) (ks : LegTrees) (d i r : Binder) (g e 
         behind_origins = behind (own_paths (origin e around)) value value (outside around);
         number_type = number place_type row ((b.sym.0, t) ∷ types);
         number_origin = number value value ((b.sym.0, own_paths (origin e around)) ∷ outside around);
+        builder_type = builder t place_type row types;
+        builder_origin = builder (own_paths (origin e around)) value value (outside around);
         formed = formed_body b i r t row types (type_formed e types t q.typed.4 q.formed) (row_formed ks types k.producer.typed.0 row k.producer.typed.2 k.producer.typed.3 q.formed) q.formed;
         forms = names_have (forms_in_body around types b i r (origin e around) t row (origin_forms e around types t q.typed.4 q.formed (names_form q.forms))
             (row_free ks types k.producer.typed.0 row k.producer.typed.2 k.producer.typed.3 q.formed) (names_form q.forms));
@@ -234,6 +245,7 @@ module _ (a m p o : At) (item : TypeTree) (ks : LegTrees) (d i r : Binder) (g e 
         row_note = subst (NoteFits x.note) k.row_is q.typed.8;
         body = subst (λ u. IsPlaced f (body_types b n x t u types) (in_body b n x (origin e around) around) t) k.row_is (body_of_loop a only e b n x f types around t q);
         comes = q.keeps.3;
+        all = q.splits.4;
         builder_number = w.builder_number;
         builder_row = w.builder_row;
       }
@@ -254,7 +266,7 @@ module _ (a m p o : At) (item : TypeTree) (ks : LegTrees) (d i r : Binder) (g e 
           q.splits.1,
           record { apart = λ y w u v. q.splits.2.apart y w (or_left (legs_take ks around y w || false) false (or_left (legs_take ks around y w) false u)) v },
           s.placed.splits,
-          record { all = λ w u. s.whole w (q.splits.4.all w u) },
+          record { all = s.whole },
         );
         noted = (
           k.producer.noted.0,
@@ -284,8 +296,8 @@ module _ (a m p o : At) (item : TypeTree) (ks : LegTrees) (d i r : Binder) (g e 
       row = k.producer.typed.1
 
       -- what the producer's body gives on a row
-      row_gives : Row → Outcome Value
-      row_gives y = row_value g (with_row d i r (building (list_part [])) (plain (whole_number y.0)) (plain y.1) env)
+      row_gives : Row → Outcome (List Value)
+      row_gives y = row_values g (with_row d i r (building (list_part [])) (plain (whole_number y.0)) (plain y.1) env)
 
       produces : Row → Thing → Outcome Thing
       produces y s = eval g (with_row d i r s (plain (whole_number y.0)) (plain y.1) env)
@@ -314,18 +326,30 @@ module _ (a m p o : At) (item : TypeTree) (ks : LegTrees) (d i r : Binder) (g e 
           number_other : d.sym.0 ≢ i.sym.0
           number_other e = distinct.0 (inl e)
 
-      -- the row's value doesn't go by what was merged before
-      gives_free : (y : Row) (s : Thing) → row_value g (with_row d i r s (plain (whole_number y.0)) (plain y.1) env) ≡ row_gives y
+      -- the row's values don't go by what was merged before
+      gives_free : (y : Row) (s : Thing) → row_values g (with_row d i r s (plain (whole_number y.0)) (plain y.1) env) ≡ row_gives y
       gives_free y s =
-          row_value_free d.sym.0 g ends once apart _ _
+          row_values_free d.sym.0 g spine apart _ _
           (agree_bind (λ u. u ≢ d.sym.0) (λ u. u ≢ d.sym.0) r.sym.0 (plain y.1) _ _ (λ u c ne. c)
           (agree_bind (λ u. u ≢ d.sym.0) (λ u. u ≢ d.sym.0) i.sym.0 (plain (whole_number y.0)) _ _ (λ u c ne. c)
           (record { agree = λ u ne. rw (ne_eqb u d.sym.0 ne) refl })))
 
-      appends : (y : Row) (vs : List Value) → produces y (building (list_part vs)) ≡ map_out (λ v. building (list_part (vs ++ v ∷ []))) (row_gives y)
-      appends y vs =
-          row_appends d.sym.0 g ends once apart _ vs (builder_there (building (list_part vs)) y)
-          ∙ ap (map_out (λ v. building (list_part (vs ++ v ∷ [])))) (gives_free y (building (list_part vs)))
+      appends : (y : Row) (vs : List Value) → produces y (list_of vs) ≡ map_out (λ us. list_of (vs ++ us)) (row_gives y)
+      appends y vs = row_appends d.sym.0 g spine apart _ vs (builder_there (list_of vs) y) ∙ ap (map_out (λ us. list_of (vs ++ us))) (gives_free y (list_of vs))
+
+      -- rows keep their numbers, or those aren't used
+      steps : Steps row_gives consumes
+      steps = by numbered
+        where
+          any : uses f n.sym.0 ≡ 0 → (k l : ℕ) (v : Value) (s : Thing) → consumes (k, v) s ≡ consumes (l, v) s
+          any none k l v s =
+              eval_free f _ _
+              (agree_bind (λ u. IsFree f u × (u ≢ x.sym.0)) (IsFree f) x.sym.0 (plain v) _ _ (λ u y ne. (y, ne))
+              (record { agree = λ u y. let other : u ≢ n.sym.0 = λ q. unnamed n.sym.0 f w.own_number none (subst (IsFree f) q y.0) in rw (ne_eqb u n.sym.0 other) refl }))
+
+          by : Numbered n.sym.0 f d.sym.0 g → Steps row_gives consumes
+          by (inl ends) = steps_of_one row_gives consumes (λ y vs h. row_single d.sym.0 g _ vs ends h)
+          by (inr none) = steps_of_any row_gives consumes (any none)
 
       -- ---- the pattern
 
@@ -346,9 +370,9 @@ module _ (a m p o : At) (item : TypeTree) (ks : LegTrees) (d i r : Binder) (g e 
 
       -- ---- row by row
 
-      one_row : (y : Row) (s : Thing) → HasValue row y.1 → does_both y s ≡ and_then (row_gives y) (λ v. consumes (y.0, v) s)
+      one_row : (y : Row) (s : Thing) → HasValue row y.1 → does_both y s ≡ and_then (row_gives y) (λ vs. run (number_from y.0 vs) s consumes)
       one_row y s h =
-          row_hands laws a.ty d.sym.0 i.sym.0 b n x f item k.item_free env s (plain (whole_number y.0)) g ends once (body_types d i r (build (list item)) row types)
+          row_hands laws a.ty d.sym.0 i.sym.0 b n x f item k.item_free env s y.0 g spine (body_types d i r (build (list item)) row types)
           (with_row d i r (building (list_part [])) (plain (whole_number y.0)) (plain y.1) env) (with_row b i r s (plain (whole_number y.0)) (plain y.1) env) w.aside w.not_builder w.not_number k.producer.typed.9
           (formed_body d i r (build (list item)) row types (k.item_formed, k.item_free) (row_formed ks types k.producer.typed.0 row k.producer.typed.2 k.producer.typed.3 q.formed) q.formed)
           (fits_body types env d i r (build (list item)) row (building (list_part [])) y.1 y.0 ((k.item_formed, k.item_free), tt) h fit)
@@ -357,6 +381,7 @@ module _ (a m p o : At) (item : TypeTree) (ks : LegTrees) (d i r : Binder) (g e 
           (agree_after Behind ((b.sym.0, s) ∷ env) ((i.sym.0, plain (whole_number y.0)) ∷ (b.sym.0, s) ∷ env) _
           (agree_over Behind i.sym.0 (plain (whole_number y.0)) _ (λ c. w.behind_number c.0)) (agree_over Behind r.sym.0 (plain y.1) _ (λ c. w.behind_row c.0)))
           (rw (ne_eqb i.sym.0 r.sym.0 w.number_row) (rw (eq-eqb i.sym.0 i.sym.0 refl) refl))
+          (rw (ne_eqb b.sym.0 r.sym.0 w.builder_item) (rw (ne_eqb b.sym.0 i.sym.0 w.builder_count) (rw (eq-eqb b.sym.0 b.sym.0 refl) refl)))
         where
           Else : ℕ → Type 0
           Else u = IsElse d.sym.0 b.sym.0 u
@@ -367,7 +392,7 @@ module _ (a m p o : At) (item : TypeTree) (ks : LegTrees) (d i r : Binder) (g e 
       over_rows : (vs : List Value) → AllAre (HasValue row) (values vs) → answer_of (and_then (eval e env) (λ s. run (number_from 0 vs) s does_both)) ≡ answer_of (and_then (collect row_gives (number_from 0 vs)) consumed)
       over_rows vs h =
           answers (eval e env) (λ s. run (number_from 0 vs) s does_both) (λ s. and_then (collect row_gives (number_from 0 vs)) (λ us. run (number_from 0 us) s consumes))
-          (λ s. ap answer_of (run_rows row does_both (λ y u. and_then (row_gives y) (λ v. consumes (y.0, v) u)) one_row (number_from 0 vs) s (rows_have row 0 vs h)) ∙ sym (handed row_gives consumes 0 vs s))
+          (λ s. ap answer_of (run_rows row does_both (λ y u. and_then (row_gives y) (λ vs. run (number_from y.0 vs) u consumes)) one_row (number_from 0 vs) s (rows_have row 0 vs h)) ∙ sym (handed row_gives consumes steps 0 vs s))
           ∙ answers_swap (eval e env) (collect row_gives (number_from 0 vs)) (λ s us. run (number_from 0 us) s consumes)
 
       by_rows : answer_of (eval answer env) ≡ answer_of (and_then (eval_legs ks env) (λ l. and_then (rows_of l) (λ vs. and_then (collect row_gives (number_from 0 vs)) consumed)))
@@ -382,7 +407,7 @@ module _ (a m p o : At) (item : TypeTree) (ks : LegTrees) (d i r : Binder) (g e 
 
   within : IsTidy pattern → StaysWithin answer pattern
   within tidy =
-      let c = sunk_counted a.ty d.sym.0 i.sym.0 n x f g ends once in
+      let c = sunk_counted a.ty d.sym.0 b.sym.0 i.sym.0 n x f g spine once in
       record {
         binds = λ s.
             omega (
@@ -416,12 +441,13 @@ module _ (a m p o : At) (item : TypeTree) (ks : LegTrees) (d i r : Binder) (g e 
       named : (s : ℕ) → IsFree answer s → IsFree pattern s
       named s (inl k) = inl (inl (inl k))
       named s (inr (inl k)) = inr (inl k)
-      named s (inr (inr k)) = by (sunk_named a.ty d.sym.0 i.sym.0 n x f g ends once (binds_so (IsAside d.sym.0 b.sym.0 i.sym.0 n.sym.0 f) (λ z. d.sym.0 ≢ z) (λ z c e. c.0 (sym e)) g w.aside) s k.0)
+      named s (inr (inr k)) = by (sunk_named a.ty d.sym.0 b.sym.0 i.sym.0 n x f g spine (binds_so (IsAside d.sym.0 b.sym.0 i.sym.0 n.sym.0 f) (λ z. d.sym.0 ≢ z) (λ z c e. c.0 (sym e)) g w.aside) s k.0)
         where
-          by : NamedIn d.sym.0 i.sym.0 n.sym.0 x.sym.0 f g s → IsFree pattern s
+          by : NamedIn d.sym.0 b.sym.0 i.sym.0 n.sym.0 x.sym.0 f g s → IsFree pattern s
           by (inl j) = inl (inl (inr (inr (j.0, k.1, k.2, j.1))))
           by (inr (inl j)) = absurd (k.2 j)
-          by (inr (inr j)) = inr (inr (j.0, j.1, j.2, k.3))
+          by (inr (inr (inl j))) = absurd (k.3 j)
+          by (inr (inr (inr j))) = inr (inr (j.0, j.1, j.2, k.3))
 
   pub sink_rewrites : KeyLaws → IsTidy pattern → Rewrites answer pattern
   sink_rewrites laws tidy = record {
@@ -436,22 +462,22 @@ module _ (a m p o : At) (item : TypeTree) (ks : LegTrees) (d i r : Binder) (g e 
   }
 
   pub one_loop_less : loops pattern ≡ suc (loops answer)
-  one_loop_less = let c = sunk_counted a.ty d.sym.0 i.sym.0 n x f g ends once in omega (arith, c.loop_count)
+  one_loop_less = let c = sunk_counted a.ty d.sym.0 b.sym.0 i.sym.0 n x f g spine once in omega (arith, c.loop_count)
 
   pub one_leg_less : legs pattern ≡ suc (legs answer)
-  one_leg_less = let c = sunk_counted a.ty d.sym.0 i.sym.0 n x f g ends once in omega (arith, c.leg_count)
+  one_leg_less = let c = sunk_counted a.ty d.sym.0 b.sym.0 i.sym.0 n x f g spine once in omega (arith, c.leg_count)
 
 -- ---- the laws
 
 pub consumer_rewrites : KeyLaws → (e : ExprTree) → IsTidy e → is_consumer e ≡ true → Rewrites (fused e) e
 consumer_rewrites laws e tidy h =
     consumer_by (λ e. IsTidy e → Rewrites (fused e) e)
-    (λ a e b n x f m p o item ks d i r g ends once tidy. sink_rewrites a m p o item ks d i r g e b n x f ends once laws tidy) e h tidy
+    (λ a e b n x f m p o item ks d i r g spine once numbered tidy. sink_rewrites a m p o item ks d i r g e b n x f spine once numbered laws tidy) e h tidy
 
 pub consumer_loops : (e : ExprTree) → is_consumer e ≡ true → loops e ≡ suc (loops (fused e))
 consumer_loops =
-    consumer_by (λ e. loops e ≡ suc (loops (fused e))) (λ a e b n x f m p o item ks d i r g ends once. one_loop_less a m p o item ks d i r g e b n x f ends once)
+    consumer_by (λ e. loops e ≡ suc (loops (fused e))) (λ a e b n x f m p o item ks d i r g spine once numbered. one_loop_less a m p o item ks d i r g e b n x f spine once numbered)
 
 pub consumer_legs : (e : ExprTree) → is_consumer e ≡ true → legs e ≡ suc (legs (fused e))
 consumer_legs =
-    consumer_by (λ e. legs e ≡ suc (legs (fused e))) (λ a e b n x f m p o item ks d i r g ends once. one_leg_less a m p o item ks d i r g e b n x f ends once)
+    consumer_by (λ e. legs e ≡ suc (legs (fused e))) (λ a e b n x f m p o item ks d i r g spine once numbered. one_leg_less a m p o item ks d i r g e b n x f spine once numbered)

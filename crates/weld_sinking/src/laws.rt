@@ -10,8 +10,10 @@ ghost use Rattle.weld_sinking.specs.Sinking.{is_consumer, fused};
 
 use weld_builders::laws::{keys_are_ordered_alike, values_are_ordered};
 
-/// A tidy loop whose only leg is the list that another loop makes, which merges once a row, may be
-/// rewritten to one loop over the other's legs. There is one loop less then, and one leg.
+/// A tidy loop whose only leg is the list that another loop makes may be rewritten to one loop over
+/// the other's legs. The other merges once a row; or once or not at all, at one place behind lets and
+/// in arms of ifs, where the first doesn't use its row number. There is one loop less then, and one
+/// leg.
 pub fn loops_over_loops_are_one()
     ensures rewrites { (e : ExprTree) → IsTidy e → is_consumer e ≡ true → Rewrites (fused e) e }
     ensures one_loop_less { (e : ExprTree) → is_consumer e ≡ true

@@ -19,9 +19,10 @@ use weld_meaning::Accepted;
 use weld_pass::run_pass;
 
 /// The program with loops over what other loops make as one loop (the Weld papers): where a loop's
-/// only leg is the `result` of a loop that starts with an empty `vecbuilder` and merges into it once a
-/// row, behind lets or not, the loop runs over that one's legs, and its body stands in the place of
-/// the merge, its row the value that was merged. No list is made in between. It asks for a program
+/// only leg is the `result` of a loop that starts with an empty `vecbuilder` and merges into it at one
+/// place, behind lets and in arms of ifs or not, the loop runs over that one's legs, and its body
+/// stands in the place of the merge, its row the value that was merged. Where the merge isn't made in
+/// every row, the loop must not use its row number. No list is made in between. It asks for a program
 /// whose nodes have their types noted, as the checker leaves it. It fails for want of memory alone,
 /// and the program is spent then.
 pub fn fuse_vertical(alloc: Global, p: Accepted) -> Result<Accepted, AllocError>

@@ -3,8 +3,8 @@
 ghost use Rattle.std.specs.Prelude.{◌≡◌, true, IfOk};
 ghost use Rattle.weld_tree.specs.ExprTree.{At, pack_legs};
 ghost use Rattle.weld_tree.specs.ExprView.{view_form, view_leg};
-ghost use Rattle.weld_sinking.specs.Sinking.{fused, is_consumer, is_only_leg, is_produced_leg, is_producer};
-ghost use Rattle.weld_vertical.specs.Fusing.{IsMadeBy, IsOnlyBy, joined};
+ghost use Rattle.weld_sinking.specs.Sinking.{fused, is_consumer};
+ghost use Rattle.weld_vertical.specs.Fusing.{IsMadeBy, IsOnlyBy, body_merges, is_only_result, is_result_leg, joined};
 
 use crate::producers::is_consumer;
 use crate::sink::{Consumer, sink};
@@ -32,7 +32,7 @@ impl Rule for Loops {
 }
 
 /// The consumer runs over the producer's legs, sunk into the producer's body.
-#[tactic(auto, using(crate::proofs::Legs::fused_joined))]
+#[tactic(auto, using(crate::proofs::Legs::fused_joined, crate::proofs::Legs::only_result, crate::proofs::Legs::made_there, crate::proofs::Legs::one_merge))]
 fn fuse(alloc: Global, e: &mut Expr) -> Result<(), AllocError>
     requires { is_consumer e.old ≡ true }
     ensures { IfOk result (λ _. e.new ≡ fused e.old) }
@@ -56,7 +56,7 @@ fn join(
     consumer: Consumer,
     producer: Box<Expr>,
 ) -> Result<Form, AllocError>
-    requires { is_producer producer.value ≡ true }
+    requires { body_merges producer.value ≡ 1 }
     ensures { IfOk result (λ form. (at : At) → at.ty ≡ ty.now
         → view_form form at ≡ joined at start.value builder consumer.number consumer.row
         consumer.body.value producer.value) }
@@ -70,14 +70,14 @@ fn join(
         unreachable!();
     };
     let mut inside = inside;
-    sink(alloc, ty, count.sym, consumer, &mut inside)?;
+    sink(alloc, ty, builder.sym, count.sym, consumer, &mut inside)?;
     Ok(Form::For(legs, start, builder, count, item, inside))
 }
 
 /// The loop that makes the only leg.
 #[tactic(auto, using(crate::proofs::Legs::leg_of))]
 fn only_producer(legs: Legs) -> Box<Expr>
-    requires { is_only_leg (pack_legs legs) ≡ true }
+    requires { is_only_result (pack_legs legs) ≡ true }
     ensures { IsOnlyBy (pack_legs legs) result.value }
 {
     let mut legs = legs.into_vec();
@@ -89,7 +89,7 @@ fn only_producer(legs: Legs) -> Box<Expr>
 
 /// The loop that makes the leg.
 fn producer_of(leg: Leg) -> Box<Expr>
-    requires { is_produced_leg (view_leg leg) ≡ true }
+    requires { is_result_leg (view_leg leg) ≡ true }
     ensures { IsMadeBy (view_leg leg) result.value }
 {
     let Leg::Whole(e) = leg else {

@@ -6,4 +6,5 @@ use Rattle.weld_vertical.proofs.producers.is_only_leg.Goals as goal
 
 pub returns-in_default-2 : goal.returns-in_default-2
 returns-in_default-2 c =
-    more_legs_no c.as_slice.result.now c.in_default.len_at_least ∙ ap (λ (ls : List LegTree). is_only_leg (pack_legs ls)) c.as_slice.ensures.value
+    more_legs_no c.args.number.0 c.args.body.now c.as_slice.result.now c.in_default.len_at_least
+    ∙ ap (λ (ls : List LegTree). is_only_leg c.args.number.0 c.args.body.now (pack_legs ls)) c.as_slice.ensures.value
