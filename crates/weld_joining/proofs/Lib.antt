@@ -1,0 +1,6 @@
+pub mod Falling
+pub mod Limits
+pub mod Recognised
+pub mod Sound
+pub mod Together
+pub mod Unused
