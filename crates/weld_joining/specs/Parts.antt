@@ -9,6 +9,7 @@ use Rattle.weld_tree.specs.ExprTree.{At, ExprTree, leaf, one, many, let_in, loop
 use Rattle.weld_meaning.specs.Names.{put}
 use Rattle.weld_beside.specs.Beside.{node_of, bare, builder_field}
 use Rattle.weld_joining.specs.Joining.{new_type, item_of}
+use Rattle.weld_joining.specs.declared.both.Both.{Both}
 use Rattle.weld_joining.specs.declared.halves.Node.{Node}
 use Rattle.weld_joining.specs.declared.halves.Run.{Run}
 use Rattle.weld_joining.specs.declared.halves.Half.{Half}
@@ -45,32 +46,32 @@ pair_at place all d e = many (node_of place all) make_struct (more_exprs d (more
 abbrev pub field_let : Place → TypeTree → ℕ → TypeTree → ℕ → Binder → ExprTree → ExprTree
 field_let place all n t c b f = let_in (node_of place t) b (builder_field place all n t c) f
 
--- the second body with the first's row number and row
-abbrev pub body_of_second : Place → Run → Run → ExprTree
-body_of_second place r q =
-    put q.number.sym.0 (leaf (node_of place (scalar kinds.I64)) (name r.number.sym.0))
-    (put q.row.sym.0 (leaf (node_of place (legs_item (pack_legs r.legs))) (name r.row.sym.0)) q.body.value)
+-- the second body, which has this row number and row, with the first loop's
+abbrev pub body_of_second : Place → Run → ℕ → ℕ → ExprTree → ExprTree
+body_of_second place r n x f =
+    put n (leaf (node_of place (scalar kinds.I64)) (name r.number.sym.0))
+    (put x (leaf (node_of place (legs_item (pack_legs r.legs))) (name r.row.sym.0)) f)
 
--- the type of both builders
-abbrev pub all_of : Run → Run → TypeTree
-all_of r q = pair_of (new_type r.start.value) (new_type q.start.value)
+-- the types of the builders with which the loops start
+pub record IsBoth (r q : Run) (both : Both) : Type 0 where
+  pub first : both.first ≡ new_type r.start.value
+  pub second : both.second ≡ new_type q.start.value
+  pub all : both.all ≡ pair_of both.first both.second
 
--- the one loop
-abbrev pub loop_of_both : Place → Run → Run → ExprTree
-loop_of_both place r q =
-    let all = all_of r q in
-    loop (node_of place all) (pack_legs r.legs) (pair_at place all r.start.value q.start.value) (bare q.row) r.number r.row
-    (pair_at place all (field_let place all 0 (new_type r.start.value) q.row.sym.0 r.builder r.body.value)
-    (field_let place all 1 (new_type q.start.value) q.row.sym.0 q.builder (body_of_second place r q)))
+-- the one loop, its builders having these types
+abbrev pub loop_of_both : Both → Place → Run → Run → ExprTree
+loop_of_both both place r q =
+    loop (node_of place both.all) (pack_legs r.legs) (pair_at place both.all r.start.value q.start.value) (bare q.row) r.number r.row
+    (pair_at place both.all (field_let place both.all 0 both.first q.row.sym.0 r.builder r.body.value)
+    (field_let place both.all 1 both.second q.row.sym.0 q.builder (body_of_second place r q.number.sym.0 q.row.sym.0 q.body.value)))
 
 -- a `let` of the result of an expression
 abbrev pub result_let : At → Binder → At → ExprTree → ExprTree → ExprTree
 result_let a b m e f = let_in a b (one m finish e) f
 
 -- the one loop and the results of its fields
-abbrev pub from_halves : At → At → Binder → Half → Binder → Half → ExprTree → ExprTree
-from_halves a m x h y k rest =
-    let all = all_of h.run k.run in
-    let_in a (bare k.run.number) (loop_of_both a.place h.run k.run)
-    (result_let a x (at_of h.result) (builder_field a.place all 0 (new_type h.run.start.value) k.run.number.sym.0)
-    (result_let m y (at_of k.result) (builder_field a.place all 1 (new_type k.run.start.value) k.run.number.sym.0) rest))
+abbrev pub from_halves : Both → At → At → Binder → Half → Binder → Half → ExprTree → ExprTree
+from_halves both a m x h y k rest =
+    let_in a (bare k.run.number) (loop_of_both both a.place h.run k.run)
+    (result_let a x (at_of h.result) (builder_field a.place both.all 0 both.first k.run.number.sym.0)
+    (result_let m y (at_of k.result) (builder_field a.place both.all 1 both.second k.run.number.sym.0) rest))

@@ -1,6 +1,7 @@
 //! Two loops over one vector, side by side, as one loop.
 #![tactic(auto)]
 
+mod both;
 mod halves;
 mod joining;
 pub mod laws;

@@ -1,7 +1,7 @@
 //! The parts of which the one loop is made.
 
 ghost use Rattle.std.specs.Prelude.{◌≡◌, IfOk};
-ghost use Rattle.weld_tree.specs.ExprTree.{leaf, let_in, name, pack_legs};
+ghost use Rattle.weld_tree.specs.ExprTree.{leaf, name, pack_legs};
 ghost use Rattle.weld_tree.specs.TypeTree.{no_types, struct};
 ghost use Rattle.weld_tree.specs.ExprView.{view_leaf, view_leg};
 ghost use Rattle.weld_types.specs.Tests.{is_within_limits};
@@ -191,23 +191,6 @@ pub(crate) fn pair_at(
         ty: Known::Is(all.copy(alloc)?),
     };
     Ok(Box::new(alloc, pair)?)
-}
-
-/// A body behind a `let` of its builder as the field of both.
-pub(crate) fn field_let(
-    place: Place,
-    ty: Ty,
-    builder: Binder,
-    field: Box<Expr>,
-    body: Box<Expr>,
-) -> Expr
-    ensures { result ≡ let_in (node_of place ty) builder field.value body.value }
-{
-    Expr {
-        form: Form::Let(builder, field, body),
-        place,
-        ty: Known::Is(ty),
-    }
 }
 
 /// A `let` of the result of the expression.
