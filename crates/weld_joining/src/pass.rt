@@ -18,12 +18,12 @@ use std::alloc::{AllocError, Global};
 use weld_meaning::Accepted;
 use weld_pass::run_pass;
 
-/// The program with loops over what other loops make as one loop (the Weld papers): where a loop's
-/// only leg is the `result` of a loop that starts with an empty `vecbuilder` and merges into it once a
-/// row, behind lets or not, the loop runs over that one's legs, and its body stands in the place of
-/// the merge, its row the value that was merged. No list is made in between. It asks for a program
-/// whose nodes have their types noted, as the checker leaves it. It fails for want of memory alone,
-/// and the program is spent then.
+/// The program with loops side by side as one loop (the Weld papers): where two neighbouring lets each
+/// bind the `result` of a loop over one name from one builder without a starting value, and the second
+/// doesn't use the first, one loop runs over the name from the struct of both builders, and the lets
+/// bind the results of its fields. The vector is gone over once. It asks for a program whose nodes have
+/// their types noted, as the checker leaves it. It fails for want of memory alone, and the program is
+/// spent then.
 pub fn join_loops(alloc: Global, p: Accepted) -> Result<Accepted, AllocError>
     requires { ProgramIsNoted p }
     ensures accepted { IfOk result (λ q. IsAccepted q) }
