@@ -1,15 +1,16 @@
 //! One loop from both builders.
 
 ghost use Rattle.std.specs.Prelude.{◌≡◌, IfOk};
-ghost use Rattle.weld_tree.specs.ExprTree.{pack_legs};
-ghost use Rattle.weld_joining.specs.Joining.{new_type};
+ghost use Rattle.weld_tree.specs.ExprTree.{leaf, name as name_form};
+ghost use Rattle.weld_meaning.specs.Names.{put};
+ghost use Rattle.weld_beside.specs.Beside.{node_of};
 ghost use Rattle.weld_joining.specs.Parts.{IsBoth, body_of_second, field_let, loop_of_both, pair_at};
 
 use crate::halves::Run;
 use crate::parts::{bare, builder_field, legs_item, named, new_type, pair_at};
 use std::alloc::{AllocError, Global};
 use weld_data::Kind;
-use weld_substitution::put_in;
+use weld_substitution::put_at;
 use weld_tree::{Binder, Expr, Form, Known, Place, Sym, Ty};
 
 /// The types of two builders, and that of the struct of both.
@@ -135,10 +136,23 @@ fn body_of_second(
 ) -> Result<Box<Expr>, AllocError>
     ensures { IfOk result (λ b. b.value ≡ body_of_second place first.now number.0 row.0 body.value) }
 {
-    let mut body = body;
     let item = legs_item(alloc, &first.legs)?;
-    put_in(alloc, &mut body, row, &named(place, first.row.sym, item))?;
-    let count = named(place, first.number.sym, Ty::scalar(Kind::I64));
-    put_in(alloc, &mut body, number, &count)?;
-    Ok(body)
+    let body = with_name(alloc, place, first.row.sym, item, row, body)?;
+    let ty = Ty::scalar(Kind::I64);
+    with_name(alloc, place, first.number.sym, ty, number, body)
+}
+
+/// The expression with another name, of the type, for a name.
+fn with_name(
+    alloc: Global,
+    place: Place,
+    name: Sym,
+    ty: Ty,
+    old: Sym,
+    e: Box<Expr>,
+) -> Result<Box<Expr>, AllocError>
+    ensures { IfOk result (λ b. b.value ≡ put old.0 (leaf (node_of place ty) (name_form name.0)) e.value) }
+{
+    let name = named(place, name, ty);
+    put_at(alloc, e, old, &name)
 }
