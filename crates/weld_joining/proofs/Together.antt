@@ -1,5 +1,5 @@
 -- What the code makes of two lets is what the rule says.
-use Rattle.std.proofs.Common.{◌≡◌, ◌==◌, true, ◌&&◌, refl, sym, subst, ◌∙◌}
+use Rattle.std.proofs.Common.{◌≡◌, ◌==◌, true, ◌&&◌, is_some, refl, sym, ap, subst, ◌∙◌}
 use Rattle.weld_data.specs.declared.kind.Kind.TheVariants as kinds
 use Rattle.weld_tree.specs.declared.binder.Binder.{Binder}
 use Rattle.weld_tree.specs.TypeTree.{TypeTree, scalar, build}
@@ -62,3 +62,10 @@ pair_is both a m x y v w rest h k test hv hw types =
     with_types = λ i.
         whole_of a m x (at_of h.result) (pack_legs h.run.legs) h.run.start.value h.run.builder h.run.number h.run.row h.run.body.value y (at_of k.result) k.run.start.value k.run.builder k.run.number k.run.row k.run.body.value rest
         (types.first i) (types.second i) (all_is i)
+
+-- both are results of loops
+pub first_over : (x : Binder) (v w : ExprTree) → are_beside x v w ≡ true → is_some (over v) ≡ true
+first_over x v w h = ap is_some (both_over v w (and_true (same_name (over v) (over w)) (uses w x.sym.0 == 0) h).0).first
+
+pub second_over : (x : Binder) (v w : ExprTree) → are_beside x v w ≡ true → is_some (over w) ≡ true
+second_over x v w h = ap is_some (both_over v w (and_true (same_name (over v) (over w)) (uses w x.sym.0 == 0) h).0).second

@@ -1,7 +1,8 @@
 //! The one loop in the place of both lets.
 
 ghost use Rattle.std.specs.Prelude.{◌≡◌, true, IfOk};
-ghost use Rattle.weld_joining.specs.Joining.{is_pair, joined_pair};
+ghost use Rattle.weld_joining.specs.Joining.{are_beside, is_followed, is_pair, joined_pair};
+ghost use Rattle.weld_tree.specs.ExprTree.{let_in};
 ghost use Rattle.weld_beside.specs.Beside.{builder_field};
 ghost use Rattle.weld_joining.specs.Parts.{at_of, from_halves, result_let};
 
@@ -13,7 +14,6 @@ use std::mem;
 use weld_tree::{Binder, Expr, Form, LeafForm, Place, Sym};
 
 /// Two neighbouring lets of results of loops become one loop and lets of the results of its fields.
-#[tactic(none)]
 pub(crate) fn join(alloc: Global, e: &mut Expr) -> Result<(), AllocError>
     requires { is_pair e.old ≡ true }
     ensures { IfOk result (λ _. e.new ≡ joined_pair e.old) }
@@ -25,19 +25,52 @@ pub(crate) fn join(alloc: Global, e: &mut Expr) -> Result<(), AllocError>
     let Form::Let(binder, value, rest) = form else {
         unreachable!();
     };
+    let made = from_first(alloc, outer, binder, value, rest)?;
+    *e = made;
+    Ok(())
+}
+
+/// The same of the first `let`, taken apart.
+fn from_first(
+    alloc: Global,
+    outer: Node,
+    binder: Binder,
+    value: Box<Expr>,
+    rest: Box<Expr>,
+) -> Result<Expr, AllocError>
+    requires { is_followed binder value.value rest.value ≡ true }
+    ensures { IfOk result (λ e. e ≡ joined_pair (let_in (at_of outer) binder value.value rest.value)) }
+{
     let Expr { form, place, ty } = Box::into_inner(rest);
     let Form::Let(other, after, rest) = form else {
         unreachable!();
     };
+    let inner = Node { place, ty };
+    from_lets(alloc, outer, inner, binder, value, other, after, rest)
+}
+
+/// The same of both lets, taken apart.
+#[tactic(auto, using(crate::proofs::Together::first_over, crate::proofs::Together::second_over))]
+fn from_lets(
+    alloc: Global,
+    outer: Node,
+    inner: Node,
+    binder: Binder,
+    value: Box<Expr>,
+    other: Binder,
+    after: Box<Expr>,
+    rest: Box<Expr>,
+) -> Result<Expr, AllocError>
+    requires { are_beside binder value.value after.value ≡ true }
+    ensures { IfOk result (λ e. e ≡ joined_pair (let_in (at_of outer) binder value.value
+        (let_in (at_of inner) other after.value rest.value))) }
+{
     let first = take_half(value);
     let second = take_half(after);
     let both = both_of(alloc, &first.run, &second.run)?;
-    let inner = Node { place, ty };
-    let made = beside(
+    beside(
         alloc, both, outer, inner, binder, first, other, second, rest,
-    )?;
-    *e = made;
-    Ok(())
+    )
 }
 
 fn beside(
