@@ -1,4 +1,5 @@
 pub mod Falling
+pub mod Legs
 pub mod Limits
 pub mod Recognised
 pub mod Sound
