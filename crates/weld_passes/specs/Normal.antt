@@ -13,19 +13,21 @@ use Rattle.weld_inline.specs.Inlining.{HasNoSuchLet, lets_rule}
 use Rattle.weld_predicate.specs.Predicating.{HasNoGuard, guards_rule}
 use Rattle.weld_vertical.specs.Fusing.{HasNoSuchLoop, loops_rule}
 use Rattle.weld_horizontal.specs.Doubles.{HasNoDouble, doubles_rule}
+use Rattle.weld_joining.specs.Joining.{HasNoPair, beside_rule}
 
 -- the rules of all passes as one
 abbrev pub all_rules : RootRule
-all_rules = either lets_rule (either guards_rule (either loops_rule doubles_rule))
+all_rules = either lets_rule (either guards_rule (either loops_rule (either doubles_rule beside_rule)))
 
 -- nothing stands in the program that a pass would rewrite (the Weld papers, as far as this project goes): no `let` that can be
--- put in place, no guarded merge that can be merged always, no loop over what another loop makes row by row, and no leg that
--- stands twice in one loop
+-- put in place, no guarded merge that can be merged always, no loop over what another loop makes row by row, no leg that stands
+-- twice in one loop, and no two neighbouring lets of results of loops over one name
 pub record IsNormal (q : ProgramTree) : Type 0 where
   pub no_let : HasNoSuchLet q.body
   pub no_guard : HasNoGuard q.body
   pub no_loop_over_a_loop : HasNoSuchLoop q.body
   pub no_leg_twice : HasNoDouble q.body
+  pub no_loops_side_by_side : HasNoPair q.body
 
 -- the first program is accepted and in normal form; it means what the second means on all arguments that fit, faults included,
 -- and has no more loops

@@ -13,6 +13,7 @@ ghost use Rattle.weld_passes.specs.Normal.{all_rules, IsNormal, HasNormalForm, C
 
 use weld_horizontal::laws::legs_may_stand_once;
 use weld_inline::laws::lets_may_be_rewritten;
+use weld_joining::laws::loops_may_be_joined;
 use weld_meaning::laws::{the_walk_is_linear_use, types_are_unique};
 use weld_pass::laws::rules_may_be_joined;
 use weld_predicate::laws::guards_may_be_rewritten;
@@ -34,6 +35,7 @@ pub fn all_rules_may_be_tried()
     guards_may_be_rewritten();
     loops_may_be_fused();
     legs_may_stand_once();
+    loops_may_be_joined();
     rules_may_be_joined();
 }
 

@@ -1,0 +1,7 @@
+pub mod Falling
+pub mod Legs
+pub mod Limits
+pub mod Recognised
+pub mod Sound
+pub mod Together
+pub mod Unused

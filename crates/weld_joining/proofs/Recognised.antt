@@ -1,0 +1,149 @@
+-- Which lets the test recognises: what holds of the pattern holds of them.
+use Rattle.std.proofs.Common.{◌≡◌, ℕ, ◌==◌, if◌then◌else◌, Bool, true, false, ◌&&◌, Option, Some, None, is_some, refl, sym, subst, eqb-true}
+use Rattle.weld_tree.specs.declared.binder.Binder.{Binder}
+use Rattle.weld_tree.specs.declared.known.Known.{Known}
+use Rattle.weld_tree.specs.declared.known.Known.TheVariants.{Is, Blank}
+use Rattle.weld_tree.specs.TypeTree.{TypeTree, BuildTree, scalar, vec, struct, dict, build}
+use Rattle.weld_tree.specs.ExprTree.{At, ExprTree, leaf, one, two, three, many, let_in, loop, iterate, LegTree, whole, strided, LegTrees, no_legs, more_legs, Leaf, int, truth, chars, name, fresh, neg, not, cast, len, field, finish, started}
+use Rattle.weld_substitution.specs.Uses.{uses}
+use Rattle.weld_putting.proofs.Following.{and_true}
+use Rattle.weld_beside.specs.Beside.{Half, half_value, two_lets}
+use Rattle.weld_joining.specs.Joining.{name_in, name_of, leg_name, only_name, is_new, loop_over, over, same_name, are_beside, is_followed, is_pair}
+
+none_found : (t : ℕ) {C : Type 0} → ◌≡◌ {A = Option ℕ} None (Some t) → C
+none_found t h = let wrong : ⊥ = cc in absurd wrong
+
+same_found : (s t : ℕ) → Some s ≡ Some t → t ≡ s
+same_found s t h = cc
+
+name_by : (k : Known) (t : ℕ) (P : Leaf → Type 0) → ((row : TypeTree) → k ≡ Is (vec row) → P (name t)) → (l : Leaf) → name_in k l ≡ Some t → P l
+name_by Blank t P f l h = none_found t h
+name_by (Is (scalar c)) t P f l h = none_found t h
+name_by (Is (vec row)) t P f (int c x) h = none_found t h
+name_by (Is (vec row)) t P f (truth b) h = none_found t h
+name_by (Is (vec row)) t P f (chars bs) h = none_found t h
+name_by (Is (vec row)) t P f (name s) h = subst (λ n. P (name n)) (same_found s t h) (f row refl)
+name_by (Is (vec row)) t P f (fresh b) h = none_found t h
+name_by (Is (struct ts)) t P f l h = none_found t h
+name_by (Is (dict c v)) t P f l h = none_found t h
+name_by (Is (build b)) t P f l h = none_found t h
+
+leaf_by : (t : ℕ) (P : ExprTree → Type 0) → ((l : At) (row : TypeTree) → l.ty ≡ Is (vec row) → P (leaf l (name t))) → (e : ExprTree) → name_of e ≡ Some t → P e
+leaf_by t P f (leaf l n) h = name_by l.ty t (λ n. P (leaf l n)) (f l) n h
+leaf_by t P f (one a o e) h = none_found t h
+leaf_by t P f (two a o e g) h = none_found t h
+leaf_by t P f (three a o c e g) h = none_found t h
+leaf_by t P f (many a o es) h = none_found t h
+leaf_by t P f (let_in a b e g) h = none_found t h
+leaf_by t P f (loop a ls e b n x g) h = none_found t h
+leaf_by t P f (iterate a e b g) h = none_found t h
+
+pub legs_by : (t : ℕ) (P : LegTrees → Type 0) → ((l : At) (row : TypeTree) → l.ty ≡ Is (vec row) → P (more_legs (whole (leaf l (name t))) no_legs)) → (ls : LegTrees) → only_name ls ≡ Some t → P ls
+legs_by t P f no_legs h = none_found t h
+legs_by t P f (more_legs (whole e) no_legs) h = leaf_by t (λ e. P (more_legs (whole e) no_legs)) f e h
+legs_by t P f (more_legs (strided e g k m) no_legs) h = none_found t h
+legs_by t P f (more_legs l (more_legs m ls)) h = none_found t h
+
+pub new_by : (P : ExprTree → Type 0) → ((o : At) (b : BuildTree) → P (leaf o (fresh b))) → (e : ExprTree) → is_new e ≡ true → P e
+new_by P f (leaf o (int k x)) h = let nothing : ⊥ = cc in absurd nothing
+new_by P f (leaf o (truth b)) h = let nothing : ⊥ = cc in absurd nothing
+new_by P f (leaf o (chars bs)) h = let nothing : ⊥ = cc in absurd nothing
+new_by P f (leaf o (name s)) h = let nothing : ⊥ = cc in absurd nothing
+new_by P f (leaf o (fresh b)) h = f o b
+new_by P f (one a o e) h = let nothing : ⊥ = cc in absurd nothing
+new_by P f (two a o e g) h = let nothing : ⊥ = cc in absurd nothing
+new_by P f (three a o e g k) h = let nothing : ⊥ = cc in absurd nothing
+new_by P f (many a o es) h = let nothing : ⊥ = cc in absurd nothing
+new_by P f (let_in a b e g) h = let nothing : ⊥ = cc in absurd nothing
+new_by P f (loop a ls e b n x g) h = let nothing : ⊥ = cc in absurd nothing
+new_by P f (iterate a e b g) h = let nothing : ⊥ = cc in absurd nothing
+
+pub where_true : (b : Bool) (o : Option ℕ) (t : ℕ) → (if b then o else None) ≡ Some t → (b ≡ true) × (o ≡ Some t)
+where_true true o t h = (refl, h)
+where_true false o t h = none_found t h
+
+-- a loop over the name from one new builder
+abbrev pub AtLoop : ℕ → (ExprTree → Type 0) → Type 0
+AtLoop t P =
+    (q l o : At) (row : TypeTree) (d : BuildTree) (c i r : Binder) (f : ExprTree) → l.ty ≡ Is (vec row)
+    → P (loop q (more_legs (whole (leaf l (name t))) no_legs) (leaf o (fresh d)) c i r f)
+
+loop_by : (t : ℕ) (P : ExprTree → Type 0) → AtLoop t P → (e : ExprTree) → loop_over e ≡ Some t → P e
+loop_by t P f (leaf a l) h = none_found t h
+loop_by t P f (one a o e) h = none_found t h
+loop_by t P f (two a o e g) h = none_found t h
+loop_by t P f (three a o c e g) h = none_found t h
+loop_by t P f (many a o es) h = none_found t h
+loop_by t P f (let_in a b e g) h = none_found t h
+loop_by t P f (loop q ls e c i r g) h =
+    let x = where_true (is_new e) (only_name ls) t h in
+    new_by (λ e. P (loop q ls e c i r g))
+    (λ o d. legs_by t (λ ls. P (loop q ls (leaf o (fresh d)) c i r g)) (λ l row noted. f q l o row d c i r g noted) ls x.1) e x.0
+loop_by t P f (iterate a e b g) h = none_found t h
+
+-- the result of such a loop
+pub half_by : (t : ℕ) (P : ExprTree → Type 0) → ((p : At) → AtLoop t (λ e. P (one p finish e))) → (e : ExprTree) → over e ≡ Some t → P e
+half_by t P f (leaf a l) h = none_found t h
+half_by t P f (one p neg e) h = none_found t h
+half_by t P f (one p not e) h = none_found t h
+half_by t P f (one p (cast k) e) h = none_found t h
+half_by t P f (one p len e) h = none_found t h
+half_by t P f (one p (field n) e) h = none_found t h
+half_by t P f (one p finish e) h = loop_by t (λ e. P (one p finish e)) (f p) e h
+half_by t P f (one p (started b) e) h = none_found t h
+half_by t P f (two a o e g) h = none_found t h
+half_by t P f (three a o c e g) h = none_found t h
+half_by t P f (many a o es) h = none_found t h
+half_by t P f (let_in a b e g) h = none_found t h
+half_by t P f (loop a ls e b n x g) h = none_found t h
+half_by t P f (iterate a e b g) h = none_found t h
+
+pub record BothOver (v w : ExprTree) : Type 0 where
+  pub name : ℕ
+  pub first : over v ≡ Some name
+  pub second : over w ≡ Some name
+
+same_both : (o p : Option ℕ) → same_name o p ≡ true → (t : ℕ) × (o ≡ Some t) × (p ≡ Some t)
+same_both (Some s) (Some t) h = (s, refl, subst (λ n. Some t ≡ Some n) (sym (eqb-true s t h)) refl)
+same_both (Some s) None h = let nothing : ⊥ = cc in absurd nothing
+same_both None p h = let nothing : ⊥ = cc in absurd nothing
+
+pub both_over : (v w : ExprTree) → same_name (over v) (over w) ≡ true → BothOver v w
+both_over v w h = let s = same_both (over v) (over w) h in record { name = s.0; first = s.1; second = s.2 }
+
+-- two neighbouring lets of such results
+abbrev pub AtPair : (ExprTree → Type 0) → Type 0
+AtPair P =
+    (a m : At) (s : ℕ) (row : TypeTree) (h k : Half) (rest : ExprTree) → h.leg_at.ty ≡ Is (vec row) → uses (half_value s k) h.bound.sym.0 ≡ 0
+    → P (two_lets a m s h k rest)
+
+beside_by : (P : ExprTree → Type 0) → AtPair P → (a m : At) (x y : Binder) (v w rest : ExprTree) → are_beside x v w ≡ true → P (let_in a x v (let_in m y w rest))
+beside_by P f a m x y v w rest h =
+    let b = and_true (same_name (over v) (over w)) (uses w x.sym.0 == 0) h in
+    let both = both_over v w b.0 in
+    half_by both.name (λ w. uses w x.sym.0 ≡ 0 → P (let_in a x v (let_in m y w rest)))
+    (λ u n j d other e g z k body noted none. half_by both.name
+    (λ v. P (let_in a x v (let_in m y (one u finish (loop n (more_legs (whole (leaf j (name both.name))) no_legs) (leaf d (fresh e)) g z k body)) rest)))
+    (λ p q l o row c i r t inside kept. f a m both.name row
+    (record { bound = x; result_at = p; loop_at = q; leg_at = l; start_at = o; starts = c; builder = i; number = r; row = t; body = inside })
+    (record { bound = y; result_at = u; loop_at = n; leg_at = j; start_at = d; starts = e; builder = g; number = z; row = k; body = body }) rest kept none) v both.first) w both.second (eqb-true (uses w x.sym.0) 0 b.1)
+
+followed_by : (P : ExprTree → Type 0) → AtPair P → (a : At) (x : Binder) (v f : ExprTree) → is_followed x v f ≡ true → P (let_in a x v f)
+followed_by P g a x v (leaf p l) h = let nothing : ⊥ = cc in absurd nothing
+followed_by P g a x v (one p o e) h = let nothing : ⊥ = cc in absurd nothing
+followed_by P g a x v (two p o e f) h = let nothing : ⊥ = cc in absurd nothing
+followed_by P g a x v (three p o c e f) h = let nothing : ⊥ = cc in absurd nothing
+followed_by P g a x v (many p o es) h = let nothing : ⊥ = cc in absurd nothing
+followed_by P g a x v (let_in m y w rest) h = beside_by P g a m x y v w rest h
+followed_by P g a x v (loop p ls e b n z f) h = let nothing : ⊥ = cc in absurd nothing
+followed_by P g a x v (iterate p e b f) h = let nothing : ⊥ = cc in absurd nothing
+
+pub pair_by : (P : ExprTree → Type 0) → AtPair P → (e : ExprTree) → is_pair e ≡ true → P e
+pair_by P g (leaf p l) h = let nothing : ⊥ = cc in absurd nothing
+pair_by P g (one p o e) h = let nothing : ⊥ = cc in absurd nothing
+pair_by P g (two p o e f) h = let nothing : ⊥ = cc in absurd nothing
+pair_by P g (three p o c e f) h = let nothing : ⊥ = cc in absurd nothing
+pair_by P g (many p o es) h = let nothing : ⊥ = cc in absurd nothing
+pair_by P g (let_in a x v f) h = followed_by P g a x v f h
+pair_by P g (loop p ls e b n z f) h = let nothing : ⊥ = cc in absurd nothing
+pair_by P g (iterate p e b f) h = let nothing : ⊥ = cc in absurd nothing

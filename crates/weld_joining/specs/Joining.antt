@@ -1,0 +1,129 @@
+-- Two neighbouring lets, each of the result of a loop over one name, as one loop: the rule of the pass, and what its answer has
+-- none of.
+use Rattle.std.specs.Prelude.{◌≡◌, ℕ, ◌==◌, if◌then◌else◌, Bool, true, false, ◌&&◌, Option, Some, None}
+use Rattle.weld_tree.specs.declared.binder.Binder.{Binder}
+use Rattle.weld_tree.specs.declared.known.Known.{Known}
+use Rattle.weld_tree.specs.declared.known.Known.TheVariants.{Is, Blank}
+use Rattle.weld_tree.specs.TypeTree.{TypeTree, vec, struct, build, no_types}
+use Rattle.weld_tree.specs.Types.{pair_of}
+use Rattle.weld_tree.specs.ExprTree.{At, ExprTree, leaf, one, let_in, loop, LegTree, whole, LegTrees, no_legs, more_legs, Leaf, name, fresh, One, finish}
+use Rattle.weld_types.specs.Tests.{is_within_limits}
+use Rattle.weld_sweep.specs.Nodes.{EachNode}
+use Rattle.weld_sweep.specs.Sweep.{RootRule}
+use Rattle.weld_pass.specs.Tested.{tested}
+use Rattle.weld_substitution.specs.Uses.{uses}
+use Rattle.weld_beside.specs.Beside.{side_by_side}
+
+-- ---- the result of a loop over one name
+
+-- the name, where the node is noted to be a vector
+abbrev pub name_in : Known → Leaf → Option ℕ
+name_in (Is (vec t)) (name s) = Some s
+name_in k l = None
+
+abbrev pub name_of : ExprTree → Option ℕ
+name_of (leaf a l) = name_in a.ty l
+name_of e = None
+
+abbrev pub leg_name : LegTree → Option ℕ
+leg_name (whole e) = name_of e
+leg_name l = None
+
+-- the name that is the only leg
+abbrev pub only_name : LegTrees → Option ℕ
+only_name (more_legs l no_legs) = leg_name l
+only_name ls = None
+
+abbrev pub is_new_leaf : Leaf → Bool
+is_new_leaf (fresh b) = true
+is_new_leaf l = false
+
+-- one builder without a starting value
+abbrev pub is_new : ExprTree → Bool
+is_new (leaf a l) = is_new_leaf l
+is_new e = false
+
+abbrev pub loop_over : ExprTree → Option ℕ
+loop_over (loop a ls e b n x f) = if is_new e then only_name ls else None
+loop_over e = None
+
+-- the name over which the loop runs, from one new builder, whose result the expression is
+abbrev pub over : ExprTree → Option ℕ
+over (one a finish e) = loop_over e
+over e = None
+
+-- ---- the pattern
+
+abbrev pub same_name : Option ℕ → Option ℕ → Bool
+same_name (Some s) (Some t) = s == t
+same_name o p = false
+
+-- both are results of loops over one name, and the second doesn't use the first's
+abbrev pub are_beside : Binder → ExprTree → ExprTree → Bool
+are_beside x v w = same_name (over v) (over w) && (uses w x.sym.0 == 0)
+
+abbrev pub is_followed : Binder → ExprTree → ExprTree → Bool
+is_followed x v (let_in m y w f) = are_beside x v w
+is_followed x v e = false
+
+-- two neighbouring lets of such results
+abbrev pub is_pair : ExprTree → Bool
+is_pair (let_in a x v f) = is_followed x v f
+is_pair e = false
+
+-- ---- the limits on types
+
+abbrev pub leaf_type : Leaf → TypeTree
+leaf_type (fresh b) = build b
+leaf_type l = struct no_types
+
+-- the type of a new builder
+abbrev pub new_type : ExprTree → TypeTree
+new_type (leaf a l) = leaf_type l
+new_type e = struct no_types
+
+-- of the builder with which a loop starts
+abbrev pub loop_type : ExprTree → TypeTree
+loop_type (loop a ls e b n x f) = new_type e
+loop_type e = struct no_types
+
+-- of that of the loop whose result the expression is
+abbrev pub start_type : ExprTree → TypeTree
+start_type (one a o e) = loop_type e
+start_type e = struct no_types
+
+abbrev pub types_after : ExprTree → ExprTree → TypeTree
+types_after v (let_in m y w f) = pair_of (start_type v) (start_type w)
+types_after v e = struct no_types
+
+-- the struct of both builders
+abbrev pub both_types : ExprTree → TypeTree
+both_types (let_in a x v f) = types_after v f
+both_types e = struct no_types
+
+-- two such lets, the struct of whose builders is within the limits on types
+abbrev pub may_be_one : ExprTree → Bool
+may_be_one e = is_pair e && is_within_limits (both_types e)
+
+-- ---- the rule
+
+-- the type of a vector's items, as noted
+abbrev pub item_of : Known → TypeTree
+item_of (Is (vec t)) = t
+item_of k = struct no_types
+
+-- the one loop and the results of its fields; what is no such pair of lets stays
+abbrev pub joined_pair : ExprTree → ExprTree
+joined_pair (let_in a x (one p finish (loop q (more_legs (whole (leaf l (name s))) no_legs) (leaf o (fresh b)) c i r f)) (let_in m y (one u finish (loop w (more_legs (whole (leaf j (name t))) no_legs) (leaf d (fresh e)) g n z h)) rest)) =
+    side_by_side a m s (item_of l.ty)
+    (record { bound = x; result_at = p; loop_at = q; leg_at = l; start_at = o; starts = b; builder = c; number = i; row = r; body = f })
+    (record { bound = y; result_at = u; loop_at = w; leg_at = j; start_at = d; starts = e; builder = g; number = n; row = z; body = h }) rest
+joined_pair e = e
+
+-- the rule: two such lets become one loop and lets of the results of its fields
+abbrev pub beside_rule : RootRule
+beside_rule = tested may_be_one joined_pair
+
+-- no two neighbouring lets of the expression are such
+abbrev pub HasNoPair : ExprTree → Type 0
+HasNoPair e = EachNode (λ node. may_be_one node ≡ false) e

@@ -1,0 +1,77 @@
+-- What the code has in its hands of two lets of results of loops, and the one loop made of it.
+use Rattle.std.specs.Prelude.{◌≡◌, ℕ}
+use Rattle.weld_data.specs.declared.kind.Kind.TheVariants as kinds
+use Rattle.weld_tree.specs.declared.binder.Binder.{Binder}
+use Rattle.weld_tree.specs.declared.place.Place.{Place}
+use Rattle.weld_tree.specs.TypeTree.{TypeTree, scalar, struct, no_types}
+use Rattle.weld_tree.specs.Types.{pair_of}
+use Rattle.weld_tree.specs.ExprTree.{At, ExprTree, leaf, one, many, let_in, loop, no_exprs, more_exprs, LegTree, whole, strided, LegTrees, no_legs, more_legs, pack_legs, name, finish, make_struct}
+use Rattle.weld_meaning.specs.Names.{put}
+use Rattle.weld_beside.specs.Beside.{node_of, bare, builder_field}
+use Rattle.weld_joining.specs.Joining.{new_type, item_of}
+use Rattle.weld_joining.specs.declared.both.Both.{Both}
+use Rattle.weld_joining.specs.declared.halves.Node.{Node}
+use Rattle.weld_joining.specs.declared.halves.Run.{Run}
+use Rattle.weld_joining.specs.declared.halves.Half.{Half}
+
+abbrev pub at_of : Node → At
+at_of n = record { place = n.place; ty = n.ty }
+
+-- the loop with these parts
+abbrev pub loop_of : At → Run → ExprTree
+loop_of a r = loop a (pack_legs r.legs) r.start.value r.builder r.number r.row r.body.value
+
+-- it is such a loop
+abbrev pub IsRun : ExprTree → Run → Type 0
+IsRun e r = (a : At) × (e ≡ loop_of a r)
+
+-- the result of such a loop
+abbrev pub IsHalf : ExprTree → Half → Type 0
+IsHalf e h = (a : At) × (e ≡ one (at_of h.result) finish (loop_of a h.run))
+
+-- the type of the items of a leg, as noted
+abbrev pub leg_item : LegTree → TypeTree
+leg_item (whole (leaf a l)) = item_of a.ty
+leg_item l = struct no_types
+
+abbrev pub legs_item : LegTrees → TypeTree
+legs_item (more_legs l ls) = leg_item l
+legs_item no_legs = struct no_types
+
+-- a struct of two expressions
+abbrev pub pair_at : Place → TypeTree → ExprTree → ExprTree → ExprTree
+pair_at place all d e = many (node_of place all) make_struct (more_exprs d (more_exprs e no_exprs))
+
+-- a body behind a `let` of its builder as the field of both
+abbrev pub field_let : Place → TypeTree → ℕ → TypeTree → ℕ → Binder → ExprTree → ExprTree
+field_let place all n t c b f = let_in (node_of place t) b (builder_field place all n t c) f
+
+-- the second body, which has this row number and row, with the first loop's
+abbrev pub body_of_second : Place → Run → ℕ → ℕ → ExprTree → ExprTree
+body_of_second place r n x f =
+    put n (leaf (node_of place (scalar kinds.I64)) (name r.number.sym.0))
+    (put x (leaf (node_of place (legs_item (pack_legs r.legs))) (name r.row.sym.0)) f)
+
+-- the types of the builders with which the loops start
+pub record IsBoth (r q : Run) (both : Both) : Type 0 where
+  pub first : both.first ≡ new_type r.start.value
+  pub second : both.second ≡ new_type q.start.value
+  pub all : both.all ≡ pair_of both.first both.second
+
+-- the one loop, its builders having these types
+abbrev pub loop_of_both : Both → Place → Run → Run → ExprTree
+loop_of_both both place r q =
+    loop (node_of place both.all) (pack_legs r.legs) (pair_at place both.all r.start.value q.start.value) (bare q.row) r.number r.row
+    (pair_at place both.all (field_let place both.all 0 both.first q.row.sym.0 r.builder r.body.value)
+    (field_let place both.all 1 both.second q.row.sym.0 q.builder (body_of_second place r q.number.sym.0 q.row.sym.0 q.body.value)))
+
+-- a `let` of the result of an expression
+abbrev pub result_let : At → Binder → At → ExprTree → ExprTree → ExprTree
+result_let a b m e f = let_in a b (one m finish e) f
+
+-- the one loop and the results of its fields
+abbrev pub from_halves : Both → At → At → Binder → Half → Binder → Half → ExprTree → ExprTree
+from_halves both a m x h y k rest =
+    let_in a (bare k.run.number) (loop_of_both both a.place h.run k.run)
+    (result_let a x (at_of h.result) (builder_field a.place both.all 0 both.first k.run.number.sym.0)
+    (result_let m y (at_of k.result) (builder_field a.place both.all 1 both.second k.run.number.sym.0) rest))

@@ -1,0 +1,70 @@
+//! A `let` of the result of a loop, taken apart.
+
+ghost use Rattle.std.specs.Prelude.{◌≡◌, is_some, true};
+ghost use Rattle.weld_joining.specs.Joining.{loop_over, over};
+ghost use Rattle.weld_joining.specs.Parts.{IsHalf, IsRun};
+
+use weld_tree::{Binder, Expr, Form, Known, Legs, Place};
+
+/// Where a node stands, and the type that is noted at it.
+#[derive(Drop)]
+pub(crate) struct Node {
+    pub(crate) place: Place,
+    pub(crate) ty: Known,
+}
+
+/// A loop.
+#[derive(Drop)]
+pub(crate) struct Run {
+    pub(crate) legs: Legs,
+    pub(crate) start: Box<Expr>,
+    pub(crate) builder: Binder,
+    pub(crate) number: Binder,
+    pub(crate) row: Binder,
+    pub(crate) body: Box<Expr>,
+}
+
+/// The result of a loop.
+#[derive(Drop)]
+pub(crate) struct Half {
+    pub(crate) result: Node,
+    pub(crate) run: Run,
+}
+
+/// The result of a loop, taken apart.
+pub(crate) fn take_half(value: Box<Expr>) -> Half
+    requires { is_some (over value.value) ≡ true }
+    ensures { IsHalf value.value result }
+{
+    let Expr { form, place, ty } = Box::into_inner(value);
+    let Form::One(_, part) = form else {
+        unreachable!();
+    };
+    let run = take_run(part);
+    Half {
+        result: Node { place, ty },
+        run,
+    }
+}
+
+fn take_run(e: Box<Expr>) -> Run
+    requires { is_some (loop_over e.value) ≡ true }
+    ensures { IsRun e.value result }
+{
+    let Expr {
+        form,
+        place: _,
+        ty: _,
+    } = Box::into_inner(e);
+    let Form::For(legs, start, builder, number, row, body) = form else {
+        unreachable!();
+    };
+    Run {
+        legs,
+        start,
+        builder,
+        number,
+        row,
+        body,
+    }
+}

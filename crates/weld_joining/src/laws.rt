@@ -1,0 +1,22 @@
+//! The law of the rule, the contract of a function that does nothing.
+
+ghost use Rattle.weld_tree.specs.ExprTree.{ExprTree};
+ghost use Rattle.weld_rounds.specs.Rules.{Falls, IsSound};
+ghost use Rattle.weld_sweep.specs.Sweep.{IsStill};
+ghost use Rattle.weld_joining.specs.Joining.{beside_rule, HasNoPair};
+
+use weld_beside::laws::loops_may_run_side_by_side;
+use weld_pass::laws::rules_are_tests;
+use weld_substitution::laws::uses_are_free;
+
+/// What the rule answers is lighter than two neighbouring lets of results of loops over one name and
+/// may take their place; and where the rule is still, no two such lets stand.
+pub fn loops_may_be_joined()
+    ensures falls { Falls beside_rule }
+    ensures sound { IsSound beside_rule }
+    ensures still { (e : ExprTree) → IsStill beside_rule e → HasNoPair e }
+{
+    loops_may_run_side_by_side();
+    uses_are_free();
+    rules_are_tests();
+}
