@@ -6,7 +6,7 @@ use Rattle.weld_grammar.specs.declared.rule.Rule.{Rule}
 use Rattle.weld_grammar.specs.declared.item.Item.{Item}
 use Rattle.weld_grammar.specs.declared.item.Item.TheVariants.{Part as OfRule}
 use Rattle.weld_grammar.specs.Pending.{step, pending_from, pending}
-use Rattle.weld_accept.specs.Classes.{classes}
+use Rattle.weld_grammar.specs.Classes.{classes}
 
 some_same : (a b : List Item) → Some a ≡ Some b → a ≡ b
 some_same a b e = cc

@@ -1,6 +1,6 @@
 ghost use Rattle.std.specs.Prelude.{MatchOption, IfOk};
 ghost use Rattle.weld_grammar.specs.Breaks.{Derives, BreaksAt};
-ghost use Rattle.weld_accept.specs.Classes.{classes};
+ghost use Rattle.weld_grammar.specs.Classes.{classes};
 
 use crate::machine::{can_end, step};
 use crate::stack::Stack;

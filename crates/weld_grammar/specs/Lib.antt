@@ -1,4 +1,5 @@
 pub mod Grammar
+pub mod Classes
 pub mod Begins
 pub mod Pending
 pub mod Derivation

@@ -9,8 +9,8 @@ use Rattle.weld_grammar.specs.declared.item.Item.TheVariants.{Part as OfRule}
 use Rattle.weld_grammar.specs.Grammar.{item}
 use Rattle.weld_grammar.specs.Derivation.{Tree, yield, IsOf}
 use Rattle.weld_grammar.specs.Breaks.{BreaksAt}
-use Rattle.weld_accept.specs.Classes.{classes}
-use Rattle.weld_read_type.specs.Fronts.{seen}
+use Rattle.weld_grammar.specs.Classes.{classes}
+use Rattle.weld_spell.specs.Seen.{seen}
 use Rattle.weld_spell.specs.ProgramOf.{program_of}
 use Rattle.weld_programs.specs.Ranges.{number_out_of_range}
 use Rattle.weld_limits.specs.Depth.{first_deep_node}

@@ -3,7 +3,7 @@ ghost use Rattle.weld_tokens.specs.Tokens.{AreTokens};
 ghost use Rattle.weld_tokens.specs.TokenLimits as limits;
 ghost use Rattle.weld_grammar.specs.declared.rule.Rule.TheVariants as rules;
 ghost use Rattle.weld_grammar.specs.Breaks.{Derives};
-ghost use Rattle.weld_accept.specs.Classes.{classes};
+ghost use Rattle.weld_grammar.specs.Classes.{classes};
 ghost use Rattle.weld_read_program.specs.Programs.{IsRead};
 ghost use Rattle.weld_parse.specs.Parses.{Parses, IsRefused};
 ghost use Rattle.weld_parse.specs.Judged.{IsAccepted, IsRefusedTree};

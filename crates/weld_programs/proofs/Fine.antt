@@ -17,8 +17,8 @@ use Rattle.weld_grammar.specs.declared.item.Item.{Item}
 use Rattle.weld_grammar.specs.declared.item.Item.TheVariants.{One, Part as OfRule, Repeated}
 use Rattle.weld_grammar.specs.Grammar.{Part, item, all_of, one_of, body, is_of}
 use Rattle.weld_grammar.specs.Derivation.{Tree, leaf, node, empty, pair, here, there, yield, IsOf}
-use Rattle.weld_read_type.specs.Fronts.{seen}
-use Rattle.weld_read_type.specs.TypeOf.{int_kind_of}
+use Rattle.weld_spell.specs.Seen.{seen}
+use Rattle.weld_spell.specs.TypeOf.{int_kind_of}
 use Rattle.weld_tokens.specs.Literals.{number_value, greatest_literal, is_in_range, literal_value}
 use Rattle.weld_tokens.specs.Order.{out_of_range}
 use Rattle.weld_spell.specs.ProgramOf.{Bound, number_in, word_of, class_of, kind_of_class}

@@ -20,8 +20,8 @@ use Rattle.weld_grammar.specs.declared.item.Item.{Item}
 use Rattle.weld_grammar.specs.declared.item.Item.TheVariants.{One, Part as OfRule, Optional, Repeated}
 use Rattle.weld_grammar.specs.Grammar.{Part, item, all_of, one_of, body, is_of}
 use Rattle.weld_grammar.specs.Derivation.{Tree, leaf, node, empty, pair, here, there, yield, IsOf, Unbegun}
-use Rattle.weld_accept.specs.Classes.{classes as classes_of}
-use Rattle.weld_read_type.specs.Fronts.{seen}
+use Rattle.weld_grammar.specs.Classes.{classes as classes_of}
+use Rattle.weld_spell.specs.Seen.{seen}
 use Rattle.weld_tokens.specs.Order.{ends_operand, is_minus, out_of_range, first_out_of_range, behind_signs, first_number_out_of_range}
 use Rattle.weld_programs.specs.Ranges.{or_else, is_minused, out_of_range_in, number_out_of_range}
 use Rattle.weld_programs.proofs.Modes.{Mode, start, operand, minus, any, Fits, within, widen, mode_in, mode_out, behind_minus, behind_class, behind_terminal, join, behind, reaches, is_plain, and_on, passes, passes_item, passes_row}

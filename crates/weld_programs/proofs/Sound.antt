@@ -11,7 +11,7 @@ use Rattle.weld_grammar.specs.declared.rule.Rule.TheVariants as r
 use Rattle.weld_grammar.specs.declared.item.Item.TheVariants.{One, Part as OfRule, Repeated}
 use Rattle.weld_grammar.specs.Grammar.{item}
 use Rattle.weld_grammar.specs.Derivation.{Tree, node, empty, pair, here, there, yield, IsOf}
-use Rattle.weld_read_type.specs.Fronts.{seen}
+use Rattle.weld_spell.specs.Seen.{seen}
 use Rattle.weld_spell.specs.ProgramOf.{Bound, bound_as, node_at, equality_op_of, relation_op_of, sum_op_of, product_op_of, word_of, expr_of, or_of, or_parts_of, and_of, and_parts_of, equality_of, equality_parts_of, relation_of, relation_parts_of, sum_of, sum_parts_of, product_of, product_parts_of, unary_of, primary_of, builder_of, build_of, next_exprs_of, rows_of, next_legs_of, leg_of, fields_of, param_of, param_bound, next_params_of, params_scope, params_behind, program_of}
 use Rattle.weld_spell.specs.Spells.{Spells}
 use Rattle.weld_names.specs.Names.{misnamed, none, name_of, with_params, first_misnamed}

@@ -10,7 +10,7 @@ ghost use Rattle.weld_grammar.specs.declared.item.Item.TheVariants.{Part as OfRu
 ghost use Rattle.weld_grammar.specs.Grammar.{item};
 ghost use Rattle.weld_grammar.specs.Derivation.{Tree, yield, IsOf};
 ghost use Rattle.weld_grammar.specs.Breaks.{Derives, BreaksAt};
-ghost use Rattle.weld_read_type.specs.Fronts.{seen};
+ghost use Rattle.weld_spell.specs.Seen.{seen};
 ghost use Rattle.weld_spell.specs.ProgramOf.{program_of};
 ghost use Rattle.weld_names.specs.Names.{first_misnamed};
 ghost use Rattle.weld_programs.specs.Ranges.{number_out_of_range};

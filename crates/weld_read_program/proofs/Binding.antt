@@ -15,7 +15,7 @@ use Rattle.weld_grammar.specs.declared.item.Item.{Item}
 use Rattle.weld_grammar.specs.declared.item.Item.TheVariants.{One as OneToken, Part as OfRule, Optional, Repeated}
 use Rattle.weld_grammar.specs.Grammar.{Part, item, all_of, one_of, body}
 use Rattle.weld_grammar.specs.Derivation.{Tree, leaf, node, empty, pair, here, there, yield, IsOf}
-use Rattle.weld_read_type.specs.Fronts.{seen}
+use Rattle.weld_spell.specs.Seen.{seen}
 use Rattle.weld_names.specs.Names.{Refused, none, binding_of, misnamed, or_else, reserved}
 use Rattle.weld_spell.specs.ProgramOf.{Bound, Spelled, SpelledLegs, expr_of, or_of, rows_of, primary_of, binder_of, bound_as}
 use Rattle.weld_read_program.specs.State.{State, Took}

@@ -24,8 +24,9 @@ use Rattle.weld_grammar.specs.Grammar.{Part, item, all_of, one_of, body, is_of}
 use Rattle.weld_grammar.specs.Pending.{pending, can_end}
 use Rattle.weld_grammar.specs.Derivation.{Tree, leaf, node, empty, pair, here, there, yield, IsOf}
 use Rattle.weld_grammar.specs.Breaks.{Derives}
-use Rattle.weld_read_type.specs.Fronts.{seen, TypeFront, OpFront}
-use Rattle.weld_read_type.specs.TypeOf.{type_of, merge_op_of, int_kind_of}
+use Rattle.weld_spell.specs.Seen.{seen}
+use Rattle.weld_read_type.specs.Fronts.{TypeFront, OpFront}
+use Rattle.weld_spell.specs.TypeOf.{type_of, merge_op_of, int_kind_of}
 use Rattle.weld_names.specs.Names.{none, binding_of, misnamed, or_else, reserved}
 use Rattle.weld_spell.specs.ProgramOf.{Bound, Spelled, node_at, first_of, expr_of, primary_of, builder_of, binder_of, note_of, note_place_of}
 use Rattle.weld_read_program.specs.State.{State, Took, TookWord, Numbered}

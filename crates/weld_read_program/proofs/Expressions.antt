@@ -17,7 +17,7 @@ use Rattle.weld_grammar.specs.declared.item.Item.TheVariants.{One as OneToken, P
 use Rattle.weld_grammar.specs.Grammar.{item, all_of, one_of, body, is_of}
 use Rattle.weld_grammar.specs.Begins.{begins}
 use Rattle.weld_grammar.specs.Derivation.{Tree, leaf, node, empty, pair, here, there, yield}
-use Rattle.weld_read_type.specs.Fronts.{seen}
+use Rattle.weld_spell.specs.Seen.{seen}
 use Rattle.weld_names.specs.Names.{none, binding_of, misnamed, or_else, reserved, name_of, by_let}
 use Rattle.weld_tokens.specs.Literals.{literal_value, field_value}
 use Rattle.weld_spell.specs.ProgramOf.{Bound, Spelled, node_at, expr_of, or_of, unary_of, primary_of, fields_of, kind_of_class, binder_of, bound_as}

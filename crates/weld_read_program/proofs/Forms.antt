@@ -31,7 +31,7 @@ use Rattle.weld_read_program.specs.Heads.{at, opening, closing, WordRead, KindRe
 use Rattle.weld_read_program.specs.Reads.{ExprRead, PrimaryRead, LeafRead}
 use Rattle.weld_read_program.proofs.Rows.{or_else-none, two_named, unnamed, row_end, row_more, row_took, took_front, wrap, pick, clear, clear_by, choose, begun_pair, begun_node, begun_leaf, begun_wrap, of_row, of_choice}
 use Rattle.weld_read_program.proofs.Classes.{fixed_class, sign_class}
-use Rattle.weld_read_type.specs.TypeOf.{int_kind_of}
+use Rattle.weld_spell.specs.TypeOf.{int_kind_of}
 use Rattle.weld_read_program.proofs.Nameless.{silent}
 use Rattle.weld_read_program.proofs.Lines.{repeated_none, repeated_more}
 

@@ -10,7 +10,7 @@ use Rattle.weld_grammar.specs.declared.item.Item.TheVariants.{One, Part as OfRul
 use Rattle.weld_grammar.specs.Grammar.{Part, item, all_of, one_of, body}
 use Rattle.weld_grammar.specs.Begins.{begins}
 use Rattle.weld_grammar.specs.Derivation.{Tree, leaf, node, empty, pair, here, there, yield, IsOf, Unbegun}
-use Rattle.weld_read_type.specs.Fronts.{seen}
+use Rattle.weld_spell.specs.Seen.{seen}
 use Rattle.weld_names.specs.Names.{Refused, or_else, misnamed, misnamed_token, none, binding_of}
 use Rattle.weld_spell.specs.ProgramOf.{Bound, Spelled}
 use Rattle.weld_read_program.specs.State.{State, Took}

@@ -14,7 +14,8 @@ use Rattle.weld_grammar.specs.declared.item.Item.{Item}
 use Rattle.weld_grammar.specs.declared.item.Item.TheVariants.{Part as OfRule, Optional}
 use Rattle.weld_grammar.specs.Grammar.{Part, item, is_of}
 use Rattle.weld_grammar.specs.Derivation.{Tree, leaf, yield, IsOf}
-use Rattle.weld_read_type.specs.Fronts.{seen, TypeFront, OpFront}
+use Rattle.weld_spell.specs.Seen.{seen}
+use Rattle.weld_read_type.specs.Fronts.{TypeFront, OpFront}
 use Rattle.weld_names.specs.Names.{or_else, reserved, misnamed, none}
 use Rattle.weld_spell.specs.ProgramOf.{Bound, Spelled, note_of, note_place_of, binder_of}
 use Rattle.weld_read_program.specs.State.{State, Took}

@@ -17,8 +17,8 @@ use Rattle.weld_grammar.specs.declared.rule.Rule.TheVariants.{Expr, IntKind}
 use Rattle.weld_grammar.specs.declared.item.Item.TheVariants.{Part as OfRule}
 use Rattle.weld_grammar.specs.Grammar.{item}
 use Rattle.weld_grammar.specs.Derivation.{Tree, yield, IsOf}
-use Rattle.weld_read_type.specs.Fronts.{seen}
-use Rattle.weld_read_type.specs.TypeOf.{int_kind_of}
+use Rattle.weld_spell.specs.Seen.{seen}
+use Rattle.weld_spell.specs.TypeOf.{int_kind_of}
 use Rattle.weld_spell.specs.ProgramOf.{Bound, expr_of, first_of}
 use Rattle.weld_read_program.specs.declared.heads.Head.{Head}
 use Rattle.weld_read_program.specs.declared.heads.Head.TheVariants.{Paren, Vec, Struct, If, Select, Slice, LookUp, KeyExists, Merge, Len, Finish, Cast}

@@ -13,7 +13,7 @@ use Rattle.weld_grammar.specs.declared.item.Item.{Item}
 use Rattle.weld_grammar.specs.declared.item.Item.TheVariants.{One, Part as OfRule, Repeated}
 use Rattle.weld_grammar.specs.Grammar.{item}
 use Rattle.weld_grammar.specs.Derivation.{Tree, yield, IsOf}
-use Rattle.weld_read_type.specs.Fronts.{seen}
+use Rattle.weld_spell.specs.Seen.{seen}
 use Rattle.weld_spell.specs.ProgramOf.{Bound, Spelled, node_at, first_of, or_of, and_of, equality_of, relation_of, sum_of, product_of, unary_of, or_parts_of, and_parts_of, equality_parts_of, relation_parts_of, sum_parts_of, product_parts_of, equality_op_of, relation_op_of, sum_op_of, product_op_of}
 use Rattle.weld_names.specs.Names.{misnamed, none}
 use Rattle.weld_read_program.specs.declared.levels.Level.{Level}

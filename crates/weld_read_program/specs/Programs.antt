@@ -10,7 +10,7 @@ use Rattle.weld_grammar.specs.declared.rule.Rule.TheVariants.{Program, Param, Ne
 use Rattle.weld_grammar.specs.declared.item.Item.TheVariants.{Part as OfRule, Repeated}
 use Rattle.weld_grammar.specs.Grammar.{item}
 use Rattle.weld_grammar.specs.Derivation.{Tree, yield, IsOf}
-use Rattle.weld_read_type.specs.Fronts.{seen}
+use Rattle.weld_spell.specs.Seen.{seen}
 use Rattle.weld_names.specs.Names.{Refused, first_misnamed, name_of, with_params}
 use Rattle.weld_spell.specs.ProgramOf.{Bound, program_of, param_of, param_bound, next_params_of, params_scope, params_behind}
 use Rattle.weld_read_program.specs.State.{State, Took}

@@ -19,7 +19,7 @@ use Rattle.weld_grammar.specs.declared.item.Item.{Item}
 use Rattle.weld_grammar.specs.declared.item.Item.TheVariants.{One, Part as OfRule, Optional, Repeated}
 use Rattle.weld_grammar.specs.Grammar.{item}
 use Rattle.weld_grammar.specs.Derivation.{Tree, leaf, yield, IsOf}
-use Rattle.weld_read_type.specs.Fronts.{seen}
+use Rattle.weld_spell.specs.Seen.{seen}
 use Rattle.weld_spell.specs.ProgramOf.{Bound, expr_of, unary_of, primary_of, fields_of, rows_of, leg_of, bound_as}
 use Rattle.weld_read_program.specs.State.{State, Took}
 use Rattle.weld_read_program.specs.Scope.{names_of}

@@ -22,8 +22,10 @@ use Rattle.weld_grammar.specs.declared.item.Item.TheVariants.{One, Part as OfRul
 use Rattle.weld_grammar.specs.Grammar.{item, all_of, is_of}
 use Rattle.weld_grammar.specs.Begins.{starts}
 use Rattle.weld_grammar.specs.Derivation.{Tree, leaf, node, empty, pair, here, there, yield, IsOf, Unbegun}
-use Rattle.weld_read_type.specs.TypeOf.{type_of, next_types_of, merge_op_of, int_kind_of}
-use Rattle.weld_read_type.specs.Fronts.{seen, Taken, At, TypeFront, OpFront, NextFront, InBrackets, TwoInBrackets, OpAtEnd, OneWithOp, TwoWithOp, FieldsFront, BehindWord, Next, StructRest, FurtherRead, SpellsType}
+use Rattle.weld_spell.specs.TypeOf.{type_of, next_types_of, merge_op_of, int_kind_of}
+use Rattle.weld_spell.specs.Seen.{seen}
+use Rattle.weld_read_type.specs.Fronts.{Taken, At, TypeFront, OpFront, NextFront, InBrackets, TwoInBrackets, OpAtEnd, OneWithOp, TwoWithOp, FieldsFront, BehindWord, Next, StructRest, FurtherRead}
+use Rattle.weld_spell.specs.Types.{SpellsType}
 
 -- items in a row
 record Row (is : List Item) (ts rest : List Token) (tree : Tree Token) : Type 0 where

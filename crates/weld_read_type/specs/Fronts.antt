@@ -14,19 +14,8 @@ use Rattle.weld_grammar.specs.declared.item.Item.{Item}
 use Rattle.weld_grammar.specs.declared.item.Item.TheVariants.{Part as OfRule, Repeated}
 use Rattle.weld_grammar.specs.Grammar.{item, is_of}
 use Rattle.weld_grammar.specs.Derivation.{Tree, leaf, node, empty, pair, here, there, yield, IsOf}
-use Rattle.weld_tree.specs.Types.{IsWithinLimits}
-use Rattle.weld_grammar.specs.Breaks.{BreaksAt}
-use Rattle.weld_accept.specs.Classes.{classes as classes_of}
-use Rattle.weld_read_type.specs.TypeOf.{type_of, next_types_of, merge_op_of}
-
--- what the grammar sees of a tree of tokens
-abbrev pub seen : Tree Token → Tree Class
-seen (leaf t) = leaf t.class
-seen (node t) = node (seen t)
-seen empty = empty
-seen (pair t u) = pair (seen t) (seen u)
-seen (here t) = here (seen t)
-seen (there t) = there (seen t)
+use Rattle.weld_spell.specs.Seen.{seen}
+use Rattle.weld_spell.specs.TypeOf.{type_of, next_types_of, merge_op_of}
 
 -- the first token is the terminal, and these follow it
 pub record Taken (a : Terminal) (ts rest : List Token) : Type 0 where
@@ -135,15 +124,3 @@ pub record FurtherRead (ts rest : List Token) (before after : List TypeTree) : T
   pub more : List TypeTree
   pub is : after ≡ before ++ more
   pub further : NextFront ts rest (pack more)
-
--- the tokens spell the type
-pub record SpellsType (ts : List Token) (v : TypeTree) : Type 0 where
-  pub tree : Tree Token
-  pub tree_of : IsOf (item (OfRule AnyType)) (seen tree)
-  pub tokens : yield tree ≡ ts
-  pub value : type_of tree ≡ v
-
--- the tokens aren't derived as a type, or they spell one over the limits on written types
-pub data IsNoType (ts : List Token) : Type 0 where
-  broken : (n : ℕ) → BreaksAt AnyType (classes_of ts) n → IsNoType ts
-  too_large : (v : TypeTree) → SpellsType ts v → ¬ (IsWithinLimits v) → IsNoType ts

@@ -1,2 +1,1 @@
-pub mod TypeOf
 pub mod Fronts

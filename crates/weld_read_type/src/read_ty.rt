@@ -1,6 +1,6 @@
 ghost use Rattle.std.specs.Prelude.{MatchOption, IfOk};
 ghost use Rattle.weld_tree.specs.Types.{IsWithinLimits};
-ghost use Rattle.weld_read_type.specs.Fronts.{SpellsType, IsNoType};
+ghost use Rattle.weld_spell.specs.Types.{SpellsType, IsNoType};
 
 use crate::cursor::Cursor;
 use crate::read::read_type;

@@ -16,7 +16,7 @@ use Rattle.weld_grammar.specs.declared.item.Item.{Item}
 use Rattle.weld_grammar.specs.declared.item.Item.TheVariants.{One, Part as OfRule, Optional, Repeated}
 use Rattle.weld_grammar.specs.Grammar.{Part, item, all_of, one_of, body, is_of}
 use Rattle.weld_grammar.specs.Derivation.{Tree, leaf, node, empty, pair, here, there, IsOf}
-use Rattle.weld_read_type.specs.Fronts.{seen}
+use Rattle.weld_spell.specs.Seen.{seen}
 use Rattle.weld_tokens.specs.Order.{out_of_range}
 use Rattle.weld_names.specs.Names.{Refused, bears, reserved, misnamed, misnamed_token, none, Binding, binding_of, name_of, with_params}
 use Rattle.weld_names.specs.Names.{or_else as first_name}

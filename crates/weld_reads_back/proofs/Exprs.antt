@@ -17,7 +17,7 @@ use Rattle.weld_grammar.specs.declared.rule.Rule.TheVariants as r
 use Rattle.weld_grammar.specs.declared.item.Item.TheVariants.{Part as OfRule, Repeated}
 use Rattle.weld_grammar.specs.Grammar.{item}
 use Rattle.weld_grammar.specs.Derivation.{Tree, leaf, node, empty, pair, here, there, yield, Unbegun, IsOf}
-use Rattle.weld_read_type.specs.Fronts.{seen}
+use Rattle.weld_spell.specs.Seen.{seen}
 use Rattle.weld_spell.specs.ProgramOf.{expr_of, unary_of, primary_of}
 use Rattle.weld_print.specs.Operands.{in_parens}
 use Rattle.weld_print.specs.PrintText.{name_text, note_text, parens, op_between, expr_text, rows_text, legs_text, leg_text}

@@ -22,7 +22,7 @@ use Rattle.weld_grammar.specs.declared.item.Item.TheVariants.{One as OneOf, Part
 use Rattle.weld_grammar.specs.declared.terminal.Terminal.TheVariants.{Number}
 use Rattle.weld_grammar.specs.Grammar.{item}
 use Rattle.weld_grammar.specs.Derivation.{Tree, leaf, node, empty, pair, here, there, yield, Unbegun, IsOf}
-use Rattle.weld_read_type.specs.Fronts.{seen}
+use Rattle.weld_spell.specs.Seen.{seen}
 use Rattle.weld_spell.specs.ProgramOf.{expr_of, primary_of}
 use Rattle.weld_print.specs.Operands.{in_parens, in_parens_behind_minus, is_natural_or_field, value_in_parens}
 use Rattle.weld_print.specs.PrintText.{parens, expr_text}

@@ -19,7 +19,7 @@ use Rattle.weld_grammar.specs.declared.item.Item.TheVariants.{One, Part as OfRul
 use Rattle.weld_grammar.specs.declared.terminal.Terminal.TheVariants.{Number}
 use Rattle.weld_grammar.specs.Grammar.{item}
 use Rattle.weld_grammar.specs.Derivation.{Tree, leaf, node, empty, pair, here, there, yield, Unbegun, IsOf}
-use Rattle.weld_read_type.specs.Fronts.{seen}
+use Rattle.weld_spell.specs.Seen.{seen}
 use Rattle.weld_spell.specs.ProgramOf.{Bound, Spelled, node_at, expr_of, or_of, and_of, equality_of, relation_of, sum_of, product_of, unary_of, primary_of, fields_of}
 use Rattle.weld_print.specs.PrintText.{op_between}
 use Rattle.weld_names.specs.Names.{none as no_binding}

@@ -17,8 +17,8 @@ use Rattle.weld_grammar.specs.declared.rule.Rule.TheVariants as r
 use Rattle.weld_grammar.specs.declared.item.Item.TheVariants.{Part as OfRule, Repeated}
 use Rattle.weld_grammar.specs.Grammar.{item}
 use Rattle.weld_grammar.specs.Derivation.{Tree, leaf, node, empty, pair, here, there, yield, IsOf}
-use Rattle.weld_read_type.specs.TypeOf.{type_of}
-use Rattle.weld_read_type.specs.Fronts.{seen}
+use Rattle.weld_spell.specs.TypeOf.{type_of}
+use Rattle.weld_spell.specs.Seen.{seen}
 use Rattle.weld_spell.specs.ProgramOf.{Bound, number_in, expr_of, next_params_of, params_scope, params_behind, program_of}
 use Rattle.weld_print_type.specs.TypeText.{type_text}
 use Rattle.weld_print.specs.PrintText.{name_text, binder_text, note_text, binders_text, program_text, expr_text}

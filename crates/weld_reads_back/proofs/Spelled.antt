@@ -7,7 +7,7 @@ use Rattle.weld_reads_back.specs.Texts.{TextSpellsType}
 use Rattle.weld_reads_back.proofs.Types.{type_reads_back}
 use Rattle.weld_terminals.specs.declared.token.Token.{Token}
 use Rattle.weld_grammar.specs.Derivation.{Tree, node, pair, here, there}
-use Rattle.weld_read_type.specs.TypeOf.{type_of, next_types_of}
+use Rattle.weld_spell.specs.TypeOf.{type_of, next_types_of}
 use Rattle.weld_reads_back.specs.Spellable.{HasNoEmptyStruct, HaveNoEmptyStruct}
 
 mutual

@@ -17,8 +17,8 @@ use Rattle.weld_grammar.specs.declared.rule.Rule.TheVariants.{AnyType, MergeOp a
 use Rattle.weld_grammar.specs.declared.item.Item.TheVariants.{Part as OfRule, Repeated}
 use Rattle.weld_grammar.specs.Grammar.{item}
 use Rattle.weld_grammar.specs.Derivation.{Tree, leaf, node, empty, pair, here, there, yield, IsOf}
-use Rattle.weld_read_type.specs.TypeOf.{type_of, next_types_of, merge_op_of}
-use Rattle.weld_read_type.specs.Fronts.{seen}
+use Rattle.weld_spell.specs.TypeOf.{type_of, next_types_of, merge_op_of}
+use Rattle.weld_spell.specs.Seen.{seen}
 use Rattle.weld_print_type.specs.TypeText.{op_text, type_text, build_text, fields_text}
 use Rattle.weld_reads_back.specs.Spellable.{HasNoEmptyStruct, BuildHasNoEmptyStruct, HaveNoEmptyStruct}
 use Rattle.weld_reads_back.specs.Texts.{TextSpellsType}

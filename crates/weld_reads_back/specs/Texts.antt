@@ -4,7 +4,7 @@ use Rattle.weld_terminals.specs.declared.token.Token.{Token}
 use Rattle.weld_tree.specs.TypeTree.{TypeTree}
 use Rattle.weld_tree.specs.Program.{ProgramTree}
 use Rattle.weld_tokens.specs.Tokens.{AreTokens}
-use Rattle.weld_read_type.specs.Fronts.{SpellsType}
+use Rattle.weld_spell.specs.Types.{SpellsType}
 use Rattle.weld_spell.specs.Spells.{Spells}
 use Rattle.weld_names.specs.Names.{first_misnamed}
 use Rattle.weld_programs.specs.Ranges.{number_out_of_range}

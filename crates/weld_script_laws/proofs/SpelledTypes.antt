@@ -10,10 +10,11 @@ use Rattle.weld_grammar.specs.declared.item.Item.TheVariants.{Part as OfRule}
 use Rattle.weld_grammar.specs.Grammar.{item}
 use Rattle.weld_grammar.specs.Derivation.{Tree, yield, IsOf}
 use Rattle.weld_grammar.specs.Breaks.{Derives, BreaksAt}
-use Rattle.weld_accept.specs.Classes.{classes}
+use Rattle.weld_grammar.specs.Classes.{classes}
 use Rattle.weld_tokens.specs.TokenLimits.{has_too_many_tokens}
-use Rattle.weld_read_type.specs.TypeOf.{type_of}
-use Rattle.weld_read_type.specs.Fronts.{seen, SpellsType, IsNoType, broken, too_large}
+use Rattle.weld_spell.specs.TypeOf.{type_of}
+use Rattle.weld_spell.specs.Seen.{seen}
+use Rattle.weld_spell.specs.Types.{SpellsType, IsNoType, broken, too_large}
 use Rattle.weld_statements.specs.Parts.{NoType, unspelled, unwanted, TypeRead}
 use Rattle.weld_script_laws.proofs.Cases.{in_both, in_either, nothing}
 use Rattle.weld_script_laws.proofs.Decided.{Either, limits_decided}

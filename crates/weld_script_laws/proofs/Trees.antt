@@ -4,8 +4,8 @@ use Rattle.std.proofs.lemmas.List.{append-nil}
 use Rattle.weld_terminals.specs.declared.class.Class.{Class}
 use Rattle.weld_terminals.specs.declared.token.Token.{Token}
 use Rattle.weld_grammar.specs.Derivation.{Tree, leaf, node, empty, pair, here, there, yield}
-use Rattle.weld_accept.specs.Classes.{classes}
-use Rattle.weld_read_type.specs.Fronts.{seen}
+use Rattle.weld_grammar.specs.Classes.{classes}
+use Rattle.weld_spell.specs.Seen.{seen}
 
 classes-append : (xs ys : List Token) → classes (xs ++ ys) ≡ classes xs ++ classes ys
 classes-append [] ys = refl

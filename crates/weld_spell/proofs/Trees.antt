@@ -10,8 +10,8 @@ use Rattle.weld_grammar.specs.declared.item.Item.TheVariants.{Part as OfRule}
 use Rattle.weld_grammar.specs.Grammar.{item}
 use Rattle.weld_grammar.specs.Derivation.{Tree, leaf, node, empty, pair, here, there, yield, IsOf}
 use Rattle.weld_grammar.specs.Breaks.{Derives}
-use Rattle.weld_accept.specs.Classes.{classes}
-use Rattle.weld_read_type.specs.Fronts.{seen}
+use Rattle.weld_grammar.specs.Classes.{classes}
+use Rattle.weld_spell.specs.Seen.{seen}
 use Rattle.weld_spell.specs.ProgramOf.{program_of}
 use Rattle.weld_spell.specs.Spells.{Spells}
 

@@ -16,7 +16,7 @@ use Rattle.weld_tree.specs.declared.place.Place.{Place}
 use Rattle.weld_tree.specs.declared.binder.Binder.{Binder}
 use Rattle.weld_tree.specs.declared.known.Known.TheVariants.{Blank}
 use Rattle.weld_grammar.specs.Derivation.{Tree, leaf, node, empty, pair, here, there, yield}
-use Rattle.weld_read_type.specs.TypeOf.{type_of, merge_op_of, int_kind_of}
+use Rattle.weld_spell.specs.TypeOf.{type_of, merge_op_of, int_kind_of}
 
 -- a binder in scope: its name and its number
 pub record Bound : Type 0 where

@@ -6,7 +6,7 @@ use Rattle.weld_grammar.specs.declared.rule.Rule.TheVariants.{Program}
 use Rattle.weld_grammar.specs.declared.item.Item.TheVariants.{Part as OfRule}
 use Rattle.weld_grammar.specs.Grammar.{item}
 use Rattle.weld_grammar.specs.Derivation.{Tree, yield, IsOf}
-use Rattle.weld_read_type.specs.Fronts.{seen}
+use Rattle.weld_spell.specs.Seen.{seen}
 use Rattle.weld_spell.specs.ProgramOf.{program_of}
 
 -- the tokens derive a program, by a tree of which this is the program

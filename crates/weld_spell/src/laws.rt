@@ -8,8 +8,8 @@ ghost use Rattle.weld_grammar.specs.declared.rule.Rule.{Rule};
 ghost use Rattle.weld_grammar.specs.declared.item.Item.TheVariants.{Part as OfRule};
 ghost use Rattle.weld_grammar.specs.Grammar.{item};
 ghost use Rattle.weld_grammar.specs.Derivation.{Tree, yield, IsOf};
-ghost use Rattle.weld_read_type.specs.Fronts.{seen};
-ghost use Rattle.weld_accept.specs.Classes.{classes};
+ghost use Rattle.weld_spell.specs.Seen.{seen};
+ghost use Rattle.weld_grammar.specs.Classes.{classes};
 ghost use Rattle.weld_spell.specs.Spells.{Spells};
 ghost use Rattle.weld_spell.specs.Numbers.{count_from};
 

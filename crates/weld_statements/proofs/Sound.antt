@@ -20,7 +20,7 @@ use Rattle.weld_grammar.specs.declared.terminal.Terminal.TheVariants.{Sign, Name
 use Rattle.weld_grammar.specs.Grammar.{is_of}
 use Rattle.weld_tokens.specs.Literals.{number_value, greatest_literal, is_in_range, literal_value}
 use Rattle.weld_tokens.specs.TokenLimits.{first_long_name, has_too_many_tokens}
-use Rattle.weld_read_type.specs.Fronts.{SpellsType}
+use Rattle.weld_spell.specs.Types.{SpellsType}
 use Rattle.weld_calls.specs.CallTypes.{IsValueType}
 use Rattle.weld_table.specs.Table.{IsCell}
 use Rattle.weld_statements.specs.declared.statement.Argument.{Argument}

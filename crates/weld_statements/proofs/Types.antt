@@ -4,7 +4,7 @@ use Rattle.weld_terminals.specs.declared.token.Token.{Token}
 use Rattle.weld_tree.specs.TypeTree.{TypeTree}
 use Rattle.weld_tree.specs.Types.{IsWithinLimits}
 use Rattle.weld_tokens.specs.TokenLimits.{has_too_many_tokens}
-use Rattle.weld_read_type.specs.Fronts.{SpellsType, IsNoType}
+use Rattle.weld_spell.specs.Types.{SpellsType, IsNoType}
 use Rattle.weld_statements.specs.Parts.{NoType, unspelled, unwanted, TypeRead}
 
 abbrev within : List Token → Bool → (TypeTree → Type 0) → Option TypeTree → Type 0

@@ -10,7 +10,7 @@ use Rattle.weld_grammar.specs.Grammar.{is_of}
 use Rattle.weld_tree.specs.TypeTree.{TypeTree}
 use Rattle.weld_tree.specs.Types.{IsWithinLimits}
 use Rattle.weld_tokens.specs.TokenLimits.{has_too_many_tokens}
-use Rattle.weld_read_type.specs.Fronts.{SpellsType, IsNoType}
+use Rattle.weld_spell.specs.Types.{SpellsType, IsNoType}
 
 -- ---- lists
 

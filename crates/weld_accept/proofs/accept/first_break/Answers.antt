@@ -1,7 +1,7 @@
 use Rattle.std.proofs.Common.{◌<◌, length, arith, sym, ◌∙◌}
 use Rattle.std.proofs.lemmas.Bool.{MatchBool-at_true, MatchBool-at_false}
 use Rattle.weld_grammar.specs.Breaks.{at_token, at_end}
-use Rattle.weld_accept.specs.Classes.{classes}
+use Rattle.weld_grammar.specs.Classes.{classes}
 use Rattle.weld_accept.proofs.Steps.{pending_at, pending_end, length-classes}
 use Rattle.weld_accept.proofs.accept.first_break.Goals as goal
 

@@ -1,6 +1,6 @@
 use Rattle.std.proofs.Common.{sym, ◌∙◌}
 use Rattle.std.proofs.lemmas.Bool.{false≢true}
-use Rattle.weld_read_type.specs.Fronts.{too_large}
+use Rattle.weld_spell.specs.Types.{too_large}
 use Rattle.weld_read_type.proofs.Productions.{spelled}
 use Rattle.weld_read_type.proofs.read_ty.read_derived.Goals as goal
 

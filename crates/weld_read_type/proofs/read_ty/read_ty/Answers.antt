@@ -1,4 +1,4 @@
-use Rattle.weld_read_type.specs.Fronts.{broken}
+use Rattle.weld_spell.specs.Types.{broken}
 use Rattle.weld_read_type.proofs.Productions.{match_some}
 use Rattle.weld_read_type.proofs.read_ty.read_ty.Goals as goal
 

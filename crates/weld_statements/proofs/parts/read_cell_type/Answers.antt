@@ -1,6 +1,6 @@
 use Rattle.std.proofs.Common.{sym, ◌∙◌, subst, MatchOption, false, IsTrue}
 use Rattle.weld_tree.specs.Types.{IsWithinLimits}
-use Rattle.weld_read_type.specs.Fronts.{SpellsType, IsNoType}
+use Rattle.weld_spell.specs.Types.{SpellsType, IsNoType}
 use Rattle.weld_table.specs.Table.{IsCell}
 use Rattle.weld_statements.proofs.Types.{unspelled_read, unwanted_read}
 use Rattle.weld_statements.proofs.parts.read_cell_type.Goals as goal
