@@ -6,7 +6,9 @@ pub mod lead;
 pub mod machine;
 pub mod stack;
 pub mod starts;
+pub mod step;
 pub mod table;
 
 pub use accept::first_break;
 pub use lead::is_of;
+pub use step::Step;

@@ -1,0 +1,4 @@
+pub mod Values
+pub mod Forms
+pub mod States
+pub mod Runs
