@@ -68,8 +68,8 @@ kind_of_word _ = kinds.Bool
 -- ---- expressions
 
 -- `e o f`
-abbrev pub infix : (Token → Two) → List Value → Reduced
-infix form vs = option_and_then (λ f. option_and_then (λ o. option_and_then (λ e. Some (expr (two (at o.0.place) (form o.0) e.0 f.0) ∷ e.1)) (top_expr o.1)) (top_token f.1)) (top_expr vs)
+abbrev pub between : (Token → Two) → List Value → Reduced
+between form vs = option_and_then (λ f. option_and_then (λ o. option_and_then (λ e. Some (expr (two (at o.0.place) (form o.0) e.0 f.0) ∷ e.1)) (top_expr o.1)) (top_token f.1)) (top_expr vs)
 
 -- a word or a sign, and one expression
 abbrev pub call_one : (Token → One) → List Value → Reduced
@@ -199,12 +199,12 @@ cells_builder vs = option_and_then (λ e. as_started e.0 (cells_built e.1)) (top
 
 abbrev pub reduced : Rule → List Value → Reduced
 reduced r.WithoutParams vs = behind_token vs
-reduced r.OrPart vs = infix (λ t. or) vs
-reduced r.AndPart vs = infix (λ t. and) vs
-reduced r.EqualityPart vs = infix (λ t. binary (equality_op t.class)) vs
-reduced r.RelationPart vs = infix (λ t. binary (relation_op t.class)) vs
-reduced r.SumPart vs = infix (λ t. binary (sum_op t.class)) vs
-reduced r.ProductPart vs = infix (λ t. binary (product_op t.class)) vs
+reduced r.OrPart vs = between (λ t. or) vs
+reduced r.AndPart vs = between (λ t. and) vs
+reduced r.EqualityPart vs = between (λ t. binary (equality_op t.class)) vs
+reduced r.RelationPart vs = between (λ t. binary (relation_op t.class)) vs
+reduced r.SumPart vs = between (λ t. binary (sum_op t.class)) vs
+reduced r.ProductPart vs = between (λ t. binary (product_op t.class)) vs
 reduced r.Minus vs = minus vs
 reduced r.Not vs = call_one (λ t. not) vs
 reduced r.FieldPart vs = field vs

@@ -1,5 +1,5 @@
 //! Laws of spelling. Each function's contract is the law.
-ghost use Rattle.std.specs.Prelude.{◌≡◌, Some, List};
+ghost use Rattle.std.specs.Prelude.{◌≡◌, Some, []};
 ghost use Rattle.weld_reduce.specs.States.{State};
 ghost use Rattle.weld_reduce.specs.Runs.{run};
 
