@@ -31,7 +31,7 @@ use Rattle.weld_limits.specs.Depth.{first_deep_node}
 use Rattle.weld_limits.specs.Lets.{has_too_many_lets}
 use Rattle.weld_limits.specs.Lists.{first_type_too_large, first_parameter_too_many, first_field_too_many}
 use Rattle.weld_names.specs.Names.{first_misnamed}
-use Rattle.weld_read_program.specs.Programs.{IsRead}
+use Rattle.weld_reduce.specs.Programs.{IsRead}
 use Rattle.weld_parse.specs.Findings.{place_at, broken_at, IsTreeOf, found_in, Finds, broken, derived}
 use Rattle.weld_parse.specs.Parses.{Parses, IsRefused, no_token, by_rule}
 use Rattle.weld_parse.specs.Judged.{IsAccepted, IsRefusedTree}

@@ -1,4 +1,3 @@
 pub mod Order
 pub mod Answering
 pub mod OneAnswer
-pub mod NoNames

@@ -1,3 +1,4 @@
 pub mod Findings
 pub mod Parses
 pub mod Judged
+pub mod Unread

@@ -6,11 +6,11 @@ ghost use Rattle.weld_limits.specs.Depth as depth;
 ghost use Rattle.weld_limits.specs.Lets as lets;
 ghost use Rattle.weld_limits.specs.Lists as lists;
 
-use crate::program::Read;
 use weld_limits::{
     first_deep_node, first_field_too_many, first_parameter_too_many, first_type_too_large,
     has_too_many_lets,
 };
+use weld_reduce::Read;
 use weld_terminals::Token;
 use weld_tokens::{Findings, first_number_out_of_range};
 use weld_tree::Place;

@@ -6,5 +6,5 @@ pub mod laws;
 pub mod program;
 pub mod reading;
 
-pub use program::{Read, read_program};
+pub use program::{Unread, read_program};
 pub use reading::parse;

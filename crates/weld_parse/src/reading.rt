@@ -1,23 +1,19 @@
 ghost use Rattle.std.specs.Prelude.{◌≡◌, ◌≢◌, false, IfOk, IfErr};
 ghost use Rattle.weld_tokens.specs.Tokens.{AreTokens};
 ghost use Rattle.weld_tokens.specs.TokenLimits as limits;
-ghost use Rattle.weld_grammar.specs.declared.rule.Rule.TheVariants as rules;
-ghost use Rattle.weld_grammar.specs.Breaks.{Derives};
-ghost use Rattle.weld_grammar.specs.Classes.{classes};
-ghost use Rattle.weld_read_program.specs.Programs.{IsRead};
+ghost use Rattle.weld_reduce.specs.Programs.{IsRead};
 ghost use Rattle.weld_parse.specs.Parses.{Parses, IsRefused};
 ghost use Rattle.weld_parse.specs.Judged.{IsAccepted, IsRefusedTree};
 
 use crate::findings::{found_in, place_at};
-use crate::program::{Read, read_program};
+use crate::program::{Unread, read_program};
 use std::alloc::Global;
-use weld_accept::first_break;
-use weld_grammar::Rule;
 use weld_programs::laws::{derived_or_broken, numbers_by_the_tree, spelled_programs};
+use weld_reduce::Read;
 use weld_spell::laws::programs_are_derived;
 use weld_terminals::Token;
 use weld_tokens::{
-    end_of, first_number_out_of_range, first_refusal, has_too_many_bytes, has_too_many_tokens,
+    end_of, first_refusal, has_too_many_bytes, has_too_many_tokens,
     read_tokens,
 };
 use weld_tree::{Code, Program, Refusal};
@@ -47,32 +43,17 @@ fn parse_tokens(alloc: Global, text: &[u8], tokens: &[Token]) -> Result<Program,
 {
     derived_or_broken();
     programs_are_derived();
+    numbers_by_the_tree();
     if has_too_many_tokens(tokens) {
         return Err(Refusal::Size(Code::M3));
     }
-    match first_break(alloc, Rule::Program, tokens) {
-        Err(_) => Err(Refusal::Memory),
-        Ok(Some(number)) => Err(Refusal::At(Code::X2, place_at(tokens, number, end_of(text)))),
-        Ok(None) => parse_derived(alloc, tokens),
-    }
-}
-
-/// The program that tokens spell which derive one, or the first rule that refuses it.
-fn parse_derived(alloc: Global, tokens: &[Token]) -> Result<Program, Refusal>
-    requires few { limits.has_too_many_tokens tokens.now ≡ false }
-    requires derived { Derives rules.Program (classes tokens.now) }
-    ensures program { IfOk result (λ program. IsAccepted tokens.now program) }
-    ensures refused { IfErr result (λ refusal. refusal ≢ Refusal.Memory → IsRefusedTree tokens.now refusal) }
-{
-    programs_are_derived();
-    numbers_by_the_tree();
-    // (a number out of its range has no value, so it isn't read)
-    if let Some(place) = first_number_out_of_range(tokens) {
-        return Err(Refusal::At(Code::X3, place));
-    }
     match read_program(alloc, tokens) {
-        Err(_) => Err(Refusal::Memory),
         Ok(read) => judge(tokens, read),
+        Err(Unread::Memory) => Err(Refusal::Memory),
+        Err(Unread::Broken(number)) => {
+            Err(Refusal::At(Code::X2, place_at(tokens, number, end_of(text))))
+        }
+        Err(Unread::OutOfRange(place)) => Err(Refusal::At(Code::X3, place)),
     }
 }
 
