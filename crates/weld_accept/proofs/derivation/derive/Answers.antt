@@ -2,8 +2,8 @@ use Rattle.std.proofs.Common.{◌<◌, length, arith, sym, ◌∙◌}
 use Rattle.std.proofs.lemmas.Bool.{MatchBool-at_true, MatchBool-at_false}
 use Rattle.weld_grammar.specs.Breaks.{at_token, at_end}
 use Rattle.weld_grammar.specs.Classes.{classes}
-use Rattle.weld_accept.proofs.Steps.{pending_at, pending_end, length-classes}
-use Rattle.weld_accept.proofs.accept.first_break.Goals as goal
+use Rattle.weld_accept.proofs.Tokens.{pending_at, pending_end, length-classes}
+use Rattle.weld_accept.proofs.derivation.derive.Goals as goal
 
 pub returns-then-not-branch : goal.returns-then-not-branch
 returns-then-not-branch c =
