@@ -147,7 +147,7 @@ onward s t u old mid new xs ys a b = record {
   is = b.is ∙ ap (λ z. z ++ b.taken) a.is ∙ append_assoc old a.taken b.taken;
   made = λ ss zs m.
     let P : List Step → Type 0 = λ z. Makes s z ((xs ++ ys) ++ zs) in
-    let Q : List Class → Type 0 = λ z. Makes s (a.taken ++ b.taken ++ ss) z in
+    let Q : List Class → Type 0 = λ z. Makes s (a.taken ++ (b.taken ++ ss)) z in
     subst P (sym (append_assoc a.taken b.taken ss)) (subst Q (sym (append_assoc xs ys zs)) (a.made (b.taken ++ ss) (ys ++ zs) (b.made ss zs m)));
 }
 
@@ -191,3 +191,9 @@ derived q xs new m =
       tokens = sym (append-nil (yield p.0)) ∙ ap (λ z. yield p.0 ++ z) (sym p.6.1) ∙ sym p.5 ∙ append-nil xs;
       is = sym (append-nil (steps (item (OfRule q)) p.0)) ∙ ap (λ z. steps (item (OfRule q)) p.0 ++ z) (sym p.6.0) ∙ sym p.4 ∙ append-nil m.taken ∙ sym m.is;
     }
+
+pub opens_same : (i j : Item) (x : Class) (s u : List Entry) (old : List Step) (t : List Entry) (new : List Step) → i ≡ j → s ≡ u → Opens i x s old t new → Opens j x u old t new
+opens_same i j x s u old t new e k o =
+    let P : Item → Type 0 = λ z. Opens z x u old t new in
+    let Q : List Entry → Type 0 = λ z. Opens i x z old t new in
+    subst P e (subst Q k o)
