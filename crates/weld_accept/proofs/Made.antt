@@ -1,5 +1,5 @@
 -- What the moves of the machine keep.
-use Rattle.std.proofs.Common.{◌≡◌, refl, Bool, true, false, ◌||◌, List, [], ◌∷◌, ◌++◌, ap, sym, ◌∙◌, subst, append_assoc}
+use Rattle.std.proofs.Common.{◌≡◌, refl, Bool, true, false, cond, ◌&&◌, ◌||◌, Some, None, List, [], ◌∷◌, ◌++◌, ap, sym, ◌∙◌, subst, append_assoc}
 use Rattle.std.proofs.lemmas.List.{append-nil}
 use Rattle.std.proofs.lemmas.Bool.{false≢true, cond-true, cond-false}
 use Rattle.weld_terminals.specs.declared.class.Class.{Class}
@@ -9,7 +9,7 @@ use Rattle.weld_grammar.specs.declared.item.Item.{Item}
 use Rattle.weld_grammar.specs.declared.item.Item.TheVariants.{One, Part as OfRule, Optional, Repeated}
 use Rattle.weld_grammar.specs.Grammar.{Part, item, all_of, one_of, body, is_of}
 use Rattle.weld_grammar.specs.Begins.{begins, nullable}
-use Rattle.weld_grammar.specs.Pending.{first_begun}
+use Rattle.weld_grammar.specs.Pending.{first_begun, behind, depth, step, can_end}
 use Rattle.weld_grammar.specs.Apart.{any_begins}
 use Rattle.weld_grammar.specs.Derivation.{Tree, leaf, node, empty, pair, here, there, yield, IsOf, Unbegun}
 use Rattle.weld_accept.specs.declared.step.Step.{Step}
@@ -197,3 +197,17 @@ opens_same i j x s u old t new e k o =
     let P : Item → Type 0 = λ z. Opens z x u old t new in
     let Q : List Entry → Type 0 = λ z. Opens i x z old t new in
     subst P e (subst Q k o)
+
+-- an item in front that can be empty is left out
+pub skipped : (s u t : List Entry) (i : Item) (old new : List Step) → u ≡ Due i ∷ t → nullable i ≡ true → Moves s old [] u new → Moves s old [] t new
+skipped s u t i old new e h m =
+    let P : List Entry → Type 0 = λ z. Moves s old [] z new in
+    onward s (Due i ∷ t) t old new new [] [] (subst P e m) (skips i t new h)
+
+-- what is pending then, at a token that doesn't begin the item
+pub skipped_step : (u t : List Entry) (i : Item) (x : Class) → u ≡ Due i ∷ t → begins i x ≡ false → nullable i ≡ true → step (items_of t) x ≡ step (items_of u) x
+skipped_step u t i x e b h = sym (ap (λ z. step (items_of z) x) e ∙ cond-false (begins i x) (Some (behind depth (item i) x (items_of t))) (cond (nullable i) (step (items_of t) x) None) b ∙ cond-true (nullable i) (step (items_of t) x) None h)
+
+-- whether all that is pending then can be empty
+pub skipped_end : (u t : List Entry) (i : Item) → u ≡ Due i ∷ t → nullable i ≡ true → can_end (items_of t) ≡ can_end (items_of u)
+skipped_end u t i e h = sym (ap (λ z. can_end (items_of z)) e ∙ ap (λ b. b && can_end (items_of t)) h)
