@@ -211,3 +211,7 @@ skipped_step u t i x e b h = sym (ap (λ z. step (items_of z) x) e ∙ cond-fals
 -- whether all that is pending then can be empty
 pub skipped_end : (u t : List Entry) (i : Item) → u ≡ Due i ∷ t → nullable i ≡ true → can_end (items_of t) ≡ can_end (items_of u)
 skipped_end u t i e h = sym (ap (λ z. can_end (items_of z)) e ∙ ap (λ b. b && can_end (items_of t)) h)
+
+-- one move behind others, where the tokens are known by another name
+pub onward_over : (s t u : List Entry) (old mid new : List Step) (xs ys zs : List Class) → zs ≡ xs ++ ys → Moves s old xs t mid → Moves t mid ys u new → Moves s old zs u new
+onward_over s t u old mid new xs ys zs e a b = let P : List Class → Type 0 = λ z. Moves s old z u new in subst P (sym e) (onward s t u old mid new xs ys a b)

@@ -1,3 +1,5 @@
+ghost use Rattle.std.specs.Prelude.{◌≡◌};
+
 use std::alloc::AllocError;
 
 /// Why there is no derivation: the tokens break the rule first at the token of this number, counted from 0,
@@ -9,6 +11,10 @@ pub enum Stop {
 }
 
 impl From<AllocError> for Stop {
+    ghost use Rattle.weld_accept.specs.declared.stop.Stop.TheVariants as stops;
+
+    ghost from_gives = { λ _ stop. stop ≡ stops.Memory };
+
     fn from(_error: AllocError) -> Stop {
         Stop::Memory
     }
