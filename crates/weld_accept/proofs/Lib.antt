@@ -1,2 +1,4 @@
+pub mod Begun
+pub mod Made
 pub mod Ranks
-pub mod Steps
+pub mod Tokens

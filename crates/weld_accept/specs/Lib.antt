@@ -1,2 +1,4 @@
 pub mod Derived
+pub mod Machine
+pub mod Stops
 pub mod Table

@@ -1,12 +1,16 @@
-//! One step: what is pending after one token more.
-ghost use Rattle.std.specs.Prelude.{◌≡◌, Some, None, OnOk, OnErr, IfOk, IsTrue};
+//! One step: what is pending after one token more, and the steps of the derivation that it takes.
+ghost use Rattle.std.specs.Prelude.{◌≡◌, [], ◌∷◌, Some, None, true, OnOk, IfOk, IsTrue, IsFalse};
 ghost use Rattle.std.specs.Bool.{MatchBool};
 ghost use Rattle.weld_grammar.specs.Grammar.{item as one_item};
 ghost use Rattle.weld_grammar.specs.Begins.{begins as begins_class, nullable as nullable_item};
-ghost use Rattle.weld_grammar.specs.Pending.{depth, behind, first_begun as first_of, step as step_of, can_end as can_end_items};
+ghost use Rattle.weld_grammar.specs.Pending.{depth, behind, first_begun as first_of, step as step_of, can_end};
+ghost use Rattle.weld_accept.specs.Machine.{items_of, Moves, Opens};
 
+use crate::entry::Entry;
 use crate::stack::Stack;
 use crate::starts::begins;
+use crate::step::Step;
+use crate::steps::Steps;
 use crate::table::{Production, body};
 use std::alloc::AllocError;
 use weld_grammar::laws::parts_open;
@@ -40,57 +44,75 @@ fn first_begun(choices: &[Item], class: Class) -> Item
     }
 }
 
-/// Opens the item at a token that begins it, and uses the token up.
-fn open(item: Item, class: Class, stack: &mut Stack) -> Result<(), AllocError>
-    ensures { OnOk result (stack.new ≡ behind depth (one_item item) class stack.old) }
+/// Opens the item at a token that begins it, and uses the token up: the rules that begin here lie on the stack
+/// over their ends, and the token is taken.
+fn open(item: Item, class: Class, stack: &mut Stack, steps: &mut Steps) -> Result<(), AllocError>
+    requires { IsTrue (begins_class item class) }
+    ensures pending { OnOk result (items_of stack.new ≡ behind depth (one_item item) class (items_of stack.old)) }
+    ensures opened { OnOk result (Opens item class stack.old steps.old stack.new steps.new) }
 {
     parts_open();
     match item {
-        Item::One(_) => Ok(()),
-        Item::Optional(rule) => open(Item::Part(rule), class, stack),
+        Item::One(terminal) => steps.push(Step::Shift(terminal)),
+        Item::Optional(rule) => open(Item::Part(rule), class, stack, steps),
         Item::Repeated(rule) => {
-            stack.push(item)?;
-            open(Item::Part(rule), class, stack)
+            stack.push(Entry::Due(item))?;
+            open(Item::Part(rule), class, stack, steps)
         }
-        Item::Part(rule) => match body(rule) {
-            Production::OneOf(choices) => open(first_begun(choices, class), class, stack),
-            Production::All(items) => match items.split_first() {
-                None => Ok(()),
-                Some((first, rest)) => {
-                    stack.push_all(rest)?;
-                    open(*first, class, stack)
-                }
-            },
-        },
+        Item::Part(rule) => {
+            stack.push(Entry::End(rule))?;
+            match body(rule) {
+                Production::OneOf(choices) => open(first_begun(choices, class), class, stack, steps),
+                Production::All(items) => match items.split_first() {
+                    None => Ok(()),
+                    Some((first, rest)) => {
+                        stack.push_all(rest)?;
+                        open(*first, class, stack, steps)
+                    }
+                },
+            }
+        }
     }
 }
 
-/// Uses one token up: opens the first pending item that a token of the class may begin, where all before
-/// it can be empty. False where there is none.
-pub fn step(stack: &mut Stack, class: Class) -> Result<bool, AllocError>
-    ensures { IfOk result (λ moved. MatchBool moved (step_of stack.old class ≡ Some stack.new) (step_of stack.old class ≡ None)) }
+/// Uses one token up: ends the rules that end before it, and opens the first pending item that a token of
+/// the class may begin, where all before it can be empty. False where there is none.
+pub fn step(stack: &mut Stack, steps: &mut Steps, class: Class) -> Result<bool, AllocError>
+    ensures pending { IfOk result (λ moved. MatchBool moved (step_of (items_of stack.old) class ≡ Some (items_of stack.new)) (step_of (items_of stack.old) class ≡ None)) }
+    ensures made { IfOk result (λ moved. IsTrue moved → Moves stack.old steps.old (class ∷ []) stack.new steps.new) }
 {
-    while let Some(item) = stack.pop() {
-        if begins(item, class) {
-            open(item, class, stack)?;
-            return Ok(true);
-        }
-        if !nullable(item) {
-            return Ok(false);
+    while let Some(entry) = stack.pop() {
+        match entry {
+            Entry::End(rule) => steps.push(Step::Reduce(rule))?,
+            Entry::Due(item) => {
+                if begins(item, class) {
+                    open(item, class, stack, steps)?;
+                    return Ok(true);
+                }
+                if !nullable(item) {
+                    return Ok(false);
+                }
+            }
         }
     }
     Ok(false)
 }
 
-/// Whether all that is pending can be empty.
-pub fn can_end(stack: Stack) -> bool
-    ensures { result ≡ can_end_items stack }
+/// Ends the rules that are open behind the last token. False where something pending can't be empty.
+pub fn finish(stack: Stack, steps: &mut Steps) -> Result<bool, AllocError>
+    ensures pending { IfOk result (λ ended. ended ≡ can_end (items_of stack)) }
+    ensures made { IfOk result (λ ended. IsTrue ended → Moves stack steps.old [] [] steps.new) }
 {
     let mut stack = stack;
-    while let Some(item) = stack.pop() {
-        if !nullable(item) {
-            return false;
+    while let Some(entry) = stack.pop() {
+        match entry {
+            Entry::End(rule) => steps.push(Step::Reduce(rule))?,
+            Entry::Due(item) => {
+                if !nullable(item) {
+                    return Ok(false);
+                }
+            }
         }
     }
-    true
+    Ok(true)
 }

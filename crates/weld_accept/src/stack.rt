@@ -1,57 +1,58 @@
-ghost use Rattle.std.specs.Prelude.{◌≡◌, ◌∷◌, [], ◌++◌, MatchOption, OnOk, OnErr, IfOk, IsTrue};
-ghost use Rattle.weld_grammar.specs.Pending.{can_end as can_end_items};
+ghost use Rattle.std.specs.Prelude.{◌≡◌, ◌∷◌, [], ◌++◌, MatchOption, OnOk};
+ghost use Rattle.weld_accept.specs.Machine.{due};
 
+use crate::entry::Entry;
 use std::alloc::{AllocError, Global};
 use std::marker::Model;
 use weld_grammar::Item;
 
-/// The items that are pending. Contracts see them as a list, the next one first.
+/// What is pending. Contracts see it as a list, the next entry first.
 #[derive(Drop)]
 pub struct Stack {
-    items: Vec<Item>,
+    entries: Vec<Entry>,
 }
 
 impl Model for Stack {
     ghost use Rattle.std.specs.Prelude.{List, reverse};
-    ghost use Rattle.weld_grammar.specs.declared.item.Item.{Item};
+    ghost use Rattle.weld_accept.specs.declared.entry.Entry.{Entry};
 
-    ghost Value = { List Item };
+    ghost Value = { List Entry };
 
-    ghost view = { λ s. reverse s.items.items };
+    ghost view = { λ s. reverse s.entries.items };
 }
 
 impl Stack {
-    /// No items. It takes no memory.
+    /// Nothing pending. It takes no memory.
     pub fn new(alloc: Global) -> Stack
         ensures { result ≡ [] }
     {
         Stack {
-            items: Vec::new(alloc),
+            entries: Vec::new(alloc),
         }
     }
 
-    /// Puts an item in front of all.
-    pub fn push(&mut self, item: Item) -> Result<(), AllocError>
-        ensures { OnOk result (self.new ≡ item ∷ self.old) }
+    /// Puts an entry in front of all.
+    pub fn push(&mut self, entry: Entry) -> Result<(), AllocError>
+        ensures { OnOk result (self.new ≡ entry ∷ self.old) }
     {
-        self.items.push(item)?;
+        self.entries.push(entry)?;
         Ok(())
     }
 
-    /// Takes the first item away.
-    pub fn pop(&mut self) -> Option<Item>
-        ensures { MatchOption result (self.old ≡ []) (λ item. self.old ≡ item ∷ self.new) }
+    /// Takes the first entry away.
+    pub fn pop(&mut self) -> Option<Entry>
+        ensures { MatchOption result (self.old ≡ []) (λ entry. self.old ≡ entry ∷ self.new) }
     {
-        self.items.pop()
+        self.entries.pop()
     }
 
     /// Puts these items in front of all, in this order.
     pub fn push_all(&mut self, items: &[Item]) -> Result<(), AllocError>
-        ensures { OnOk result (self.new ≡ items.now ++ self.old) }
+        ensures { OnOk result (self.new ≡ due items.now ++ self.old) }
     {
         if let Some((first, rest)) = items.split_first() {
             self.push_all(rest)?;
-            self.push(*first)?;
+            self.push(Entry::Due(*first))?;
         }
         Ok(())
     }

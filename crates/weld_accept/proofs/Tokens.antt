@@ -30,7 +30,7 @@ single (Some t) = refl
 one_more : (r : Rule) (xs : List Class) (x : Class) (s : List Item) → pending r xs ≡ Some s → pending r (xs ++ x ∷ []) ≡ step s x
 one_more r xs x s e = more (OfRule r ∷ []) xs (x ∷ []) s e ∙ single (step s x)
 
-take_class : (ts : List Token) (i : ℕ) (t : Token) → i < length ts → t ≡ get_or ts i t → take (i + 1) (classes ts) ≡ take i (classes ts) ++ t.class ∷ []
+pub take_class : (ts : List Token) (i : ℕ) (t : Token) → i < length ts → t ≡ get_or ts i t → take (i + 1) (classes ts) ≡ take i (classes ts) ++ t.class ∷ []
 take_class [] i t lt e = absurd (omega arith)
 take_class (u ∷ ts) zero t lt e = let k : u ≡ t = sym e in ap (λ z. z.class ∷ []) k
 take_class (u ∷ ts) (suc i) t lt e = rw add-one (ap (λ z. u.class ∷ z) (sym (ap (λ n. take n (classes ts)) (add-one i)) ∙ take_class ts i t (omega arith) e))
@@ -47,6 +47,10 @@ pub take-classes : (ts : List Token) → take (length ts) (classes ts) ≡ class
 take-classes [] = refl
 take-classes (t ∷ ts) = ap (λ z. t.class ∷ z) (take-classes ts)
 
+-- all tokens
+pub take_all : (ts : List Token) (i : ℕ) → length ts ≤ i → i ≤ length ts → take i (classes ts) ≡ classes ts
+take_all ts i h k = let same : i ≡ length ts = omega arith in ap (λ n. take n (classes ts)) same ∙ take-classes ts
+
 -- what is pending behind all tokens
 pub pending_end : (r : Rule) (ts : List Token) (i : ℕ) (s : List Item) → length ts ≤ i → i ≤ length ts → pending r (take i (classes ts)) ≡ Some s → pending r (classes ts) ≡ Some s
-pending_end r ts i s h k e = let same : i ≡ length ts = omega arith in ap (pending r) (sym (take-classes ts) ∙ ap (λ n. take n (classes ts)) (sym same)) ∙ e
+pending_end r ts i s h k e = ap (pending r) (sym (take_all ts i h k)) ∙ e
