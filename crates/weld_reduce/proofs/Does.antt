@@ -46,6 +46,10 @@ opened {r} {t} {st} {mid} {next} {m} d h = record {
   runs = λ z ss ts. ap (λ k. run k (yield t ++ ts) (since z st)) (append_assoc (steps (body r) t) (Reduce r ∷ []) ss) ∙ d.runs z (Reduce r ∷ ss) ts ∙ ap (option_and_then (λ n. run ss ts n)) (h (or_else z m));
 }
 
+-- a rule that leaves all as it is
+pub kept : {r : Rule} {t : Tree Token} {st next : State} {m : Option Refused} → Does (body r) t st m next → ((z : Option Refused) → reduce r (since z next) ≡ Some (since z next)) → Does (item (OfRule r)) (node t) st m next
+kept {r} {t} {st} {next} {m} d h = opened {r = r} {t = t} {st = st} {mid = next} {next = next} {m = m} d h
+
 -- ---- rows
 
 pub row : {i : Item} {rest : List Item} {t u : Tree Token} {st mid next : State} {m n : Option Refused} → Does (item i) t st m mid → Does (all_of rest) u mid n next → Does (all_of (i ∷ rest)) (pair t u) st (or_else m n) next
