@@ -22,7 +22,7 @@ since z st = record { values = st.values; binders = st.binders; scope = st.scope
 pub record Does (p : Part) (t : Tree Token) (st : State) (m : Option Refused) (next : State) : Type 0 where
   pub runs : (z : Option Refused) (ss : List Step) (ts : List Token) → run (steps p t ++ ss) (yield t ++ ts) (since z st) ≡ run ss ts (since (or_else z m) next)
 
-or_else-none : (z : Option Refused) → or_else z None ≡ z
+pub or_else-none : (z : Option Refused) → or_else z None ≡ z
 or_else-none None = refl
 or_else-none (Some r) = refl
 

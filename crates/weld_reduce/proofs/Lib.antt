@@ -6,3 +6,4 @@ pub mod Nameless
 pub mod Types
 pub mod Levels
 pub mod Forms
+pub mod Binders

@@ -14,10 +14,11 @@ use Rattle.weld_grammar.specs.declared.item.Item.TheVariants.{One, Part as OfRul
 use Rattle.weld_grammar.specs.Grammar.{Part, item, all_of, one_of, body}
 use Rattle.weld_grammar.specs.Derivation.{Tree, leaf, node, empty, pair, here, there, yield}
 use Rattle.weld_spell.specs.ProgramOf.{first_of}
-use Rattle.weld_names.specs.Names.{misnamed, none}
+use Rattle.weld_names.specs.Names.{Refused, misnamed, none}
 use Rattle.weld_reduce.specs.Values.{token}
 use Rattle.weld_reduce.specs.States.{State, shift, reduce, push, names_of}
-use Rattle.weld_reduce.proofs.Does.{Does, since, plain, over, opened, first, later, absent, no_more}
+use Rattle.weld_reduce.proofs.Does.{Does, since, plain, over, opened, first, later, absent, no_more, refuses}
+use Rattle.weld_reduce.proofs.Nameless.{nameless_item, silent}
 use Rattle.weld_reduce.proofs.Good.{Good, Fit}
 use Rattle.weld_reduce.proofs.Classes.{sign_class, fixed_class}
 
@@ -57,6 +58,23 @@ itself c = c
 pub quiet : (a : Symbol) (t : Tree Token) (st : State) → ((x : Token) (s : State) → shift (Sign a) x s ≡ Some s) → Good false (item (One (Sign a))) t → Does (item (One (Sign a))) t st (misnamed none (item (One (Sign a))) t (names_of st.scope)) st
 quiet a (leaf x) st h g = plain (λ z. h x (since z st))
 quiet a _ st h g = absurd g
+
+-- a sign, or a word, at which the machine does something of its own
+pub at_sign : {st next : State} (a : Symbol) (t : Tree Token) → ((x : Token) (z : Option Refused) → shift (Sign a) x (since z st) ≡ Some (since z next)) → Good false (item (One (Sign a))) t → Does (item (One (Sign a))) t st None next
+at_sign a (leaf x) h g = plain (λ z. h x z)
+at_sign a _ h g = absurd g
+
+pub at_word : {st next : State} (a : Reserved) (t : Tree Token) → ((x : Token) (z : Option Refused) → shift (Fixed a) x (since z st) ≡ Some (since z next)) → Good false (item (One (Fixed a))) t → Does (item (One (Fixed a))) t st None next
+at_word a (leaf x) h g = plain (λ z. h x z)
+at_word a _ h g = absurd g
+
+-- what refuses no name
+pub hushed : {i : Item} {t : Tree Token} {st next : State} (scope : List (List ℕ)) → nameless_item i ≡ true → Does (item i) t st (misnamed none (item i) t scope) next → Does (item i) t st None next
+hushed {i} {t} {st} {next} scope e d = refuses d (silent (item i) t scope e)
+
+pub closed : (t : Tree Token) (st : State) → Good false (all_of []) t → Does (all_of []) t st None st
+closed empty st g = over st
+closed _ st g = absurd g
 
 -- the end of a row
 pub ended : (t : Tree Token) (st : State) → Good false (all_of []) t → Does (all_of []) t st (misnamed none (all_of []) t (names_of st.scope)) st
