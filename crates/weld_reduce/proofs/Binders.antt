@@ -15,8 +15,9 @@ use Rattle.weld_spell.specs.ProgramOf.{Bound, Spelled, first_of, node_at, word_o
 use Rattle.weld_names.specs.Names.{Refused, or_else, reserved, misnamed, none}
 use Rattle.weld_reduce.specs.Values.{Value, token, expr}
 use Rattle.weld_reduce.specs.Forms.{at}
-use Rattle.weld_reduce.specs.States.{Named, State, shift, reduce, push, with_values, names_of, name_let, named}
+use Rattle.weld_reduce.specs.States.{Named, State, shift, reduce, push, with_values, names_of, name_let}
 use Rattle.weld_reduce.proofs.Does.{Does, since, shifted, plain, over, opened, kept, first, later, row, absent, present, no_more, one_more, leads, refuses, or_else-none}
+use Rattle.weld_reduce.proofs.Nameless.{silent}
 use Rattle.weld_reduce.proofs.Good.{Good, Fit}
 use Rattle.weld_reduce.proofs.Tokens.{Told, sign_told, fixed_told, front, alone, itself, quiet, at_sign, at_word, hushed, closed, ended}
 use Rattle.weld_reduce.proofs.Types.{type_at, spells_type}
@@ -49,25 +50,18 @@ notes empty st g = absent r.Note st
 notes (here (node (pair c (pair t end)))) st g = present (kept (row (quiet s.Colon c st (λ x st. refl) g.0) (row (spells_type t g.1.0 st) (ended end (push (type_at t) st) g.1.1))) (λ z. refl))
 notes _ st g = absurd (assumption)
 
-named_noted : (t : Tree Token) (x : Token) (st : State) → Good false (item (Optional r.Note)) t → named st.next (noted t (push (token x) st)).values ≡ Some (named_as (leaf x) t st.next, st.values)
-named_noted empty x st g = refl
-named_noted (here (node (pair c (pair t end)))) x st g = refl
-named_noted _ x st g = absurd (assumption)
-
--- what isn't on the stack stays
-same_below : (t : Tree Token) (st : State) → Good false (item (Optional r.Note)) t → with_values (noted t st) [] ≡ with_values st []
-same_below empty st g = refl
-same_below (here (node (pair c (pair t end)))) st g = refl
-same_below _ st g = absurd (assumption)
-
 -- ---- the binder of a lambda
 
-pub binds : (x : Token) (note end : Tree Token) (st : State) → Good false (item (OfRule r.Bind)) (node (pair (leaf x) (pair note end))) → Does (item (OfRule r.Bind)) (node (pair (leaf x) (pair note end))) st (misnamed none (item (OfRule r.Bind)) (node (pair (leaf x) (pair note end))) (names_of st.scope)) (opens (leaf x) note st)
-binds x empty end st g = let before = push (token x) st in opened (row (a_word x st) (row (absent r.Note before) (ended end before g.1.1))) (λ z. refl)
-binds x (here (node (pair c (pair t e)))) end st g =
+binding : (note : Tree Token) (x : Token) (st : State) (z : Option Refused) → Good false (item (Optional r.Note)) note → reduce r.Bind (since z (noted note (push (token x) st))) ≡ Some (since z (opens (leaf x) note st))
+binding empty x st z g = refl
+binding (here (node (pair c (pair t end)))) x st z g = refl
+binding _ x st z g = absurd (assumption)
+
+pub binds : (x : Token) (note end : Tree Token) (st : State) (scope : List (List ℕ)) → Good false (item (OfRule r.Bind)) (node (pair (leaf x) (pair note end))) → Does (item (OfRule r.Bind)) (node (pair (leaf x) (pair note end))) st (misnamed none (item (OfRule r.Bind)) (node (pair (leaf x) (pair note end))) scope) (opens (leaf x) note st)
+binds x note end st scope g =
     let before = push (token x) st in
-    opened (row (a_word x st) (row (notes (here (node (pair c (pair t e)))) before g.1.0) (ended end (push (type_at t) before) g.1.1))) (λ z. refl)
-binds x _ end st g = absurd (assumption)
+    refuses (opened {next = opens (leaf x) note st} (row (a_word x st) (row (hushed _ refl (notes note before g.1.0)) (closed end (noted note before) g.1.1))) (λ z. binding note x st z g.1.0))
+    (ap (λ q. or_else (reserved x.class x.place) (or_else q None)) (sym (silent (item (Optional r.Note)) note scope refl)))
 
 -- ---- `let`
 

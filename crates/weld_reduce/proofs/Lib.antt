@@ -7,3 +7,4 @@ pub mod Types
 pub mod Levels
 pub mod Forms
 pub mod Binders
+pub mod Loops
