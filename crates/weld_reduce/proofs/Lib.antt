@@ -8,3 +8,4 @@ pub mod Levels
 pub mod Forms
 pub mod Binders
 pub mod Loops
+pub mod Builders
