@@ -9,3 +9,4 @@ pub mod Forms
 pub mod Binders
 pub mod Loops
 pub mod Builders
+pub mod Expressions
