@@ -1,9 +1,11 @@
 -- Trees of a part whose numbers are all in their ranges.
-use Rattle.std.proofs.Common.{◌≡◌, refl, IsTrue, Bool, true, false, cond, Option, Some, None, List, [], ◌∷◌, ap, sym, ◌∙◌}
+use Rattle.std.proofs.Common.{◌≡◌, refl, ℕ, IsTrue, Bool, true, false, cond, Option, Some, None, List, [], ◌∷◌, ap, sym, ◌∙◌}
 use Rattle.weld_tree.specs.declared.place.Place.{Place}
 use Rattle.weld_terminals.specs.declared.class.Class.{Class}
+use Rattle.weld_terminals.specs.declared.class.Class.TheVariants as classes
 use Rattle.weld_terminals.specs.declared.token.Token.{Token}
 use Rattle.weld_grammar.specs.declared.terminal.Terminal.{Terminal}
+use Rattle.weld_grammar.specs.declared.terminal.Terminal.TheVariants.{Sign, Fixed}
 use Rattle.weld_grammar.specs.declared.rule.Rule.{Rule}
 use Rattle.weld_grammar.specs.declared.item.Item.{Item}
 use Rattle.weld_grammar.specs.declared.item.Item.TheVariants.{One, Part as OfRule, Optional, Repeated}
@@ -12,6 +14,7 @@ use Rattle.weld_grammar.specs.Derivation.{Tree, leaf, node, empty, pair, here, t
 use Rattle.weld_tokens.specs.Order.{out_of_range}
 use Rattle.weld_spell.specs.Seen.{seen}
 use Rattle.weld_programs.specs.Ranges.{or_else, is_minused, out_of_range_in, refused_number}
+use Rattle.weld_reduce.proofs.Nameless.{nameless_terminal, nameless_item, nameless_items, nameless_part, table, both_left, both_right}
 
 -- the token is the terminal's, and no number out of its range
 pub record Fit (negative : Bool) (a : Terminal) (t : Token) : Type 0 where
@@ -56,3 +59,27 @@ good negative (all_of (i ∷ rest)) (pair t u) h e = (good false (item i) t h.0 
 good negative (one_of (i ∷ rest)) (here t) h e = good negative (item i) t h e
 good negative (one_of (i ∷ rest)) (there t) h e = good negative (one_of rest) t h.0 e
 good _ _ _ h e = absurd h
+
+-- ---- types have no numbers
+
+in_sign : (negative : Bool) (a : Terminal) (c : Class) (word : List ℕ) → nameless_terminal a ≡ true → IsTrue (is_of a c) → out_of_range c negative word ≡ false
+in_sign negative (Sign a) classes.Int word e h = absurd (cc)
+in_sign negative (Sign a) classes.Long word e h = absurd (cc)
+in_sign negative (Sign a) _ word e h = refl
+in_sign negative (Fixed a) classes.Int word e h = absurd (cc)
+in_sign negative (Fixed a) classes.Long word e h = absurd (cc)
+in_sign negative (Fixed a) _ word e h = refl
+in_sign negative _ c word e h = absurd (cc)
+
+pub numberless : (negative : Bool) (p : Part) (t : Tree Token) → IsOf p (seen t) → nameless_part p ≡ true → Good negative p t
+numberless negative (item (One a)) (leaf t) h e = record { is = h; ranged = in_sign negative a t.class t.word e h }
+numberless negative (item (OfRule r)) (node t) h e = numberless (is_minused r) (body r) t h (table r e)
+numberless negative (item (Optional r)) empty h e = tt
+numberless negative (item (Optional r)) (here t) h e = numberless false (item (OfRule r)) t h e
+numberless negative (item (Repeated r)) empty h e = tt
+numberless negative (item (Repeated r)) (pair t u) h e = (numberless false (item (OfRule r)) t h.0 e, numberless false (item (Repeated r)) u h.1 e)
+numberless negative (all_of []) empty h e = tt
+numberless negative (all_of (i ∷ rest)) (pair t u) h e = (numberless false (item i) t h.0 (both_left (nameless_item i) (nameless_items rest) e), numberless false (all_of rest) u h.1 (both_right (nameless_item i) (nameless_items rest) e))
+numberless negative (one_of (i ∷ rest)) (here t) h e = numberless negative (item i) t h (both_left (nameless_item i) (nameless_items rest) e)
+numberless negative (one_of (i ∷ rest)) (there t) h e = numberless negative (one_of rest) t h.0 (both_right (nameless_item i) (nameless_items rest) e)
+numberless _ _ _ h e = absurd h

@@ -10,3 +10,4 @@ pub mod Binders
 pub mod Loops
 pub mod Builders
 pub mod Expressions
+pub mod Programs

@@ -1,4 +1,4 @@
--- Types, kinds and the operators of builders have no names in them.
+-- Types, kinds and the operators of builders have no names and no numbers in them.
 use Rattle.std.proofs.Common.{◌≡◌, refl, ℕ, Bool, true, false, ◌&&◌, List, [], ◌∷◌, ap, sym, ◌∙◌, Option, Some, None}
 use Rattle.weld_terminals.specs.declared.token.Token.{Token}
 use Rattle.weld_grammar.specs.declared.terminal.Terminal.{Terminal}
@@ -11,7 +11,7 @@ use Rattle.weld_grammar.specs.Grammar.{Part, item, all_of, one_of, body}
 use Rattle.weld_grammar.specs.Derivation.{Tree, leaf, node, empty, pair, here, there}
 use Rattle.weld_names.specs.Names.{Refused, or_else, misnamed, misnamed_token, none, binding_of}
 
-abbrev is_nameless : Rule → Bool
+abbrev pub is_nameless : Rule → Bool
 is_nameless r.Note = true
 is_nameless r.ListBuild = true
 is_nameless r.KeyedBuild = true
@@ -33,10 +33,10 @@ is_nameless r.Kind = true
 is_nameless r.IntKind = true
 is_nameless _ = false
 
-abbrev nameless_terminal : Terminal → Bool
-nameless_terminal Word = false
-nameless_terminal Name = false
-nameless_terminal _ = true
+abbrev pub nameless_terminal : Terminal → Bool
+nameless_terminal (Sign s) = true
+nameless_terminal (Fixed w) = true
+nameless_terminal _ = false
 
 abbrev pub nameless_item : Item → Bool
 nameless_item (One a) = nameless_terminal a
@@ -44,16 +44,16 @@ nameless_item (OfRule q) = is_nameless q
 nameless_item (Optional q) = is_nameless q
 nameless_item (Repeated q) = is_nameless q
 
-abbrev nameless_items : List Item → Bool
+abbrev pub nameless_items : List Item → Bool
 nameless_items [] = true
 nameless_items (i ∷ is) = nameless_item i && nameless_items is
 
-abbrev nameless_part : Part → Bool
+abbrev pub nameless_part : Part → Bool
 nameless_part (item i) = nameless_item i
 nameless_part (all_of is) = nameless_items is
 nameless_part (one_of is) = nameless_items is
 
-table : (q : Rule) → is_nameless q ≡ true → nameless_part (body q) ≡ true
+pub table : (q : Rule) → is_nameless q ≡ true → nameless_part (body q) ≡ true
 table r.Note e = refl
 table r.ListBuild e = refl
 table r.KeyedBuild e = refl
@@ -82,11 +82,11 @@ binds_none r.Iterate e = absurd (cc)
 binds_none r.WithParams e = absurd (cc)
 binds_none _ e = refl
 
-both_left : (a b : Bool) → a && b ≡ true → a ≡ true
+pub both_left : (a b : Bool) → a && b ≡ true → a ≡ true
 both_left true b e = refl
 both_left false b e = absurd (cc)
 
-both_right : (a b : Bool) → a && b ≡ true → b ≡ true
+pub both_right : (a b : Bool) → a && b ≡ true → b ≡ true
 both_right true b e = e
 both_right false b e = absurd (cc)
 
@@ -94,13 +94,9 @@ neither : (a b : Option Refused) → a ≡ None → b ≡ None → or_else a b �
 neither a b e f = ap (λ z. or_else z b) e ∙ f
 
 silent_token : (a : Terminal) (t : Token) (scope : List (List ℕ)) → nameless_terminal a ≡ true → misnamed_token a t scope ≡ None
-silent_token Word t scope e = absurd (cc)
-silent_token Name t scope e = absurd (cc)
 silent_token (Sign s) t scope e = refl
 silent_token (Fixed w) t scope e = refl
-silent_token Number t scope e = refl
-silent_token Field t scope e = refl
-silent_token Chars t scope e = refl
+silent_token _ t scope e = absurd (cc)
 
 pub silent : (p : Part) (t : Tree Token) (scope : List (List ℕ)) → nameless_part p ≡ true → misnamed none p t scope ≡ None
 silent (all_of (i ∷ rest)) (pair t u) scope e = neither _ _ (silent (item i) t scope (both_left (nameless_item i) (nameless_items rest) e)) (silent (all_of rest) u scope (both_right (nameless_item i) (nameless_items rest) e))
