@@ -1,25 +1,23 @@
 -- The machine names binders, and opens and closes them.
-use Rattle.std.proofs.Common.{◌≡◌, refl, ℕ, ◌+◌, Bool, true, false, Option, Some, None, option_and_then, List, [], ◌∷◌, ◌++◌, ap, sym, ◌∙◌}
+use Rattle.std.proofs.Common.{◌≡◌, refl, ℕ, ◌+◌, false, Option, Some, None, List, ◌∷◌, ap, sym}
 use Rattle.weld_terminals.specs.declared.symbol.Symbol.TheVariants as s
 use Rattle.weld_terminals.specs.declared.reserved.Reserved.TheVariants as w
 use Rattle.weld_terminals.specs.declared.token.Token.{Token}
-use Rattle.weld_tree.specs.declared.place.Place.{Place}
-use Rattle.weld_tree.specs.ExprTree.{ExprTree, let_in}
+use Rattle.weld_tree.specs.ExprTree.{let_in}
 use Rattle.weld_grammar.specs.declared.terminal.Terminal.TheVariants.{Sign, Word}
-use Rattle.weld_grammar.specs.declared.rule.Rule.{Rule}
 use Rattle.weld_grammar.specs.declared.rule.Rule.TheVariants as r
-use Rattle.weld_grammar.specs.declared.item.Item.TheVariants.{One, Part as OfRule, Optional, Repeated}
-use Rattle.weld_grammar.specs.Grammar.{Part, item, all_of, one_of, body}
-use Rattle.weld_grammar.specs.Derivation.{Tree, leaf, node, empty, pair, here, there, yield}
-use Rattle.weld_spell.specs.ProgramOf.{Bound, Spelled, first_of, node_at, word_of, binder_of, bound_as, expr_of, or_of}
+use Rattle.weld_grammar.specs.declared.item.Item.TheVariants.{One, Part as OfRule, Optional}
+use Rattle.weld_grammar.specs.Grammar.{item}
+use Rattle.weld_grammar.specs.Derivation.{Tree, leaf, node, empty, pair, here}
+use Rattle.weld_spell.specs.ProgramOf.{word_of, binder_of, bound_as, expr_of, or_of}
 use Rattle.weld_names.specs.Names.{Refused, or_else, reserved, misnamed, none}
-use Rattle.weld_reduce.specs.Values.{Value, token, expr}
+use Rattle.weld_reduce.specs.Values.{token, expr}
 use Rattle.weld_reduce.specs.Forms.{at}
-use Rattle.weld_reduce.specs.States.{Named, State, shift, reduce, push, with_values, names_of, name_let}
-use Rattle.weld_reduce.proofs.Does.{Does, since, shifted, plain, over, opened, kept, first, later, row, absent, present, no_more, one_more, leads, refuses, or_else-none}
+use Rattle.weld_reduce.specs.States.{Named, State, reduce, push, names_of}
+use Rattle.weld_reduce.proofs.Does.{Does, since, shifted, opened, kept, first, row, absent, present, refuses, or_else-none}
 use Rattle.weld_reduce.proofs.Nameless.{silent}
-use Rattle.weld_reduce.proofs.Good.{Good, Fit}
-use Rattle.weld_reduce.proofs.Tokens.{Told, sign_told, fixed_told, front, alone, itself, quiet, at_sign, at_word, hushed, closed, ended}
+use Rattle.weld_reduce.proofs.Good.{Good}
+use Rattle.weld_reduce.proofs.Tokens.{fixed_told, alone, itself, quiet, at_sign, hushed, closed, ended}
 use Rattle.weld_reduce.proofs.Types.{type_at, spells_type}
 use Rattle.weld_reduce.proofs.Levels.{with_next, behind, Spells}
 

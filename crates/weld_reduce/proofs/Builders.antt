@@ -1,24 +1,22 @@
 -- The machine spells builders, some from a starting value.
-use Rattle.std.proofs.Common.{◌≡◌, refl, ℕ, Bool, true, false, Option, Some, None, option_and_then, List, [], ◌∷◌, ◌++◌, ap, sym, ◌∙◌}
+use Rattle.std.proofs.Common.{refl, false, Some, ap}
 use Rattle.weld_terminals.specs.declared.symbol.Symbol.TheVariants as s
 use Rattle.weld_terminals.specs.declared.reserved.Reserved.TheVariants as w
 use Rattle.weld_terminals.specs.declared.token.Token.{Token}
 use Rattle.weld_tree.specs.TypeTree.{list, total, keyed, cells, groups}
-use Rattle.weld_tree.specs.ExprTree.{ExprTree, leaf as leaf_at, one, fresh, started}
-use Rattle.weld_grammar.specs.declared.rule.Rule.{Rule}
+use Rattle.weld_tree.specs.ExprTree.{leaf as leaf_at, one, fresh, started}
 use Rattle.weld_grammar.specs.declared.rule.Rule.TheVariants as r
-use Rattle.weld_grammar.specs.declared.item.Item.TheVariants.{One, Part as OfRule, Optional, Repeated}
-use Rattle.weld_grammar.specs.Grammar.{Part, item, all_of, one_of, body}
-use Rattle.weld_grammar.specs.Derivation.{Tree, leaf, node, empty, pair, here, there, yield}
+use Rattle.weld_grammar.specs.declared.item.Item.TheVariants.{Part as OfRule}
+use Rattle.weld_grammar.specs.Grammar.{item}
+use Rattle.weld_grammar.specs.Derivation.{Tree, node, empty, pair, here, there}
 use Rattle.weld_spell.specs.TypeOf.{type_of, merge_op_of}
-use Rattle.weld_spell.specs.ProgramOf.{Bound, Spelled, node_at, expr_of, builder_of}
-use Rattle.weld_names.specs.Names.{misnamed, none}
-use Rattle.weld_reduce.specs.Values.{Value, token, expr, op}
+use Rattle.weld_spell.specs.ProgramOf.{expr_of, builder_of}
+use Rattle.weld_reduce.specs.Values.{token, expr, op}
 use Rattle.weld_reduce.specs.Forms.{at}
-use Rattle.weld_reduce.specs.States.{State, shift, reduce, push, names_of}
-use Rattle.weld_reduce.proofs.Does.{Does, since, opened, kept, first, later, row, absent, present}
+use Rattle.weld_reduce.specs.States.{push}
+use Rattle.weld_reduce.proofs.Does.{since, opened, kept, first, later, row, absent, present}
 use Rattle.weld_reduce.proofs.Good.{Good}
-use Rattle.weld_reduce.proofs.Tokens.{Told, sign_told, fixed_told, front, alone, itself, quiet, ended}
+use Rattle.weld_reduce.proofs.Tokens.{sign_told, fixed_told, front, alone, itself, quiet, ended}
 use Rattle.weld_reduce.proofs.Types.{told_list, told_groups, merge_ops, type_at, spells_type}
 use Rattle.weld_reduce.proofs.Levels.{with_next, behind, Spells}
 

@@ -1,5 +1,5 @@
 -- What the machine does along a tree: the state behind it, and the first name refused on the way.
-use Rattle.std.proofs.Common.{◌≡◌, refl, ℕ, Option, Some, None, option_and_then, List, [], ◌∷◌, ◌++◌, ap, sym, ◌∙◌, append_assoc}
+use Rattle.std.proofs.Common.{◌≡◌, refl, Option, Some, None, option_and_then, List, [], ◌∷◌, ◌++◌, ap, sym, ◌∙◌, append_assoc}
 use Rattle.weld_terminals.specs.declared.token.Token.{Token}
 use Rattle.weld_grammar.specs.declared.terminal.Terminal.{Terminal}
 use Rattle.weld_grammar.specs.declared.rule.Rule.{Rule}
@@ -8,7 +8,7 @@ use Rattle.weld_grammar.specs.declared.item.Item.TheVariants.{One, Part as OfRul
 use Rattle.weld_grammar.specs.Grammar.{Part, item, all_of, one_of, body}
 use Rattle.weld_grammar.specs.Derivation.{Tree, leaf, node, empty, pair, here, there, yield}
 use Rattle.weld_accept.specs.declared.step.Step.{Step}
-use Rattle.weld_accept.specs.declared.step.Step.TheVariants.{Shift, Reduce}
+use Rattle.weld_accept.specs.declared.step.Step.TheVariants.{Reduce}
 use Rattle.weld_accept.specs.Derived.{steps}
 use Rattle.weld_names.specs.Names.{Refused, or_else}
 use Rattle.weld_reduce.specs.States.{State, shift, reduce}

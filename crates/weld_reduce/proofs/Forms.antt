@@ -1,28 +1,24 @@
 -- The machine spells the forms that stand by themselves and bind no names.
-use Rattle.std.proofs.Common.{◌≡◌, refl, ℕ, Bool, true, false, Option, Some, None, option_and_then, List, [], ◌∷◌, ◌++◌, cond, ap, sym, ◌∙◌, append_assoc}
+use Rattle.std.proofs.Common.{◌≡◌, refl, false, Some, None, option_and_then, List, [], ◌∷◌, ◌++◌, cond, ap, sym, ◌∙◌, append_assoc}
 use Rattle.std.proofs.lemmas.List.{append-nil}
-use Rattle.weld_terminals.specs.declared.class.Class.{Class}
 use Rattle.weld_terminals.specs.declared.symbol.Symbol.TheVariants as s
 use Rattle.weld_terminals.specs.declared.reserved.Reserved.TheVariants as w
 use Rattle.weld_terminals.specs.declared.token.Token.{Token}
-use Rattle.weld_tokens.specs.Literals.{is_in_range, literal_value}
-use Rattle.weld_tree.specs.declared.place.Place.{Place}
-use Rattle.weld_tree.specs.ExprTree.{ExprTree, ExprTrees, Many, leaf as leaf_at, one, two, three, many, int, cast, len, finish, look_up, key_exists, merge, if_else, select, slice, make_vec, make_struct, no_exprs, more_exprs, pack_exprs, unpack_exprs}
+use Rattle.weld_tokens.specs.Literals.{literal_value}
+use Rattle.weld_tree.specs.ExprTree.{ExprTree, ExprTrees, leaf as leaf_at, one, two, three, many, int, cast, len, finish, look_up, key_exists, merge, if_else, select, slice, make_vec, make_struct, no_exprs, more_exprs, pack_exprs, unpack_exprs}
 use Rattle.weld_grammar.specs.declared.terminal.Terminal.TheVariants.{Number}
-use Rattle.weld_grammar.specs.declared.rule.Rule.{Rule}
 use Rattle.weld_grammar.specs.declared.rule.Rule.TheVariants as r
-use Rattle.weld_grammar.specs.declared.item.Item.TheVariants.{One, Part as OfRule, Optional, Repeated}
-use Rattle.weld_grammar.specs.Grammar.{Part, item, all_of, one_of, body}
-use Rattle.weld_grammar.specs.Derivation.{Tree, leaf, node, empty, pair, here, there, yield}
-use Rattle.weld_spell.specs.TypeOf.{int_kind_of}
-use Rattle.weld_spell.specs.ProgramOf.{Bound, Spelled, first_of, node_at, word_of, kind_of_class, expr_of, primary_of, next_exprs_of}
+use Rattle.weld_grammar.specs.declared.item.Item.TheVariants.{One, Part as OfRule, Repeated}
+use Rattle.weld_grammar.specs.Grammar.{item}
+use Rattle.weld_grammar.specs.Derivation.{Tree, leaf, node, empty, pair, here, there}
+use Rattle.weld_spell.specs.ProgramOf.{first_of, node_at, kind_of_class, expr_of, primary_of, next_exprs_of}
 use Rattle.weld_names.specs.Names.{misnamed, none}
 use Rattle.weld_reduce.specs.Values.{Value, token, expr, exprs, top_token, top_exprs}
-use Rattle.weld_reduce.specs.Forms.{at, kind_of_word}
-use Rattle.weld_reduce.specs.States.{State, shift, reduce, push, with_values, names_of}
-use Rattle.weld_reduce.proofs.Does.{Does, since, shifted, plain, over, opened, kept, first, later, row, absent, no_more, one_more, leads}
-use Rattle.weld_reduce.proofs.Good.{Good, Fit}
-use Rattle.weld_reduce.proofs.Tokens.{Told, sign_told, fixed_told, front, alone, itself, quiet, ended}
+use Rattle.weld_reduce.specs.Forms.{at}
+use Rattle.weld_reduce.specs.States.{State, push, with_values, names_of}
+use Rattle.weld_reduce.proofs.Does.{Does, since, shifted, plain, opened, kept, first, later, row, no_more, one_more}
+use Rattle.weld_reduce.proofs.Good.{Good}
+use Rattle.weld_reduce.proofs.Tokens.{sign_told, fixed_told, alone, itself, quiet, ended}
 use Rattle.weld_reduce.proofs.Types.{told_int_kind}
 use Rattle.weld_reduce.proofs.Levels.{with_next, behind, Spells, in_range}
 

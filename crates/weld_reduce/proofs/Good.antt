@@ -1,19 +1,17 @@
 -- Trees of a part whose numbers are all in their ranges.
-use Rattle.std.proofs.Common.{◌≡◌, refl, ℕ, IsTrue, Bool, true, false, cond, Option, Some, None, List, [], ◌∷◌, ap, sym, ◌∙◌}
+use Rattle.std.proofs.Common.{◌≡◌, refl, ℕ, IsTrue, Bool, true, false, cond, Option, Some, None, List, [], ◌∷◌}
 use Rattle.weld_tree.specs.declared.place.Place.{Place}
 use Rattle.weld_terminals.specs.declared.class.Class.{Class}
 use Rattle.weld_terminals.specs.declared.class.Class.TheVariants as classes
 use Rattle.weld_terminals.specs.declared.token.Token.{Token}
 use Rattle.weld_grammar.specs.declared.terminal.Terminal.{Terminal}
 use Rattle.weld_grammar.specs.declared.terminal.Terminal.TheVariants.{Sign, Fixed}
-use Rattle.weld_grammar.specs.declared.rule.Rule.{Rule}
-use Rattle.weld_grammar.specs.declared.item.Item.{Item}
 use Rattle.weld_grammar.specs.declared.item.Item.TheVariants.{One, Part as OfRule, Optional, Repeated}
 use Rattle.weld_grammar.specs.Grammar.{Part, item, all_of, one_of, body, is_of}
-use Rattle.weld_grammar.specs.Derivation.{Tree, leaf, node, empty, pair, here, there, yield, IsOf}
+use Rattle.weld_grammar.specs.Derivation.{Tree, leaf, node, empty, pair, here, there, IsOf}
 use Rattle.weld_tokens.specs.Order.{out_of_range}
 use Rattle.weld_spell.specs.Seen.{seen}
-use Rattle.weld_programs.specs.Ranges.{or_else, is_minused, out_of_range_in, refused_number}
+use Rattle.weld_programs.specs.Ranges.{or_else, is_minused, out_of_range_in}
 use Rattle.weld_reduce.proofs.Nameless.{nameless_terminal, nameless_item, nameless_items, nameless_part, table, both_left, both_right}
 
 -- the token is the terminal's, and no number out of its range

@@ -1,26 +1,24 @@
 -- The machine spells the legs of a loop, loops and iterations.
-use Rattle.std.proofs.Common.{◌≡◌, refl, ℕ, ◌+◌, Bool, true, false, Option, Some, None, option_and_then, List, [], ◌∷◌, ◌++◌, ap, sym, ◌∙◌, append_assoc, arith}
+use Rattle.std.proofs.Common.{◌≡◌, refl, ℕ, ◌+◌, false, Some, None, List, [], ◌∷◌, ◌++◌, ap, sym, ◌∙◌, append_assoc, arith}
 use Rattle.std.proofs.lemmas.List.{append-nil}
 use Rattle.weld_terminals.specs.declared.symbol.Symbol.TheVariants as s
 use Rattle.weld_terminals.specs.declared.reserved.Reserved.TheVariants as w
 use Rattle.weld_terminals.specs.declared.token.Token.{Token}
-use Rattle.weld_tree.specs.declared.place.Place.{Place}
-use Rattle.weld_tree.specs.ExprTree.{ExprTree, LegTree, LegTrees, loop, iterate, whole, strided, no_legs, more_legs, pack_legs, unpack_legs}
+use Rattle.weld_tree.specs.ExprTree.{LegTree, LegTrees, loop, iterate, strided, no_legs, more_legs, pack_legs, unpack_legs}
 use Rattle.weld_grammar.specs.declared.terminal.Terminal.TheVariants.{Fixed}
-use Rattle.weld_grammar.specs.declared.rule.Rule.{Rule}
 use Rattle.weld_grammar.specs.declared.rule.Rule.TheVariants as r
-use Rattle.weld_grammar.specs.declared.item.Item.TheVariants.{One, Part as OfRule, Optional, Repeated}
-use Rattle.weld_grammar.specs.Grammar.{Part, item, all_of, one_of, body}
-use Rattle.weld_grammar.specs.Derivation.{Tree, leaf, node, empty, pair, here, there, yield}
-use Rattle.weld_spell.specs.ProgramOf.{Bound, Spelled, SpelledLeg, first_of, node_at, word_of, binder_of, bound_as, expr_of, rows_of, next_legs_of, leg_of, primary_of}
-use Rattle.weld_names.specs.Names.{Refused, or_else, misnamed, none}
-use Rattle.weld_reduce.specs.Values.{Value, token, expr, leg, legs}
+use Rattle.weld_grammar.specs.declared.item.Item.TheVariants.{One, Part as OfRule, Repeated}
+use Rattle.weld_grammar.specs.Grammar.{item}
+use Rattle.weld_grammar.specs.Derivation.{Tree, leaf, node, empty, pair, here, there}
+use Rattle.weld_spell.specs.ProgramOf.{SpelledLeg, node_at, binder_of, bound_as, expr_of, rows_of, next_legs_of, leg_of, primary_of}
+use Rattle.weld_names.specs.Names.{or_else, misnamed, none}
+use Rattle.weld_reduce.specs.Values.{token, expr, leg, legs}
 use Rattle.weld_reduce.specs.Forms.{at, open_legs}
-use Rattle.weld_reduce.specs.States.{State, shift, reduce, push, with_values, names_of}
-use Rattle.weld_reduce.proofs.Does.{Does, since, plain, over, opened, kept, first, later, row, no_more, one_more, leads, refuses, or_else-none}
+use Rattle.weld_reduce.specs.States.{State, push, with_values, names_of}
+use Rattle.weld_reduce.proofs.Does.{Does, since, opened, kept, first, later, row, no_more, one_more, leads, refuses, or_else-none}
 use Rattle.weld_reduce.proofs.Nameless.{silent}
-use Rattle.weld_reduce.proofs.Good.{Good, Fit}
-use Rattle.weld_reduce.proofs.Tokens.{Told, fixed_told, alone, itself, quiet, at_word, hushed, closed, ended}
+use Rattle.weld_reduce.proofs.Good.{Good}
+use Rattle.weld_reduce.proofs.Tokens.{fixed_told, alone, itself, quiet, at_word, hushed, closed, ended}
 use Rattle.weld_reduce.proofs.Levels.{with_next, behind, Spells}
 use Rattle.weld_reduce.proofs.Binders.{opens, binds}
 
@@ -105,8 +103,8 @@ for_form x y z head a l c t d i p e1 j o e2 k n e3 m b f end g k1 k2 k3 st =
     let inner = expr_of b st5.scope st5.next in
     let st6 = behind st5 inner in
     let ending : ℕ → ℕ → State = λ n2 n3.
-        let last = expr_of b (bound_as (leaf z) n2 ∷ bound_as (leaf y) (builder.next + 1) ∷ bound_as (leaf x) builder.next ∷ st.scope) n3 in
-        push (expr (loop (node_at head) ls.legs builder.expr (binder_of (leaf x) p builder.next) (binder_of (leaf y) o (builder.next + 1)) (binder_of (leaf z) n n2) last.expr)) (with_next last.next st) in
+    let last = expr_of b (bound_as (leaf z) n2 ∷ bound_as (leaf y) (builder.next + 1) ∷ bound_as (leaf x) builder.next ∷ st.scope) n3 in
+    push (expr (loop (node_at head) ls.legs builder.expr (binder_of (leaf x) p builder.next) (binder_of (leaf y) o (builder.next + 1)) (binder_of (leaf z) n n2) last.expr)) (with_next last.next st) in
     let two : builder.next + 1 + 1 ≡ builder.next + 2 = omega arith in
     let three : builder.next + 1 + 1 + 1 ≡ builder.next + 3 = omega arith in
     leads (kept (later (later (later (later (later (later (later (later (later (later (later (later (later (later (later (later (first (opened {next = ending (builder.next + 1 + 1) (builder.next + 1 + 1 + 1)} (refuses (row (hushed _ refl (v.does st)) (row (hushed _ refl (quiet s.LeftParen a st0 (λ x st. refl) g.1.0)) (row (k1 v.is st) (row (hushed _ refl (quiet s.Comma c st1 (λ x st. refl) g.1.1.1.0)) (row (k2 st1) (row (hushed _ refl (quiet s.Comma d st2 (λ x st. refl) g.1.1.1.1.1.0)) (row (hushed _ refl (quiet s.Bar i st2 (λ x st. refl) g.1.1.1.1.1.1.0)) (row (binds x p e1 st2 (names_of st.scope) g.1.1.1.1.1.1.1.0) (row (hushed _ refl (quiet s.Comma j st3 (λ x st. refl) g.1.1.1.1.1.1.1.1.0)) (row (binds y o e2 st3 (names_of st.scope) g.1.1.1.1.1.1.1.1.1.0) (row (hushed _ refl (quiet s.Comma k st4 (λ x st. refl) g.1.1.1.1.1.1.1.1.1.1.0)) (row (binds z n e3 st4 (names_of st.scope) g.1.1.1.1.1.1.1.1.1.1.1.0) (row (hushed _ refl (quiet s.Bar m st5 (λ x st. refl) g.1.1.1.1.1.1.1.1.1.1.1.1.0)) (row (k3 st5) (row (hushed _ refl (quiet s.RightParen f st6 (λ x st. refl) g.1.1.1.1.1.1.1.1.1.1.1.1.1.1.0)) (closed end st6 g.1.1.1.1.1.1.1.1.1.1.1.1.1.1.1))))))))))))))))

@@ -1,33 +1,30 @@
 -- The machine spells each program, and each type that stands alone.
-use Rattle.std.proofs.Common.{◌≡◌, refl, ℕ, ◌+◌, Bool, true, false, Option, Some, None, List, [], ◌∷◌, ◌++◌, ap, sym, ◌∙◌, append_assoc}
+use Rattle.std.proofs.Common.{◌≡◌, refl, ℕ, ◌+◌, false, Option, Some, None, List, [], ◌∷◌, ◌++◌, ap, sym, ◌∙◌, append_assoc}
 use Rattle.std.proofs.lemmas.List.{append-nil}
 use Rattle.weld_terminals.specs.declared.symbol.Symbol.TheVariants as s
 use Rattle.weld_terminals.specs.declared.token.Token.{Token}
-use Rattle.weld_tree.specs.declared.binder.Binder.{Binder}
-use Rattle.weld_tree.specs.Program.{ProgramTree}
 use Rattle.weld_grammar.specs.declared.terminal.Terminal.TheVariants.{Sign}
 use Rattle.weld_grammar.specs.declared.rule.Rule.TheVariants as r
-use Rattle.weld_grammar.specs.declared.item.Item.TheVariants.{One, Part as OfRule, Optional, Repeated}
-use Rattle.weld_grammar.specs.Grammar.{Part, item, all_of, one_of, body}
+use Rattle.weld_grammar.specs.declared.item.Item.TheVariants.{One, Part as OfRule, Repeated}
+use Rattle.weld_grammar.specs.Grammar.{Part, item, all_of}
 use Rattle.weld_grammar.specs.Derivation.{Tree, leaf, node, empty, pair, here, there, yield, IsOf}
-use Rattle.weld_accept.specs.declared.step.Step.{Step}
 use Rattle.weld_accept.specs.Derived.{steps}
 use Rattle.weld_spell.specs.Seen.{seen}
 use Rattle.weld_spell.specs.TypeOf.{type_of}
 use Rattle.weld_spell.specs.ProgramOf.{Bound, first_of, expr_of, param_of, param_bound, next_params_of, params_scope, params_behind, program_of}
 use Rattle.weld_names.specs.Names.{Refused, or_else, reserved, misnamed, none, with_params, first_misnamed}
 use Rattle.weld_programs.specs.Ranges.{number_out_of_range}
-use Rattle.weld_reduce.specs.Values.{Value, token, expr, ty}
+use Rattle.weld_reduce.specs.Values.{token, expr}
 use Rattle.weld_reduce.specs.States.{State, push, start, names_of}
 use Rattle.weld_reduce.specs.Runs.{run, Comes, ComesToType}
 use Rattle.weld_reduce.proofs.Does.{Does, since, opened, kept, first, later, row, no_more, one_more, leads, refuses, or_else-none}
-use Rattle.weld_reduce.proofs.Good.{Good, Fit, good, numberless}
+use Rattle.weld_reduce.proofs.Good.{Good, good, numberless}
 use Rattle.weld_reduce.proofs.Nameless.{silent}
-use Rattle.weld_reduce.proofs.Tokens.{Told, sign_told, itself, quiet, hushed, closed, ended}
+use Rattle.weld_reduce.proofs.Tokens.{sign_told, itself, quiet, hushed, closed, ended}
 use Rattle.weld_reduce.proofs.Types.{type_at, spells_type}
-use Rattle.weld_reduce.proofs.Levels.{with_next, behind, Spells}
+use Rattle.weld_reduce.proofs.Levels.{behind, Spells}
 use Rattle.weld_reduce.proofs.Binders.{a_word}
-use Rattle.weld_reduce.proofs.Expressions.{s_expr}
+use Rattle.weld_reduce.proofs.Expressions.{spells_expr}
 
 -- ---- parameters
 
@@ -96,9 +93,9 @@ with a x c t e0 more z b end g k =
     }
 
 done : (t : Tree Token) → Good false (item (OfRule r.Program)) t → Done t
-done (node (here (node (pair b (pair e end))))) g = without b e end g (s_expr e g.1.0)
-done (node (there (here (node (pair a (pair (node (pair (leaf x) (pair c (pair t e0)))) (pair more (pair z (pair b end))))))))) g = with a x c t e0 more z b end g (s_expr b g.1.1.1.1.0)
-done (node (there (there (here e)))) g = record { state = behind start (expr_of e [] 0); does = kept (later (later (first (s_expr e g start)))) (λ z. refl); values = refl; params = refl }
+done (node (here (node (pair b (pair e end))))) g = without b e end g (spells_expr e g.1.0)
+done (node (there (here (node (pair a (pair (node (pair (leaf x) (pair c (pair t e0)))) (pair more (pair z (pair b end))))))))) g = with a x c t e0 more z b end g (spells_expr b g.1.1.1.1.0)
+done (node (there (there (here e)))) g = record { state = behind start (expr_of e [] 0); does = kept (later (later (first (spells_expr e g start)))) (λ z. refl); values = refl; params = refl }
 done _ g = absurd (assumption)
 
 -- nothing stands behind

@@ -1,25 +1,22 @@
 -- What the machine does at a token: it's pushed, or passed over.
-use Rattle.std.proofs.Common.{◌≡◌, refl, ℕ, Bool, true, false, Option, Some, None, List, [], ◌∷◌, ◌++◌, ap, sym, ◌∙◌}
-use Rattle.weld_tree.specs.declared.place.Place.{Place}
+use Rattle.std.proofs.Common.{◌≡◌, refl, ℕ, true, false, Option, Some, None, List, [], ◌∷◌, ◌++◌, ap}
 use Rattle.weld_terminals.specs.declared.class.Class.{Class}
 use Rattle.weld_terminals.specs.declared.class.Class.TheVariants as classes
 use Rattle.weld_terminals.specs.declared.symbol.Symbol.{Symbol}
 use Rattle.weld_terminals.specs.declared.reserved.Reserved.{Reserved}
 use Rattle.weld_terminals.specs.declared.token.Token.{Token}
-use Rattle.weld_grammar.specs.declared.terminal.Terminal.{Terminal}
 use Rattle.weld_grammar.specs.declared.terminal.Terminal.TheVariants.{Sign, Fixed}
-use Rattle.weld_grammar.specs.declared.rule.Rule.{Rule}
 use Rattle.weld_grammar.specs.declared.item.Item.{Item}
-use Rattle.weld_grammar.specs.declared.item.Item.TheVariants.{One, Part as OfRule, Optional, Repeated}
-use Rattle.weld_grammar.specs.Grammar.{Part, item, all_of, one_of, body}
-use Rattle.weld_grammar.specs.Derivation.{Tree, leaf, node, empty, pair, here, there, yield}
+use Rattle.weld_grammar.specs.declared.item.Item.TheVariants.{One}
+use Rattle.weld_grammar.specs.Grammar.{Part, item, all_of, one_of}
+use Rattle.weld_grammar.specs.Derivation.{Tree, leaf, empty, pair, here, there, yield}
 use Rattle.weld_spell.specs.ProgramOf.{first_of}
 use Rattle.weld_names.specs.Names.{Refused, misnamed, none}
 use Rattle.weld_reduce.specs.Values.{token}
-use Rattle.weld_reduce.specs.States.{State, shift, reduce, push, names_of}
-use Rattle.weld_reduce.proofs.Does.{Does, since, plain, over, opened, first, later, absent, no_more, refuses}
+use Rattle.weld_reduce.specs.States.{State, shift, push, names_of}
+use Rattle.weld_reduce.proofs.Does.{Does, since, plain, over, first, later, refuses}
 use Rattle.weld_reduce.proofs.Nameless.{nameless_item, silent}
-use Rattle.weld_reduce.proofs.Good.{Good, Fit}
+use Rattle.weld_reduce.proofs.Good.{Good}
 use Rattle.weld_reduce.proofs.Classes.{sign_class, fixed_class}
 
 -- the machine pushes the tree's one token, of which something is read
