@@ -1,1 +1,14 @@
 pub mod Lifted
+pub mod Classes
+pub mod Does
+pub mod Good
+pub mod Tokens
+pub mod Nameless
+pub mod Types
+pub mod Levels
+pub mod Forms
+pub mod Binders
+pub mod Loops
+pub mod Builders
+pub mod Expressions
+pub mod Programs

@@ -1,6 +1,6 @@
 -- What lies on the stack behind a rule that binds no names, from what lay on it before (the Weld papers); none where it isn't of the
 -- rule's form, or where a number is out of its range.
-use Rattle.std.specs.Prelude.{ℕ, Bool, true, false, if◌then◌else◌, Option, Some, None, option_and_then, List, [], ◌∷◌, ◌++◌}
+use Rattle.std.specs.Prelude.{Bool, true, false, if◌then◌else◌, Option, Some, None, option_and_then, List, [], ◌∷◌, ◌++◌}
 use Rattle.weld_data.specs.declared.kind.Kind.{Kind}
 use Rattle.weld_data.specs.declared.kind.Kind.TheVariants as kinds
 use Rattle.weld_data.specs.declared.op.BinOp.{BinOp}
@@ -15,12 +15,12 @@ use Rattle.weld_terminals.specs.declared.token.Token.{Token}
 use Rattle.weld_tokens.specs.Literals.{is_in_range, literal_value, field_value}
 use Rattle.weld_tree.specs.declared.place.Place.{Place}
 use Rattle.weld_tree.specs.declared.known.Known.TheVariants.{Blank}
-use Rattle.weld_tree.specs.TypeTree.{TypeTree, BuildTree, scalar, vec, struct, dict, build, list, total, keyed, cells, groups, pack}
+use Rattle.weld_tree.specs.TypeTree.{BuildTree, scalar, vec, struct, dict, build, list, total, keyed, cells, groups, pack}
 use Rattle.weld_tree.specs.ExprTree.{ExprTree, LegTree, At, leaf as leaf_at, one, two, three, many, strided, pack_exprs, int, fresh, One, neg, not, cast, len, field as field_form, finish, started, Two, binary, and, or, look_up, key_exists, merge, Three, if_else, select, slice, Many, make_vec, make_struct}
 use Rattle.weld_grammar.specs.declared.rule.Rule.{Rule}
 use Rattle.weld_grammar.specs.declared.rule.Rule.TheVariants as r
 use Rattle.weld_spell.specs.ProgramOf.{kind_of_class}
-use Rattle.weld_reduce.specs.Values.{Value, token, expr, exprs, leg, legs, ty, types, op, Top, top_token, top_expr, top_exprs, top_leg, top_legs, top_type, top_types, top_op}
+use Rattle.weld_reduce.specs.Values.{Value, token, expr, exprs, leg, legs, ty, types, op, Top, top_token, top_expr, top_exprs, top_leg, top_type, top_types, top_op}
 
 -- the stack behind the rule
 abbrev pub Reduced : Type 0

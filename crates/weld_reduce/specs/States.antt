@@ -1,7 +1,6 @@
 -- The machine that spells a program: a stack of values, the binders that are open, the names in scope, the number of the next
 -- binder, the first name refused, and the parameters (the Weld papers).
 use Rattle.std.specs.Prelude.{ℕ, ◌+◌, true, false, Option, Some, None, option_and_then, List, [], ◌∷◌, ◌++◌}
-use Rattle.weld_terminals.specs.declared.class.Class.{Class}
 use Rattle.weld_terminals.specs.declared.symbol.Symbol.TheVariants as s
 use Rattle.weld_terminals.specs.declared.reserved.Reserved.TheVariants as w
 use Rattle.weld_terminals.specs.declared.token.Token.{Token}
@@ -9,14 +8,14 @@ use Rattle.weld_tokens.specs.Literals.{string_value}
 use Rattle.weld_tree.specs.declared.place.Place.{Place}
 use Rattle.weld_tree.specs.declared.binder.Binder.{Binder}
 use Rattle.weld_tree.specs.TypeTree.{TypeTree}
-use Rattle.weld_tree.specs.ExprTree.{ExprTree, leaf as leaf_at, let_in, loop, iterate, pack_legs, truth, chars, name}
+use Rattle.weld_tree.specs.ExprTree.{leaf as leaf_at, let_in, loop, iterate, pack_legs, truth, chars, name}
 use Rattle.weld_grammar.specs.declared.terminal.Terminal.{Terminal}
 use Rattle.weld_grammar.specs.declared.terminal.Terminal.TheVariants.{Sign, Fixed, Word, Name, Number, Field, Chars}
 use Rattle.weld_grammar.specs.declared.rule.Rule.{Rule}
 use Rattle.weld_grammar.specs.declared.rule.Rule.TheVariants as r
 use Rattle.weld_names.specs.Names.{Refused, or_else, unbound, reserved}
 use Rattle.weld_spell.specs.ProgramOf.{Bound, number_in}
-use Rattle.weld_reduce.specs.Values.{Value, token, expr, exprs, leg, legs, ty, types, op, Top, top_token, top_expr, top_legs}
+use Rattle.weld_reduce.specs.Values.{Value, token, expr, legs, ty, Top, top_token, top_expr, top_legs}
 use Rattle.weld_reduce.specs.Forms.{at, reduced}
 
 -- a binder with its name
@@ -94,9 +93,9 @@ close st =
     elim st.binders as (λ _. Closed) [
       | [] ↦ None
       | b ∷ bs ↦ elim st.scope as (λ _. Closed) [
-          | [] ↦ None
-          | x ∷ scope ↦ Some (b.binder, record { values = st.values; binders = bs; scope = scope; next = st.next; misnamed = st.misnamed; params = st.params })
-        ]
+        | [] ↦ None
+        | x ∷ scope ↦ Some (b.binder, record { values = st.values; binders = bs; scope = scope; next = st.next; misnamed = st.misnamed; params = st.params })
+      ]
     ]
 
 abbrev pub reduce_let : State → Option State

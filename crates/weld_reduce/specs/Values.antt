@@ -1,5 +1,5 @@
 -- What lies on the stack of a machine that spells a program: tokens, and what the rules behind are reduced to.
-use Rattle.std.specs.Prelude.{ℕ, Option, Some, None, List, [], ◌∷◌}
+use Rattle.std.specs.Prelude.{Option, Some, None, List, [], ◌∷◌}
 use Rattle.weld_data.specs.declared.op.MergeOp.{MergeOp}
 use Rattle.weld_terminals.specs.declared.token.Token.{Token}
 use Rattle.weld_tree.specs.declared.place.Place.{Place}

@@ -1,13 +1,32 @@
 //! Laws of derivations. Each function's contract is the law.
-ghost use Rattle.std.specs.Prelude.{List};
+ghost use Rattle.std.specs.Prelude.{◌≡◌, None, List};
 ghost use Rattle.weld_terminals.specs.declared.token.Token.{Token};
 ghost use Rattle.weld_grammar.specs.declared.rule.Rule.{Rule};
+ghost use Rattle.weld_grammar.specs.declared.rule.Rule.TheVariants.{Program, AnyType};
+ghost use Rattle.weld_grammar.specs.declared.item.Item.TheVariants.{Part as OfRule};
+ghost use Rattle.weld_grammar.specs.Grammar.{item};
+ghost use Rattle.weld_grammar.specs.Derivation.{Tree, yield, IsOf};
 ghost use Rattle.weld_grammar.specs.Classes.{classes};
 ghost use Rattle.weld_accept.specs.declared.step.Step.{Step};
-ghost use Rattle.weld_accept.specs.Derived.{IsDerivation};
+ghost use Rattle.weld_accept.specs.Derived.{steps, IsDerivation};
+ghost use Rattle.weld_spell.specs.Seen.{seen};
+ghost use Rattle.weld_spell.specs.TypeOf.{type_of};
+ghost use Rattle.weld_spell.specs.ProgramOf.{first_of, program_of};
+ghost use Rattle.weld_names.specs.Names.{first_misnamed};
+ghost use Rattle.weld_programs.specs.Ranges.{number_out_of_range};
+ghost use Rattle.weld_reduce.specs.States.{start};
+ghost use Rattle.weld_reduce.specs.Runs.{run, Comes, ComesToType};
 ghost use Rattle.weld_reduce.specs.Programs.{IsDerivedBy};
 
 /// A derivation of the classes of tokens is one of the tokens, by the same steps.
 pub fn derivations_are_over_tokens()
     ensures { (r : Rule) (ts : List Token) (ss : List Step) → IsDerivation r (classes ts) ss → IsDerivedBy r ts ss }
+{}
+
+/// What the steps of a program's derivation come to is the program that its tree spells, with the first of its names that
+/// is refused, where no number is out of its range. What those of a type's come to is the type that its tree spells, at the
+/// place of its first token.
+pub fn derivations_spell()
+    ensures programs { (tree : Tree Token) → IsOf (item (OfRule Program)) (seen tree) → number_out_of_range tree ≡ None → Comes (run (steps (item (OfRule Program)) tree) (yield tree) start) (program_of tree) (first_misnamed tree) }
+    ensures types { (tree : Tree Token) → IsOf (item (OfRule AnyType)) (seen tree) → ComesToType (run (steps (item (OfRule AnyType)) tree) (yield tree) start) (first_of (yield tree)) (type_of tree) }
 {}
