@@ -31,9 +31,15 @@ use Rattle.weld_limits.specs.Depth.{first_deep_node}
 use Rattle.weld_limits.specs.Lets.{has_too_many_lets}
 use Rattle.weld_limits.specs.Lists.{first_type_too_large, first_parameter_too_many, first_field_too_many}
 use Rattle.weld_names.specs.Names.{first_misnamed}
+use Rattle.weld_accept.specs.declared.stop.Stop.{Stop}
+use Rattle.weld_accept.specs.declared.stop.Stop.TheVariants.{Break}
+use Rattle.weld_accept.specs.Stops.{StopsAt}
 use Rattle.weld_reduce.specs.Programs.{IsRead}
 use Rattle.weld_parse.specs.Findings.{place_at, broken_at, IsTreeOf, found_in, Finds, broken, derived}
 use Rattle.weld_parse.specs.Parses.{Parses, IsRefused, no_token, by_rule}
+use Rattle.weld_parse.specs.declared.program.Unread.{Unread}
+use Rattle.weld_parse.specs.declared.program.Unread.TheVariants.{Broken, OutOfRange}
+use Rattle.weld_parse.specs.Unread.{WhyUnread}
 use Rattle.weld_parse.specs.Judged.{IsAccepted, IsRefusedTree}
 use Rattle.weld_parse.proofs.Order.{clean, few_tokens, too_many, broken_first, ranged_first}
 
@@ -176,6 +182,9 @@ judged_program numbers law tokens params body misnamed r found f e =
 
 -- ---- results
 
+pub stops_at : (stop : Stop) (n : ℕ) (xs : List Class) → stop ≡ Break n → StopsAt Program xs stop → BreaksAt Program xs n
+stops_at stop n xs e h = subst (StopsAt Program xs) e h
+
 if_ok : {T E : Type 0} (o : Result T E) (P Q : T → Type 0) → ((x : T) → P x → Q x) → IfOk o P → IfOk o Q
 if_ok (Ok x) P Q f h = f x h
 if_ok (Err e) P Q f h = h
@@ -187,10 +196,12 @@ if_err (Err e) P Q f h = f e h
 pub ok_program : (o : Result ProgramTree Refusal) (text : List ℕ) (tokens : List Token) → has_too_many_bytes text ≡ false → AreTokens text tokens → IfOk o (λ p. IsAccepted tokens p) → IfOk o (λ p. Parses text p)
 ok_program o text tokens fits of h = if_ok o (λ p. IsAccepted tokens p) (λ p. Parses text p) (λ p a. accepted text tokens p fits of a) h
 
-pub err_refused : (o : Result ProgramTree Refusal) (text : List ℕ) (tokens : List Token) → has_too_many_bytes text ≡ false → AreTokens text tokens
-    → IfErr o (λ r. (r ≡ Memory → ⊥) → IsRefusedTree tokens r) → IfErr o (λ r. (r ≡ Memory → ⊥) → IsRefused text r)
-err_refused o text tokens fits of h =
-    if_err o (λ r. (r ≡ Memory → ⊥) → IsRefusedTree tokens r) (λ r. (r ≡ Memory → ⊥) → IsRefused text r) (λ r a n. by_tree text tokens r fits of (a n)) h
+pub err_judged : (o : Result ProgramTree Refusal) (text : List ℕ) (tokens : List Token) → has_too_many_bytes text ≡ false → AreTokens text tokens
+    → IfErr o (λ r. IsRefusedTree tokens r) → IfErr o (λ r. (r ≡ Memory → ⊥) → IsRefused text r)
+err_judged o text tokens fits of h = if_err o (λ r. IsRefusedTree tokens r) (λ r. (r ≡ Memory → ⊥) → IsRefused text r) (λ r a n. by_tree text tokens r fits of a) h
 
-pub match_some : (o : Option ℕ) (n : ℕ) (P : Type 0) (Q : ℕ → Type 0) → o ≡ Some n → MatchOption o P Q → Q n
-match_some o n P Q e h = let R : Option ℕ → Type 0 = λ z. MatchOption z P Q in subst R e h
+pub unread_broken : (why : Unread) (n : ℕ) (tokens : List Token) → why ≡ Broken n → WhyUnread tokens why → BreaksAt Program (classes tokens) n
+unread_broken why n tokens e h = subst (WhyUnread tokens) e h
+
+pub unread_range : (why : Unread) (place : Place) (tokens : List Token) → why ≡ OutOfRange place → WhyUnread tokens why → Derives Program (classes tokens) × (first_number_out_of_range tokens ≡ Some place)
+unread_range why place tokens e h = subst (WhyUnread tokens) e h

@@ -6,7 +6,7 @@ ghost use Rattle.weld_parse.specs.Unread.{WhyUnread};
 use std::alloc::Global;
 use weld_accept::{Stop, derive};
 use weld_grammar::Rule;
-use weld_programs::laws::numbers_by_the_tree;
+use weld_reduce::laws::derivations_are_over_tokens;
 use weld_reduce::{Read, spell};
 use weld_terminals::Token;
 use weld_tokens::first_number_out_of_range;
@@ -28,7 +28,7 @@ pub fn read_program(alloc: Global, tokens: &[Token]) -> Result<Read, Unread>
     ensures read { IfOk result (λ read. IsRead tokens.now read.params read.body.value read.misnamed) }
     ensures unread { IfErr result (λ why. WhyUnread tokens.now why) }
 {
-    numbers_by_the_tree();
+    derivations_are_over_tokens();
     match derive(alloc, Rule::Program, tokens) {
         Err(Stop::Memory) => Err(Unread::Memory),
         Err(Stop::Break(number)) => Err(Unread::Broken(number)),
