@@ -62,7 +62,10 @@ fn open(item: Item, class: Class, stack: &mut Stack, steps: &mut Steps) -> Resul
         Item::Part(rule) => {
             stack.push(Entry::End(rule))?;
             match body(rule) {
-                Production::OneOf(choices) => open(first_begun(choices, class), class, stack, steps),
+                Production::OneOf(choices) => {
+                    let chosen = first_begun(choices, class);
+                    open(chosen, class, stack, steps)
+                }
                 Production::All(items) => match items.split_first() {
                     None => Ok(()),
                     Some((first, rest)) => {
