@@ -146,9 +146,9 @@ onward s t u old mid new xs ys a b = record {
   taken = a.taken ++ b.taken;
   is = b.is ∙ ap (λ z. z ++ b.taken) a.is ∙ append_assoc old a.taken b.taken;
   made = λ ss zs m.
-    let P : List Step → Type 0 = λ z. Makes s z ((xs ++ ys) ++ zs) in
-    let Q : List Class → Type 0 = λ z. Makes s (a.taken ++ (b.taken ++ ss)) z in
-    subst P (sym (append_assoc a.taken b.taken ss)) (subst Q (sym (append_assoc xs ys zs)) (a.made (b.taken ++ ss) (ys ++ zs) (b.made ss zs m)));
+      let P : List Step → Type 0 = λ z. Makes s z ((xs ++ ys) ++ zs) in
+      let Q : List Class → Type 0 = λ z. Makes s (a.taken ++ (b.taken ++ ss)) z in
+      subst P (sym (append_assoc a.taken b.taken ss)) (subst Q (sym (append_assoc xs ys zs)) (a.made (b.taken ++ ss) (ys ++ zs) (b.made ss zs m)));
 }
 
 -- a rule ends
@@ -177,8 +177,8 @@ begins_so i x s old t new o = record {
   taken = o.taken;
   is = o.is;
   made = λ ss ys m.
-    let p = o.opened ss ys m in
-    (p.tree, p.rest, p.behind, p.tree_of, p.is, ap (λ z. x ∷ z) p.tokens ∙ ap (λ z. z ++ p.behind) (sym p.begun), p.made);
+      let p = o.opened ss ys m in
+      (p.tree, p.rest, p.behind, p.tree_of, p.is, ap (λ z. x ∷ z) p.tokens ∙ ap (λ z. z ++ p.behind) (sym p.begun), p.made);
 }
 
 -- where all that was pending has ended, the steps are those of a tree

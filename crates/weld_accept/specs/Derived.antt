@@ -4,7 +4,7 @@ use Rattle.weld_terminals.specs.declared.class.Class.{Class}
 use Rattle.weld_grammar.specs.declared.rule.Rule.{Rule}
 use Rattle.weld_grammar.specs.declared.item.Item.TheVariants.{One, Part as OfRule, Optional, Repeated}
 use Rattle.weld_grammar.specs.Grammar.{Part, item, all_of, one_of, body}
-use Rattle.weld_grammar.specs.Derivation.{Tree, leaf, node, empty, pair, here, there, yield, IsOf}
+use Rattle.weld_grammar.specs.Derivation.{Tree, leaf, node, pair, here, there, yield, IsOf}
 use Rattle.weld_accept.specs.declared.step.Step.{Step}
 use Rattle.weld_accept.specs.declared.step.Step.TheVariants.{Shift, Reduce}
 

@@ -11,7 +11,8 @@ use weld_terminals::Token;
 /// Where the tokens break the rule first: at the token of this number, counted from 0, or at the end where
 /// it is their number. None where the rule derives the tokens. It fails only for want of memory.
 pub fn first_break(alloc: Global, rule: Rule, tokens: &[Token]) -> Result<Option<usize>, AllocError>
-    ensures { IfOk result (λ place. MatchOption place (Derives rule (classes tokens.now)) (λ n. BreaksAt rule (classes tokens.now) n)) }
+    ensures { IfOk result (λ place. MatchOption place (Derives rule (classes tokens.now))
+        (λ n. BreaksAt rule (classes tokens.now) n)) }
 {
     match derive(alloc, rule, tokens) {
         Ok(_) => Ok(None),

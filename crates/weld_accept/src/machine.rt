@@ -44,11 +44,12 @@ fn first_begun(choices: &[Item], class: Class) -> Item
     }
 }
 
-/// Opens the item at a token that begins it, and uses the token up: the rules that begin here lie on the stack
-/// over their ends, and the token is taken.
+/// Opens the item at a token that begins it, and uses the token up: the rules that begin here leave on the
+/// stack what is still to come of them, each over its end.
 fn open(item: Item, class: Class, stack: &mut Stack, steps: &mut Steps) -> Result<(), AllocError>
     requires { IsTrue (begins_class item class) }
-    ensures pending { OnOk result (items_of stack.new ≡ behind depth (one_item item) class (items_of stack.old)) }
+    ensures pending { OnOk result (items_of stack.new
+        ≡ behind depth (one_item item) class (items_of stack.old)) }
     ensures opened { OnOk result (Opens item class stack.old steps.old stack.new steps.new) }
 {
     parts_open();
@@ -62,7 +63,10 @@ fn open(item: Item, class: Class, stack: &mut Stack, steps: &mut Steps) -> Resul
         Item::Part(rule) => {
             stack.push(Entry::End(rule))?;
             match body(rule) {
-                Production::OneOf(choices) => open(first_begun(choices, class), class, stack, steps),
+                Production::OneOf(choices) => {
+                    let chosen = first_begun(choices, class);
+                    open(chosen, class, stack, steps)
+                }
                 Production::All(items) => match items.split_first() {
                     None => Ok(()),
                     Some((first, rest)) => {
@@ -78,8 +82,11 @@ fn open(item: Item, class: Class, stack: &mut Stack, steps: &mut Steps) -> Resul
 /// Uses one token up: ends the rules that end before it, and opens the first pending item that a token of
 /// the class may begin, where all before it can be empty. False where there is none.
 pub fn step(stack: &mut Stack, steps: &mut Steps, class: Class) -> Result<bool, AllocError>
-    ensures pending { IfOk result (λ moved. MatchBool moved (step_of (items_of stack.old) class ≡ Some (items_of stack.new)) (step_of (items_of stack.old) class ≡ None)) }
-    ensures made { IfOk result (λ moved. IsTrue moved → Moves stack.old steps.old (class ∷ []) stack.new steps.new) }
+    ensures pending { IfOk result (λ moved. MatchBool moved
+        (step_of (items_of stack.old) class ≡ Some (items_of stack.new))
+        (step_of (items_of stack.old) class ≡ None)) }
+    ensures made { IfOk result (λ moved. IsTrue moved
+        → Moves stack.old steps.old (class ∷ []) stack.new steps.new) }
 {
     while let Some(entry) = stack.pop() {
         match entry {

@@ -1,7 +1,7 @@
 use Rattle.std.proofs.Common.{◌≡◌, refl, ◌<◌, true, ◌∷◌, ◌++◌, ap, sym, ◌∙◌, arith}
 use Rattle.std.proofs.lemmas.Result.{on_ok_weaker}
 use Rattle.weld_grammar.specs.declared.item.Item.TheVariants.{One, Part as OfRule, Optional, Repeated}
-use Rattle.weld_grammar.specs.Grammar.{all_of, one_of, body, is_of}
+use Rattle.weld_grammar.specs.Grammar.{all_of, body, is_of}
 use Rattle.weld_grammar.specs.Begins.{begins, starts}
 use Rattle.weld_grammar.specs.Pending.{first_begun}
 use Rattle.weld_grammar.specs.Apart.{any_begins}
@@ -15,10 +15,10 @@ use Rattle.weld_accept.proofs.machine.+open.Goals as goal
 pub open-requires-in-OneOf : goal.open-requires-in-OneOf
 open-requires-in-OneOf t c =
     let a : rank (first_begun c.in-OneOf.choices.now c.args.class) < rank_of c.in-Part.rule = choice_below c.in-Part.rule c.in-OneOf.choices.now c.args.class c.in-OneOf.ensures in
-    let e : rank c.first_begun.result ≡ rank (first_begun c.in-OneOf.choices.now c.args.class) = ap rank c.first_begun.ensures in
+    let e : rank c.first_begun-chosen.result ≡ rank (first_begun c.in-OneOf.choices.now c.args.class) = ap rank c.first_begun-chosen.ensures in
     let k : rank c.args.item ≡ rank_of c.in-Part.rule = ap rank c.in-Part.is in
     let h : starts c.in-Part.rule c.args.class ≡ true = sym (ap (λ i. begins i c.args.class) c.in-Part.is) ∙ c.requires in
-    (omega arith, ap (λ i. begins i c.args.class) c.first_begun.ensures ∙ chosen_begun c.in-OneOf.choices.now c.args.class (choice_begun c.in-Part.rule c.in-OneOf.choices.now c.args.class c.in-OneOf.ensures h))
+    (omega arith, ap (λ i. begins i c.args.class) c.first_begun-chosen.ensures ∙ chosen_begun c.in-OneOf.choices.now c.args.class (choice_begun c.in-Part.rule c.in-OneOf.choices.now c.args.class c.in-OneOf.ensures h))
 
 pub open-requires-in-Some : goal.open-requires-in-Some
 open-requires-in-Some t c =
@@ -53,7 +53,7 @@ returns-in-OneOf-clause-opened t c =
     let new = c.open-in-OneOf.new in
     let h : starts q x ≡ true = sym (ap (λ i. begins i x) c.in-Part.is) ∙ c.requires in
     let b : any_begins choices x ≡ true = choice_begun q choices x c.in-OneOf.ensures h in
-    on_ok_weaker c.open-in-OneOf.result (λ o. opens_same (OfRule q) c.args.item x c.args.stack.now c.args.stack.now c.args.steps.now new.stack new.steps (sym c.in-Part.is) refl (opens_choice q choices x c.args.stack.now c.args.steps.now new.stack new.steps c.in-OneOf.ensures b (opens_same c.first_begun.result (first_begun choices x) x c.push-in-Part.new.self (End q ∷ c.args.stack.now) c.args.steps.now new.stack new.steps c.first_begun.ensures c.in_ok-push-in-Part.ensures o))) c.open-in-OneOf.ensures.opened
+    on_ok_weaker c.open-in-OneOf.result (λ o. opens_same (OfRule q) c.args.item x c.args.stack.now c.args.stack.now c.args.steps.now new.stack new.steps (sym c.in-Part.is) refl (opens_choice q choices x c.args.stack.now c.args.steps.now new.stack new.steps c.in-OneOf.ensures b (opens_same c.first_begun-chosen.result (first_begun choices x) x c.push-in-Part.new.self (End q ∷ c.args.stack.now) c.args.steps.now new.stack new.steps c.first_begun-chosen.ensures c.in_ok-push-in-Part.ensures o))) c.open-in-OneOf.ensures.opened
 
 pub returns-in_ok-push_all-in-Some-clause-opened : goal.returns-in_ok-push_all-in-Some-clause-opened
 returns-in_ok-push_all-in-Some-clause-opened t c =
