@@ -2,7 +2,6 @@
 //! breaks the grammar.
 #![tactic(auto)]
 
-pub mod accept;
 pub mod derivation;
 pub mod entry;
 pub mod lead;
@@ -14,7 +13,6 @@ pub mod steps;
 pub mod stop;
 pub mod table;
 
-pub use accept::first_break;
 pub use derivation::derive;
 pub use lead::is_of;
 pub use step::Step;

@@ -4,6 +4,8 @@
 #![tactic(auto)]
 
 #[cfg(test)]
+mod breaks;
+#[cfg(test)]
 mod derivations;
 #[cfg(test)]
 mod places;

@@ -1,6 +1,6 @@
 use std::alloc::{AllocError, Global};
 use std::test::Fail;
-use weld_accept::first_break;
+use crate::breaks::first_break;
 use weld_data::Text;
 use weld_grammar::Rule;
 use weld_terminals::{Class, Reserved, Symbol, Token};

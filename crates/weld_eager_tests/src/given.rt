@@ -10,7 +10,7 @@ use std::alloc::Global;
 use std::test::Fail;
 use weld_calls::{Call, first_misfit};
 use weld_data::{BinOp, Val, Vals};
-use weld_read_type::read_ty::read_ty;
+use weld_reduce::read_ty;
 use weld_tokens::read_tokens;
 use weld_tree::{Ty, Tys};
 use weld_values::laws::well_formed_types_are_readable;

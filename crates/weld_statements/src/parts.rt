@@ -10,7 +10,7 @@ use std::alloc::{AllocError, Global};
 use weld_accept::is_of;
 use weld_data::{Kind, Names, Text};
 use weld_grammar::Terminal;
-use weld_read_type::read_ty::read_ty;
+use weld_reduce::read_ty;
 use weld_terminals::{Class, Reserved, Symbol, Token};
 use weld_tokens::has_too_many_tokens;
 use weld_tree::{Ty, TyForm};
