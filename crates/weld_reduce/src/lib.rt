@@ -2,3 +2,10 @@
 #![tactic(auto)]
 
 pub mod laws;
+pub mod nodes;
+pub mod operators;
+pub mod stop;
+pub mod value;
+pub mod values;
+
+pub use stop::Stop;
