@@ -4,3 +4,4 @@ pub mod States
 pub mod Runs
 pub mod Views
 pub mod Operators
+pub mod Tops

@@ -1,9 +1,9 @@
--- What the operators of a line make of two expressions.
+-- What a rule makes of expressions, by the token that it goes by.
 use Rattle.weld_terminals.specs.declared.token.Token.{Token}
-use Rattle.weld_tree.specs.ExprTree.{Two, binary, and, or}
+use Rattle.weld_tree.specs.ExprTree.{One, neg, not, cast, len, finish, Two, binary, and, or}
 use Rattle.weld_grammar.specs.declared.rule.Rule.{Rule}
 use Rattle.weld_grammar.specs.declared.rule.Rule.TheVariants as r
-use Rattle.weld_reduce.specs.Forms.{equality_op, relation_op, sum_op, product_op}
+use Rattle.weld_reduce.specs.Forms.{equality_op, relation_op, sum_op, product_op, kind_of_word}
 
 -- at a rule that goes on with a line
 abbrev pub line : Rule → Token → Two
@@ -13,3 +13,11 @@ line r.EqualityPart t = binary (equality_op t.class)
 line r.RelationPart t = binary (relation_op t.class)
 line r.SumPart t = binary (sum_op t.class)
 line _ t = binary (product_op t.class)
+
+-- at a rule of a sign or a word and one expression
+abbrev pub worded : Rule → Token → One
+worded r.Minus t = neg
+worded r.Not t = not
+worded r.Len t = len
+worded r.Finish t = finish
+worded _ t = cast (kind_of_word t.class)

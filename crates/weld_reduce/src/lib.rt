@@ -1,10 +1,15 @@
 //! Programs from derivations: a machine that reduces tokens and what they stand for.
 #![tactic(auto)]
 
+pub mod builders;
+pub mod calls;
 pub mod laws;
+pub mod legs;
 pub mod nodes;
+pub mod numbers;
 pub mod operators;
 pub mod stop;
+pub mod types;
 pub mod value;
 pub mod values;
 

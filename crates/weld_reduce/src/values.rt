@@ -4,6 +4,7 @@ ghost use Rattle.weld_tree.specs.ExprView.{view_leg};
 ghost use Rattle.weld_reduce.specs.declared.stop.Stop.TheVariants.{Broken};
 ghost use Rattle.weld_reduce.specs.Views.{view_value};
 ghost use Rattle.weld_reduce.specs.Values.{top_token, top_expr, top_exprs, top_leg, top_legs, top_type, top_types, top_op};
+ghost use Rattle.weld_reduce.specs.Tops.{is_token, is_expr, are_legs, is_type};
 
 use crate::stop::Stop;
 use crate::value::Value;
@@ -157,6 +158,46 @@ impl<'a> Values<'a> {
         match self.pop() {
             Some(Value::Op(op)) => Ok(op),
             _ => Err(Stop::Broken),
+        }
+    }
+
+    /// Whether a token lies on top.
+    pub fn has_token(&self) -> bool
+        ensures { result ≡ is_token self.now }
+    {
+        match self.items.last() {
+            Some(Value::Token(_)) => true,
+            _ => false,
+        }
+    }
+
+    /// Whether an expression lies on top.
+    pub fn has_expr(&self) -> bool
+        ensures { result ≡ is_expr self.now }
+    {
+        match self.items.last() {
+            Some(Value::Expr(_)) => true,
+            _ => false,
+        }
+    }
+
+    /// Whether legs lie on top.
+    pub fn has_legs(&self) -> bool
+        ensures { result ≡ are_legs self.now }
+    {
+        match self.items.last() {
+            Some(Value::Legs(_)) => true,
+            _ => false,
+        }
+    }
+
+    /// Whether a type lies on top.
+    pub fn has_type(&self) -> bool
+        ensures { result ≡ is_type self.now }
+    {
+        match self.items.last() {
+            Some(Value::Type(_, _)) => true,
+            _ => false,
         }
     }
 }
