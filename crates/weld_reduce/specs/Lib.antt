@@ -5,3 +5,5 @@ pub mod Runs
 pub mod Views
 pub mod Operators
 pub mod Tops
+pub mod StateView
+pub mod Newest

@@ -8,12 +8,14 @@ ghost use Rattle.weld_reduce.specs.declared.stop.Stop.TheVariants.{Broken};
 ghost use Rattle.weld_reduce.specs.Values.{ty, expr};
 ghost use Rattle.weld_reduce.specs.Forms as forms;
 ghost use Rattle.weld_reduce.specs.Forms.{at};
+ghost use Rattle.weld_reduce.specs.Operators.{built_at};
 
 use crate::nodes::{leaf, one};
 use crate::stop::Stop;
 use crate::value::Value;
 use crate::values::Values;
 use std::alloc::{AllocError, Global};
+use weld_grammar::Rule;
 use weld_tree::{BuildTy, Expr, LeafForm, OneForm, Place, Ty, TyForm};
 
 /// A builder with the place of its word.
@@ -133,4 +135,69 @@ fn push_started(
     let Built { place, build } = built;
     let node = one(alloc, place, OneForm::Builder(build), e)?;
     values.push(Value::Expr(node))
+}
+
+/// The builder at its rule.
+fn built_at(rule: Rule, values: &mut Values) -> Result<Built, Stop>
+    ensures ok { IfOk result (λ b. built_at rule values.old ≡ Some ((b.place, view_build b.build), values.new)) }
+    ensures broken { IfErr result (λ _. built_at rule values.old ≡ None) }
+{
+    match rule {
+        Rule::ListBuild | Rule::ListType => list_built(values),
+        Rule::TotalBuild | Rule::TotalType => total_built(values),
+        Rule::KeyedBuild | Rule::KeyedType => keyed_built(values),
+        Rule::CellsBuild | Rule::CellsType => cells_built(values),
+        _ => groups_built(values),
+    }
+}
+
+/// The builder of a rule as a type.
+pub fn builder_type(alloc: Global, rule: Rule, values: &mut Values) -> Result<(), Stop>
+    ensures ok { OnOk result (forms.as_type (built_at rule values.old) ≡ Some values.new) }
+    ensures broken { IfErr result (λ stop. stop ≡ Broken → forms.as_type (built_at rule values.old) ≡ None) }
+{
+    let built = built_at(rule, values)?;
+    push_type(alloc, built, values)?;
+    Ok(())
+}
+
+/// The builder of a rule as an expression.
+pub fn fresh_builder(alloc: Global, rule: Rule, values: &mut Values) -> Result<(), Stop>
+    ensures ok { OnOk result (forms.as_fresh (built_at rule values.old) ≡ Some values.new) }
+    ensures broken { IfErr result (λ stop. stop ≡ Broken → forms.as_fresh (built_at rule values.old) ≡ None) }
+{
+    let built = built_at(rule, values)?;
+    push_fresh(alloc, built, values)?;
+    Ok(())
+}
+
+/// The builder of a rule from a starting value.
+fn started_builder(alloc: Global, rule: Rule, e: Box<Expr>, values: &mut Values) -> Result<(), Stop>
+    ensures ok { OnOk result (forms.as_started e.value (built_at rule values.old) ≡ Some values.new) }
+    ensures broken { IfErr result (λ stop. stop ≡ Broken → forms.as_started e.value (built_at rule values.old) ≡ None) }
+{
+    let built = built_at(rule, values)?;
+    push_started(alloc, built, e, values)?;
+    Ok(())
+}
+
+/// A builder of one number, perhaps from a starting value.
+pub fn total_builder(alloc: Global, values: &mut Values) -> Result<(), Stop>
+    ensures ok { OnOk result (forms.total_builder values.old ≡ Some values.new) }
+    ensures broken { IfErr result (λ stop. stop ≡ Broken → forms.total_builder values.old ≡ None) }
+{
+    if !values.has_expr() {
+        return fresh_builder(alloc, Rule::TotalBuild, values);
+    }
+    let e = values.pop_expr()?;
+    started_builder(alloc, Rule::TotalBuild, e, values)
+}
+
+/// A builder of numbers by places, from a starting value.
+pub fn cells_builder(alloc: Global, values: &mut Values) -> Result<(), Stop>
+    ensures ok { OnOk result (forms.cells_builder values.old ≡ Some values.new) }
+    ensures broken { IfErr result (λ stop. stop ≡ Broken → forms.cells_builder values.old ≡ None) }
+{
+    let e = values.pop_expr()?;
+    started_builder(alloc, Rule::CellsBuild, e, values)
 }

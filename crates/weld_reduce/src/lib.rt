@@ -1,6 +1,7 @@
 //! Programs from derivations: a machine that reduces tokens and what they stand for.
 #![tactic(auto)]
 
+pub mod binding;
 pub mod builders;
 pub mod calls;
 pub mod laws;
@@ -8,6 +9,8 @@ pub mod legs;
 pub mod nodes;
 pub mod numbers;
 pub mod operators;
+pub mod scope;
+pub mod state;
 pub mod stop;
 pub mod types;
 pub mod value;

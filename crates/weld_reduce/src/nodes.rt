@@ -1,13 +1,13 @@
 //! Nodes of trees, of which no type is noted yet.
 ghost use Rattle.std.specs.Prelude.{◌≡◌, IfOk};
 ghost use Rattle.weld_tree.specs.ExprTree as trees;
-ghost use Rattle.weld_tree.specs.ExprTree.{pack_exprs, pack_legs};
+ghost use Rattle.weld_tree.specs.ExprTree.{pack_exprs};
 ghost use Rattle.weld_tree.specs.ExprView.{view_leaf, view_one, view_two, view_three, view_many};
 ghost use Rattle.weld_reduce.specs.Forms.{at};
 
 use std::alloc::{AllocError, Global};
 use weld_tree::{
-    Binder, Expr, Exprs, Form, Known, LeafForm, Legs, ManyForm, OneForm, Place, ThreeForm, TwoForm,
+    Binder, Expr, Exprs, Form, Known, LeafForm, ManyForm, OneForm, Place, ThreeForm, TwoForm,
 };
 
 /// A node without parts.
@@ -107,13 +107,12 @@ pub fn many(
 pub fn let_in(
     alloc: Global,
     place: Place,
-    binder: Box<Binder>,
+    binder: Binder,
     value: Box<Expr>,
     body: Box<Expr>,
 ) -> Result<Box<Expr>, AllocError>
-    ensures { IfOk result (λ node. node.value ≡ trees.let_in (at place) binder.value value.value body.value) }
+    ensures { IfOk result (λ node. node.value ≡ trees.let_in (at place) binder value.value body.value) }
 {
-    let binder = Box::into_inner(binder);
     Ok(Box::new(
         alloc,
         Expr {
@@ -129,12 +128,11 @@ pub fn iterate(
     alloc: Global,
     place: Place,
     state: Box<Expr>,
-    binder: Box<Binder>,
+    binder: Binder,
     body: Box<Expr>,
 ) -> Result<Box<Expr>, AllocError>
-    ensures { IfOk result (λ node. node.value ≡ trees.iterate (at place) state.value binder.value body.value) }
+    ensures { IfOk result (λ node. node.value ≡ trees.iterate (at place) state.value binder body.value) }
 {
-    let binder = Box::into_inner(binder);
     Ok(Box::new(
         alloc,
         Expr {
