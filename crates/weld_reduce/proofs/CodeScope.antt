@@ -14,10 +14,10 @@ newest_of xs i = reverse (map view_seen (take i xs))
 pub newest_seen : (xs : List Seen) (i j : ℕ) (r : Seen) → i ≡ j + 1 → i ≤ length xs → r ≡ get_or xs j r → newest_of xs i ≡ view_seen r ∷ newest_of xs j
 newest_seen xs i j r e h is =
     ap (newest_of xs) e
-      ∙ ap (λ ys. reverse (map view_seen ys)) (take_more xs j r (omega arith))
-      ∙ ap reverse (map-append view_seen (take j xs) (get_or xs j r ∷ []))
-      ∙ reverse-append (map view_seen (take j xs)) (view_seen (get_or xs j r) ∷ [])
-      ∙ ap (λ z. view_seen z ∷ newest_of xs j) (sym is)
+    ∙ ap (λ ys. reverse (map view_seen ys)) (take_more xs j r (omega arith))
+    ∙ ap reverse (map-append view_seen (take j xs) (get_or xs j r ∷ []))
+    ∙ reverse-append (map view_seen (take j xs)) (view_seen (get_or xs j r) ∷ [])
+    ∙ ap (λ z. view_seen z ∷ newest_of xs j) (sym is)
 
 -- the same names are found
 pub record Same (scope rest : List Bound) (bytes : List ℕ) : Type 0 where

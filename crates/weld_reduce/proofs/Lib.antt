@@ -1,1 +1,4 @@
 pub mod CodeScope
+pub mod CodeWays
+pub mod CodeRules
+pub mod CodeRuns

@@ -7,3 +7,4 @@ pub mod Operators
 pub mod Tops
 pub mod StateView
 pub mod Newest
+pub mod Ways
