@@ -12,3 +12,7 @@ pub mod Loops
 pub mod Builders
 pub mod Expressions
 pub mod Programs
+pub mod CodeScope
+pub mod CodeWays
+pub mod CodeRules
+pub mod CodeRuns

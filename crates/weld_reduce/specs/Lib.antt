@@ -3,3 +3,9 @@ pub mod Forms
 pub mod States
 pub mod Runs
 pub mod Programs
+pub mod Views
+pub mod Operators
+pub mod Tops
+pub mod StateView
+pub mod Newest
+pub mod Ways

@@ -1,0 +1,57 @@
+//! The machine.
+ghost use Rattle.std.specs.Prelude.{◌≡◌, ◌∷◌, Some, None, IfOk, OnOk, IfErr, List, drop};
+ghost use Rattle.weld_accept.specs.declared.step.Step.{Step};
+ghost use Rattle.weld_reduce.specs.declared.stop.Stop.TheVariants.{Broken};
+ghost use Rattle.weld_reduce.specs.StateView.{view_state};
+ghost use Rattle.weld_reduce.specs.Runs.{run};
+
+use crate::rules::reduce;
+use crate::shift::shift;
+use crate::state::State;
+use crate::stop::Stop;
+use std::alloc::Global;
+use weld_accept::Step;
+use weld_terminals::Token;
+
+/// One step. It gives the number of the next token.
+fn run_step<'a>(
+    alloc: Global,
+    tokens: &'a [Token],
+    next: usize,
+    step: Step,
+    state: &mut State<'a>,
+) -> Result<usize, Stop>
+    ensures ok { IfOk result (λ behind. (steps : List Step) → run (step ∷ steps) (drop next tokens.now) (view_state state.old) ≡ run steps (drop behind tokens.now) (view_state state.new)) }
+    ensures broken { IfErr result (λ stop. stop ≡ Broken → (steps : List Step) → run (step ∷ steps) (drop next tokens.now) (view_state state.old) ≡ None) }
+{
+    match step {
+        Step::Shift(terminal) => {
+            if next >= tokens.len() {
+                return Err(Stop::Broken);
+            }
+            shift(alloc, terminal, &tokens[next], state)?;
+            Ok(next + 1)
+        }
+        Step::Reduce(rule) => {
+            reduce(alloc, rule, state)?;
+            Ok(next)
+        }
+    }
+}
+
+/// The steps of a derivation over its tokens.
+pub fn run_steps<'a>(
+    alloc: Global,
+    tokens: &'a [Token],
+    steps: &[Step],
+    state: &mut State<'a>,
+) -> Result<(), Stop>
+    ensures ok { OnOk result (run steps.now tokens.now (view_state state.old) ≡ Some (view_state state.new)) }
+    ensures broken { IfErr result (λ stop. stop ≡ Broken → run steps.now tokens.now (view_state state.old) ≡ None) }
+{
+    let mut next = 0;
+    for step in steps {
+        next = run_step(alloc, tokens, next, *step, &mut *state)?;
+    }
+    Ok(())
+}
