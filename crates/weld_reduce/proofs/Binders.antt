@@ -18,7 +18,7 @@ use Rattle.weld_reduce.proofs.Does.{Does, since, shifted, opened, kept, first, r
 use Rattle.weld_reduce.proofs.Nameless.{silent}
 use Rattle.weld_reduce.proofs.Good.{Good}
 use Rattle.weld_reduce.proofs.Tokens.{fixed_told, alone, itself, quiet, at_sign, hushed, closed, ended}
-use Rattle.weld_reduce.proofs.Types.{type_at, spells_type}
+use Rattle.weld_reduce.proofs.TypeForms.{type_at, spells_type}
 use Rattle.weld_reduce.proofs.Levels.{with_next, behind, Spells}
 
 -- the binder of the word, with its name

@@ -17,7 +17,7 @@ use Rattle.weld_reduce.proofs.Levels.{with_next, behind, Spells, or_part, and_pa
 use Rattle.weld_reduce.proofs.Binders.{let_form}
 use Rattle.weld_reduce.proofs.Forms.{number, string, true_word, false_word, a_name, paren, if_form, select_form, look_up_form, key_exists_form, len_form, slice_form, merge_form, finish_form, cast_form, Holds, More, next_none, next_more, make_vec_form, make_struct_form}
 use Rattle.weld_reduce.proofs.Loops.{SpellsLeg, SpellsLegs, SpellsRows, whole_leg, strided_leg, no_legs_more, one_leg_more, single, zipped, for_form, iterate_form}
-use Rattle.weld_reduce.proofs.Builders.{list_build, total_build, total_started, keyed_build, cells_started, groups_build}
+use Rattle.weld_reduce.proofs.Building.{list_build, total_build, total_started, keyed_build, cells_started, groups_build}
 
 mutual
   pub spells_expr : (t : Tree Token) → Good false (item (OfRule r.Expr)) t → Spells r.Expr expr_of t

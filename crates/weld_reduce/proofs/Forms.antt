@@ -19,7 +19,7 @@ use Rattle.weld_reduce.specs.States.{State, push, with_values, names_of}
 use Rattle.weld_reduce.proofs.Does.{Does, since, shifted, plain, opened, kept, first, later, row, no_more, one_more}
 use Rattle.weld_reduce.proofs.Good.{Good}
 use Rattle.weld_reduce.proofs.Tokens.{sign_told, fixed_told, alone, itself, quiet, ended}
-use Rattle.weld_reduce.proofs.Types.{told_int_kind}
+use Rattle.weld_reduce.proofs.TypeForms.{told_int_kind}
 use Rattle.weld_reduce.proofs.Levels.{with_next, behind, Spells, in_range}
 
 -- ---- leaves

@@ -21,7 +21,7 @@ use Rattle.weld_reduce.proofs.Does.{Does, since, opened, kept, first, later, row
 use Rattle.weld_reduce.proofs.Good.{Good, good, numberless}
 use Rattle.weld_reduce.proofs.Nameless.{silent}
 use Rattle.weld_reduce.proofs.Tokens.{sign_told, itself, quiet, hushed, closed, ended}
-use Rattle.weld_reduce.proofs.Types.{type_at, spells_type}
+use Rattle.weld_reduce.proofs.TypeForms.{type_at, spells_type}
 use Rattle.weld_reduce.proofs.Levels.{behind, Spells}
 use Rattle.weld_reduce.proofs.Binders.{a_word}
 use Rattle.weld_reduce.proofs.Expressions.{spells_expr}

@@ -9,3 +9,4 @@ pub mod Tops
 pub mod StateView
 pub mod Newest
 pub mod Ways
+pub mod Ends

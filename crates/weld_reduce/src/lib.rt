@@ -13,6 +13,7 @@ pub mod operators;
 pub mod rules;
 pub mod scope;
 pub mod shift;
+pub mod spelling;
 pub mod state;
 pub mod stop;
 pub mod types;
@@ -20,5 +21,8 @@ pub mod value;
 pub mod values;
 pub mod way;
 pub mod way_of;
+pub mod written;
 
+pub use spelling::{Read, spell};
 pub use stop::Stop;
+pub use written::read_ty;

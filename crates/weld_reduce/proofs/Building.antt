@@ -17,7 +17,7 @@ use Rattle.weld_reduce.specs.States.{push}
 use Rattle.weld_reduce.proofs.Does.{since, opened, kept, first, later, row, absent, present}
 use Rattle.weld_reduce.proofs.Good.{Good}
 use Rattle.weld_reduce.proofs.Tokens.{sign_told, fixed_told, front, alone, itself, quiet, ended}
-use Rattle.weld_reduce.proofs.Types.{told_list, told_groups, merge_ops, type_at, spells_type}
+use Rattle.weld_reduce.proofs.TypeForms.{told_list, told_groups, merge_ops, type_at, spells_type}
 use Rattle.weld_reduce.proofs.Levels.{with_next, behind, Spells}
 
 -- a starting value
