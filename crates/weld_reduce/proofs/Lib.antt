@@ -1,4 +1,3 @@
 pub mod CodeScope
 pub mod CodeWays
 pub mod CodeRules
-pub mod CodeRuns
