@@ -1,9 +1,8 @@
 -- The rules that bind no names.
-use Rattle.std.proofs.Common.{◌≡◌, refl, Option, Some, None, List, option_and_then, ap}
+use Rattle.std.proofs.Common.{◌≡◌, refl, Option, Some, None, option_and_then, ap}
 use Rattle.weld_grammar.specs.declared.rule.Rule.{Rule}
 use Rattle.weld_grammar.specs.declared.rule.Rule.TheVariants as r
 use Rattle.weld_names.specs.Names.{Refused, or_else}
-use Rattle.weld_reduce.specs.Values.{Value}
 use Rattle.weld_reduce.specs.Forms.{reduced}
 use Rattle.weld_reduce.specs.States.{State, reduce, refuse, with_values}
 

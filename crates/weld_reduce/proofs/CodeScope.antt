@@ -1,5 +1,5 @@
 -- Names in scope, from the last that were brought in.
-use Rattle.std.proofs.Common.{◌≡◌, refl, ℕ, ◌+◌, ◌-◌, ◌<◌, ◌≤◌, Bool, true, false, ◌||◌, if◌then◌else◌, List, [], ◌∷◌, ◌++◌, length, take, get_or, map, reverse, ap, sym, subst, ◌∙◌, arith, bytes_eq}
+use Rattle.std.proofs.Common.{◌≡◌, ℕ, ◌+◌, ◌≤◌, true, false, ◌||◌, if◌then◌else◌, List, [], ◌∷◌, length, take, get_or, map, reverse, ap, sym, ◌∙◌, arith, bytes_eq}
 use Rattle.std.proofs.lemmas.List.{take_more, map-append, reverse-append}
 use Rattle.weld_names.specs.Names.{bears}
 use Rattle.weld_spell.specs.ProgramOf.{Bound, number_in}

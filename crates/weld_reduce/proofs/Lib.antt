@@ -15,5 +15,4 @@ pub mod Programs
 pub mod CodeScope
 pub mod CodeWays
 pub mod CodeRules
-pub mod CodeRuns
 pub mod CodeEnds

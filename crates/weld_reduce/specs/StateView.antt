@@ -1,6 +1,4 @@
 -- The program's states seen as plain data.
-use Rattle.std.specs.Prelude.{Option, Some, None, List, [], ◌∷◌}
-use Rattle.weld_spell.specs.ProgramOf.{Bound}
 use Rattle.weld_reduce.specs.States as states
 use Rattle.weld_reduce.specs.States.{Named, bound}
 use Rattle.weld_reduce.specs.declared.state.State.{State}

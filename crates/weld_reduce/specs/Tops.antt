@@ -1,6 +1,6 @@
 -- What lies on top, by a test.
-use Rattle.std.specs.Prelude.{Bool, true, false, List, [], ◌∷◌}
-use Rattle.weld_reduce.specs.Values.{Value, token, expr, exprs, leg, legs, ty, types, op}
+use Rattle.std.specs.Prelude.{Bool, true, false, List, ◌∷◌}
+use Rattle.weld_reduce.specs.Values.{Value, token, expr, legs, ty}
 
 abbrev pub is_token : List Value → Bool
 is_token (token t ∷ vs) = true

@@ -16,8 +16,10 @@ use weld_tree::{Binder, Expr, Form, Known, Legs, Place};
 
 /// `let x = e; f`
 pub fn reduce_let(alloc: Global, state: &mut State) -> Result<(), Stop>
-    ensures ok { OnOk result (states.reduce_let (view_state state.old) ≡ Some (view_state state.new)) }
-    ensures broken { IfErr result (λ stop. stop ≡ Broken → states.reduce_let (view_state state.old) ≡ None) }
+    ensures ok { OnOk result
+        (states.reduce_let (view_state state.old) ≡ Some (view_state state.new)) }
+    ensures broken { IfErr result
+        (λ stop. stop ≡ Broken → states.reduce_let (view_state state.old) ≡ None) }
 {
     let binder = close(state)?;
     let body = state.values.pop_expr()?;
@@ -30,8 +32,10 @@ pub fn reduce_let(alloc: Global, state: &mut State) -> Result<(), Stop>
 
 /// `iterate(e, |x| f)`
 pub fn reduce_iterate(alloc: Global, state: &mut State) -> Result<(), Stop>
-    ensures ok { OnOk result (states.reduce_iterate (view_state state.old) ≡ Some (view_state state.new)) }
-    ensures broken { IfErr result (λ stop. stop ≡ Broken → states.reduce_iterate (view_state state.old) ≡ None) }
+    ensures ok { OnOk result
+        (states.reduce_iterate (view_state state.old) ≡ Some (view_state state.new)) }
+    ensures broken { IfErr result
+        (λ stop. stop ≡ Broken → states.reduce_iterate (view_state state.old) ≡ None) }
 {
     let binder = close(state)?;
     let body = state.values.pop_expr()?;
@@ -59,7 +63,9 @@ fn loop_over(
     binders: RowBinders,
     body: Box<Expr>,
 ) -> Result<Box<Expr>, AllocError>
-    ensures { IfOk result (λ node. node.value ≡ trees.loop (at place) (pack_legs legs) builder.value binders.builder binders.number binders.row body.value) }
+    ensures { IfOk result
+        (λ node. node.value ≡ trees.loop (at place) (pack_legs legs) builder.value
+        binders.builder binders.number binders.row body.value) }
 {
     let RowBinders {
         builder: first,
@@ -78,8 +84,10 @@ fn loop_over(
 
 /// `for(l, e, |x, y, z| f)`
 pub fn reduce_for(alloc: Global, state: &mut State) -> Result<(), Stop>
-    ensures ok { OnOk result (states.reduce_for (view_state state.old) ≡ Some (view_state state.new)) }
-    ensures broken { IfErr result (λ stop. stop ≡ Broken → states.reduce_for (view_state state.old) ≡ None) }
+    ensures ok { OnOk result
+        (states.reduce_for (view_state state.old) ≡ Some (view_state state.new)) }
+    ensures broken { IfErr result
+        (λ stop. stop ≡ Broken → states.reduce_for (view_state state.old) ≡ None) }
 {
     let row = close(state)?;
     let number = close(state)?;

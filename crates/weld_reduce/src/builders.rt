@@ -27,7 +27,8 @@ pub struct Built {
 
 /// `word [ t`
 fn list_built(values: &mut Values) -> Result<Built, Stop>
-    ensures ok { IfOk result (λ b. forms.list_built values.old ≡ Some ((b.place, view_build b.build), values.new)) }
+    ensures ok { IfOk result
+        (λ b. forms.list_built values.old ≡ Some ((b.place, view_build b.build), values.new)) }
     ensures broken { IfErr result (λ stop. forms.list_built values.old ≡ None) }
 {
     let (_, item) = values.pop_type()?;
@@ -41,7 +42,8 @@ fn list_built(values: &mut Values) -> Result<Built, Stop>
 
 /// `word [ t o`
 fn total_built(values: &mut Values) -> Result<Built, Stop>
-    ensures ok { IfOk result (λ b. forms.total_built values.old ≡ Some ((b.place, view_build b.build), values.new)) }
+    ensures ok { IfOk result
+        (λ b. forms.total_built values.old ≡ Some ((b.place, view_build b.build), values.new)) }
     ensures broken { IfErr result (λ stop. forms.total_built values.old ≡ None) }
 {
     let op = values.pop_op()?;
@@ -56,7 +58,8 @@ fn total_built(values: &mut Values) -> Result<Built, Stop>
 
 /// `word [ t u o`
 fn keyed_built(values: &mut Values) -> Result<Built, Stop>
-    ensures ok { IfOk result (λ b. forms.keyed_built values.old ≡ Some ((b.place, view_build b.build), values.new)) }
+    ensures ok { IfOk result
+        (λ b. forms.keyed_built values.old ≡ Some ((b.place, view_build b.build), values.new)) }
     ensures broken { IfErr result (λ stop. forms.keyed_built values.old ≡ None) }
 {
     let op = values.pop_op()?;
@@ -72,7 +75,8 @@ fn keyed_built(values: &mut Values) -> Result<Built, Stop>
 
 /// `word [ t o`
 fn cells_built(values: &mut Values) -> Result<Built, Stop>
-    ensures ok { IfOk result (λ b. forms.cells_built values.old ≡ Some ((b.place, view_build b.build), values.new)) }
+    ensures ok { IfOk result
+        (λ b. forms.cells_built values.old ≡ Some ((b.place, view_build b.build), values.new)) }
     ensures broken { IfErr result (λ stop. forms.cells_built values.old ≡ None) }
 {
     let op = values.pop_op()?;
@@ -87,7 +91,8 @@ fn cells_built(values: &mut Values) -> Result<Built, Stop>
 
 /// `word [ t u`
 fn groups_built(values: &mut Values) -> Result<Built, Stop>
-    ensures ok { IfOk result (λ b. forms.groups_built values.old ≡ Some ((b.place, view_build b.build), values.new)) }
+    ensures ok { IfOk result
+        (λ b. forms.groups_built values.old ≡ Some ((b.place, view_build b.build), values.new)) }
     ensures broken { IfErr result (λ stop. forms.groups_built values.old ≡ None) }
 {
     let (_, value) = values.pop_type()?;
@@ -102,7 +107,8 @@ fn groups_built(values: &mut Values) -> Result<Built, Stop>
 
 /// The builder as a type.
 fn push_type(alloc: Global, built: Built, values: &mut Values) -> Result<(), AllocError>
-    ensures { OnOk result (values.new ≡ ty built.place (build_type (view_build built.build)) ∷ values.old) }
+    ensures { OnOk result
+        (values.new ≡ ty built.place (build_type (view_build built.build)) ∷ values.old) }
 {
     let Built { place, build } = built;
     let ty = Box::new(
@@ -116,7 +122,8 @@ fn push_type(alloc: Global, built: Built, values: &mut Values) -> Result<(), All
 
 /// The builder as an expression.
 fn push_fresh(alloc: Global, built: Built, values: &mut Values) -> Result<(), AllocError>
-    ensures { OnOk result (values.new ≡ expr (trees.leaf (at built.place) (fresh (view_build built.build))) ∷ values.old) }
+    ensures { OnOk result
+        (values.new ≡ expr (trees.leaf (at built.place) (fresh (view_build built.build))) ∷ values.old) }
 {
     let Built { place, build } = built;
     let node = leaf(alloc, place, LeafForm::Builder(build))?;
@@ -130,7 +137,8 @@ fn push_started(
     e: Box<Expr>,
     values: &mut Values,
 ) -> Result<(), AllocError>
-    ensures { OnOk result (values.new ≡ expr (trees.one (at built.place) (started (view_build built.build)) e.value) ∷ values.old) }
+    ensures { OnOk result
+        (values.new ≡ expr (trees.one (at built.place) (started (view_build built.build)) e.value) ∷ values.old) }
 {
     let Built { place, build } = built;
     let node = one(alloc, place, OneForm::Builder(build), e)?;
@@ -139,7 +147,8 @@ fn push_started(
 
 /// The builder at its rule.
 fn built_at(rule: Rule, values: &mut Values) -> Result<Built, Stop>
-    ensures ok { IfOk result (λ b. built_at rule values.old ≡ Some ((b.place, view_build b.build), values.new)) }
+    ensures ok { IfOk result
+        (λ b. built_at rule values.old ≡ Some ((b.place, view_build b.build), values.new)) }
     ensures broken { IfErr result (λ _. built_at rule values.old ≡ None) }
 {
     match rule {
@@ -154,7 +163,8 @@ fn built_at(rule: Rule, values: &mut Values) -> Result<Built, Stop>
 /// The builder of a rule as a type.
 pub fn builder_type(alloc: Global, rule: Rule, values: &mut Values) -> Result<(), Stop>
     ensures ok { OnOk result (forms.as_type (built_at rule values.old) ≡ Some values.new) }
-    ensures broken { IfErr result (λ stop. stop ≡ Broken → forms.as_type (built_at rule values.old) ≡ None) }
+    ensures broken { IfErr result
+        (λ stop. stop ≡ Broken → forms.as_type (built_at rule values.old) ≡ None) }
 {
     let built = built_at(rule, values)?;
     push_type(alloc, built, values)?;
@@ -164,7 +174,8 @@ pub fn builder_type(alloc: Global, rule: Rule, values: &mut Values) -> Result<()
 /// The builder of a rule as an expression.
 pub fn fresh_builder(alloc: Global, rule: Rule, values: &mut Values) -> Result<(), Stop>
     ensures ok { OnOk result (forms.as_fresh (built_at rule values.old) ≡ Some values.new) }
-    ensures broken { IfErr result (λ stop. stop ≡ Broken → forms.as_fresh (built_at rule values.old) ≡ None) }
+    ensures broken { IfErr result
+        (λ stop. stop ≡ Broken → forms.as_fresh (built_at rule values.old) ≡ None) }
 {
     let built = built_at(rule, values)?;
     push_fresh(alloc, built, values)?;
@@ -173,8 +184,10 @@ pub fn fresh_builder(alloc: Global, rule: Rule, values: &mut Values) -> Result<(
 
 /// The builder of a rule from a starting value.
 fn started_builder(alloc: Global, rule: Rule, e: Box<Expr>, values: &mut Values) -> Result<(), Stop>
-    ensures ok { OnOk result (forms.as_started e.value (built_at rule values.old) ≡ Some values.new) }
-    ensures broken { IfErr result (λ stop. stop ≡ Broken → forms.as_started e.value (built_at rule values.old) ≡ None) }
+    ensures ok { OnOk result
+        (forms.as_started e.value (built_at rule values.old) ≡ Some values.new) }
+    ensures broken { IfErr result
+        (λ stop. stop ≡ Broken → forms.as_started e.value (built_at rule values.old) ≡ None) }
 {
     let built = built_at(rule, values)?;
     push_started(alloc, built, e, values)?;

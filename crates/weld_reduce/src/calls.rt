@@ -44,7 +44,8 @@ fn form_of(rule: Rule, token: &Token) -> OneForm
 /// A word or a sign, and one expression.
 pub fn call_one(alloc: Global, rule: Rule, values: &mut Values) -> Result<(), Stop>
     ensures ok { OnOk result (forms.call_one (worded rule) values.old ≡ Some values.new) }
-    ensures broken { IfErr result (λ stop. stop ≡ Broken → forms.call_one (worded rule) values.old ≡ None) }
+    ensures broken { IfErr result
+        (λ stop. stop ≡ Broken → forms.call_one (worded rule) values.old ≡ None) }
 {
     let e = values.pop_expr()?;
     let token = values.pop_token()?;
@@ -56,7 +57,8 @@ pub fn call_one(alloc: Global, rule: Rule, values: &mut Values) -> Result<(), St
 /// A word, and two expressions.
 pub fn call_two(alloc: Global, form: TwoForm, values: &mut Values) -> Result<(), Stop>
     ensures ok { OnOk result (forms.call_two (view_two form) values.old ≡ Some values.new) }
-    ensures broken { IfErr result (λ stop. stop ≡ Broken → forms.call_two (view_two form) values.old ≡ None) }
+    ensures broken { IfErr result
+        (λ stop. stop ≡ Broken → forms.call_two (view_two form) values.old ≡ None) }
 {
     let f = values.pop_expr()?;
     let e = values.pop_expr()?;
@@ -69,7 +71,8 @@ pub fn call_two(alloc: Global, form: TwoForm, values: &mut Values) -> Result<(),
 /// A word, and three expressions.
 pub fn call_three(alloc: Global, form: ThreeForm, values: &mut Values) -> Result<(), Stop>
     ensures ok { OnOk result (forms.call_three (view_three form) values.old ≡ Some values.new) }
-    ensures broken { IfErr result (λ stop. stop ≡ Broken → forms.call_three (view_three form) values.old ≡ None) }
+    ensures broken { IfErr result
+        (λ stop. stop ≡ Broken → forms.call_three (view_three form) values.old ≡ None) }
 {
     let g = values.pop_expr()?;
     let f = values.pop_expr()?;
@@ -95,7 +98,8 @@ pub fn next_expr(alloc: Global, values: &mut Values) -> Result<(), Stop>
 /// A bracket, and the expressions of a list.
 pub fn listed(alloc: Global, form: ManyForm, values: &mut Values) -> Result<(), Stop>
     ensures ok { OnOk result (forms.listed (view_many form) values.old ≡ Some values.new) }
-    ensures broken { IfErr result (λ stop. stop ≡ Broken → forms.listed (view_many form) values.old ≡ None) }
+    ensures broken { IfErr result
+        (λ stop. stop ≡ Broken → forms.listed (view_many form) values.old ≡ None) }
 {
     let es = values.pop_exprs(alloc)?;
     let token = values.pop_token()?;

@@ -21,8 +21,12 @@ fn run_step<'a>(
     step: Step,
     state: &mut State<'a>,
 ) -> Result<usize, Stop>
-    ensures ok { IfOk result (λ behind. (steps : List Step) → run (step ∷ steps) (drop next tokens.now) (view_state state.old) ≡ run steps (drop behind tokens.now) (view_state state.new)) }
-    ensures broken { IfErr result (λ stop. stop ≡ Broken → (steps : List Step) → run (step ∷ steps) (drop next tokens.now) (view_state state.old) ≡ None) }
+    ensures ok { IfOk result
+        (λ behind. (steps : List Step) → run (step ∷ steps) (drop next tokens.now) (view_state state.old)
+        ≡ run steps (drop behind tokens.now) (view_state state.new)) }
+    ensures broken { IfErr result
+        (λ stop. stop ≡ Broken → (steps : List Step) → run (step ∷ steps) (drop next tokens.now) (view_state state.old)
+        ≡ None) }
 {
     match step {
         Step::Shift(terminal) => {
@@ -46,8 +50,10 @@ pub fn run_steps<'a>(
     steps: &[Step],
     state: &mut State<'a>,
 ) -> Result<(), Stop>
-    ensures ok { OnOk result (run steps.now tokens.now (view_state state.old) ≡ Some (view_state state.new)) }
-    ensures broken { IfErr result (λ stop. stop ≡ Broken → run steps.now tokens.now (view_state state.old) ≡ None) }
+    ensures ok { OnOk result
+        (run steps.now tokens.now (view_state state.old) ≡ Some (view_state state.new)) }
+    ensures broken { IfErr result
+        (λ stop. stop ≡ Broken → run steps.now tokens.now (view_state state.old) ≡ None) }
 {
     let mut next = 0;
     for step in steps {

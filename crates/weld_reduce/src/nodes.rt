@@ -51,7 +51,8 @@ pub fn two(
     e: Box<Expr>,
     f: Box<Expr>,
 ) -> Result<Box<Expr>, AllocError>
-    ensures { IfOk result (λ node. node.value ≡ trees.two (at place) (view_two form) e.value f.value) }
+    ensures { IfOk result
+        (λ node. node.value ≡ trees.two (at place) (view_two form) e.value f.value) }
 {
     Ok(Box::new(
         alloc,
@@ -72,7 +73,8 @@ pub fn three(
     f: Box<Expr>,
     g: Box<Expr>,
 ) -> Result<Box<Expr>, AllocError>
-    ensures { IfOk result (λ node. node.value ≡ trees.three (at place) (view_three form) e.value f.value g.value) }
+    ensures { IfOk result
+        (λ node. node.value ≡ trees.three (at place) (view_three form) e.value f.value g.value) }
 {
     Ok(Box::new(
         alloc,
@@ -91,7 +93,8 @@ pub fn many(
     form: ManyForm,
     parts: Exprs,
 ) -> Result<Box<Expr>, AllocError>
-    ensures { IfOk result (λ node. node.value ≡ trees.many (at place) (view_many form) (pack_exprs parts)) }
+    ensures { IfOk result
+        (λ node. node.value ≡ trees.many (at place) (view_many form) (pack_exprs parts)) }
 {
     Ok(Box::new(
         alloc,
@@ -111,7 +114,8 @@ pub fn let_in(
     value: Box<Expr>,
     body: Box<Expr>,
 ) -> Result<Box<Expr>, AllocError>
-    ensures { IfOk result (λ node. node.value ≡ trees.let_in (at place) binder value.value body.value) }
+    ensures { IfOk result
+        (λ node. node.value ≡ trees.let_in (at place) binder value.value body.value) }
 {
     Ok(Box::new(
         alloc,
@@ -131,7 +135,8 @@ pub fn iterate(
     binder: Binder,
     body: Box<Expr>,
 ) -> Result<Box<Expr>, AllocError>
-    ensures { IfOk result (λ node. node.value ≡ trees.iterate (at place) state.value binder body.value) }
+    ensures { IfOk result
+        (λ node. node.value ≡ trees.iterate (at place) state.value binder body.value) }
 {
     Ok(Box::new(
         alloc,

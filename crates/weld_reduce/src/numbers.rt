@@ -30,7 +30,8 @@ fn kind_of(class: Class) -> Kind
 /// A number that is in its range, at the place.
 fn literal(alloc: Global, negative: bool, place: Place, token: &Token) -> Result<Box<Expr>, Stop>
     ensures ok { IfOk result (λ e. forms.literal negative place token.now ≡ Some e.value) }
-    ensures broken { IfErr result (λ stop. stop ≡ Broken → forms.literal negative place token.now ≡ None) }
+    ensures broken { IfErr result
+        (λ stop. stop ≡ Broken → forms.literal negative place token.now ≡ None) }
 {
     match literal_of(token.word.as_slice(), token.class, negative) {
         None => Err(Stop::Broken),
@@ -73,7 +74,7 @@ pub fn minus(alloc: Global, values: &mut Values) -> Result<(), Stop>
 /// The number of a field. A token that was read has at most nine digits; for another there is no room.
 fn field_number(token: &Token) -> Result<u32, Stop>
     ensures ok { IfOk result (λ n. n ≡ field_value token.now.word) }
-    ensures broken { IfErr result (λ stop. stop ≡ Memory) }
+    ensures memory { IfErr result (λ stop. stop ≡ Memory) }
 {
     match class_of(token.word.as_slice()) {
         Some(Class::Field) => Ok(field_of(token.word.as_slice())),

@@ -15,6 +15,7 @@ use weld_grammar::Rule;
 use weld_terminals::{Class, Symbol, Token};
 use weld_tree::TwoForm;
 
+/// The operator of an equality's token.
 fn equality_op(class: Class) -> BinOp
     ensures { result ≡ forms.equality_op class }
 {
@@ -24,6 +25,7 @@ fn equality_op(class: Class) -> BinOp
     }
 }
 
+/// The operator of a relation's token.
 fn relation_op(class: Class) -> BinOp
     ensures { result ≡ forms.relation_op class }
 {
@@ -35,6 +37,7 @@ fn relation_op(class: Class) -> BinOp
     }
 }
 
+/// The operator of a sum's token.
 fn sum_op(class: Class) -> BinOp
     ensures { result ≡ forms.sum_op class }
 {
@@ -44,6 +47,7 @@ fn sum_op(class: Class) -> BinOp
     }
 }
 
+/// The operator of a product's token.
 fn product_op(class: Class) -> BinOp
     ensures { result ≡ forms.product_op class }
 {
@@ -71,7 +75,8 @@ fn form_of(rule: Rule, token: &Token) -> TwoForm
 /// `e o f`
 pub fn between(alloc: Global, rule: Rule, values: &mut Values) -> Result<(), Stop>
     ensures ok { OnOk result (forms.between (line rule) values.old ≡ Some values.new) }
-    ensures broken { IfErr result (λ stop. stop ≡ Broken → forms.between (line rule) values.old ≡ None) }
+    ensures broken { IfErr result
+        (λ stop. stop ≡ Broken → forms.between (line rule) values.old ≡ None) }
 {
     let f = values.pop_expr()?;
     let token = values.pop_token()?;

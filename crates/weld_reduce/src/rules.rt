@@ -76,8 +76,10 @@ fn reduce_stack(alloc: Global, rule: Rule, values: &mut Values) -> Result<(), St
 /// The rule ends.
 #[tactic(auto, using(crate::proofs::CodeRules::nameless))]
 pub fn reduce(alloc: Global, rule: Rule, state: &mut State) -> Result<(), Stop>
-    ensures ok { OnOk result (states.reduce rule (view_state state.old) ≡ Some (view_state state.new)) }
-    ensures broken { IfErr result (λ stop. stop ≡ Broken → states.reduce rule (view_state state.old) ≡ None) }
+    ensures ok { OnOk result
+        (states.reduce rule (view_state state.old) ≡ Some (view_state state.new)) }
+    ensures broken { IfErr result
+        (λ stop. stop ≡ Broken → states.reduce rule (view_state state.old) ≡ None) }
 {
     match rule {
         Rule::Let => reduce_let(alloc, state),

@@ -84,14 +84,16 @@ impl<'a> Open<'a> {
 
     /// Closes the binder that was opened last.
     pub fn pop(&mut self) -> Option<Named<'a>>
-        ensures { MatchOption result (self.old ≡ []) (λ named. self.old ≡ view_named named ∷ self.new) }
+        ensures { MatchOption result
+            (self.old ≡ []) (λ named. self.old ≡ view_named named ∷ self.new) }
     {
         self.items.pop()
     }
 
     /// The binder that was opened last, as it is seen.
     pub fn newest(&self) -> Option<Seen<'a>>
-        ensures { MatchOption result (newest self.now ≡ None) (λ seen. newest self.now ≡ Some (view_seen seen)) }
+        ensures { MatchOption result
+            (newest self.now ≡ None) (λ seen. newest self.now ≡ Some (view_seen seen)) }
     {
         match self.items.last() {
             None => None,
@@ -139,9 +141,10 @@ impl<'a> Scope<'a> {
         Ok(())
     }
 
-    /// The newest name isn't seen any more. Whether there was one.
+    /// The newest name isn't seen any more.
     pub fn pop(&mut self) -> Option<Seen<'a>>
-        ensures { MatchOption result (self.old ≡ []) (λ seen. self.old ≡ view_seen seen ∷ self.new) }
+        ensures { MatchOption result
+            (self.old ≡ []) (λ seen. self.old ≡ view_seen seen ∷ self.new) }
     {
         self.items.pop()
     }

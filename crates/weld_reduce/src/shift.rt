@@ -24,7 +24,8 @@ use weld_tree::{Code, LeafForm, Legs, Place, Sym};
 
 /// The token itself is kept.
 fn keep<'a>(token: &'a Token, state: &mut State<'a>) -> Result<(), AllocError>
-    ensures { OnOk result (view_state state.new ≡ states.push (token_value token.now) (view_state state.old)) }
+    ensures { OnOk result
+        (view_state state.new ≡ states.push (token_value token.now) (view_state state.old)) }
 {
     state.values.push(Value::Token(token))
 }
@@ -36,7 +37,8 @@ fn push_leaf(
     form: LeafForm,
     state: &mut State,
 ) -> Result<(), AllocError>
-    ensures { OnOk result (view_state state.new ≡ states.push (expr (leaf_at (at place) (view_leaf form))) (view_state state.old)) }
+    ensures { OnOk result
+        (view_state state.new ≡ states.push (expr (leaf_at (at place) (view_leaf form))) (view_state state.old)) }
 {
     let node = leaf(alloc, place, form)?;
     state.values.push(Value::Expr(node))
@@ -45,7 +47,9 @@ fn push_leaf(
 /// A word in the place of a name, which is refused where it is reserved.
 #[tactic(auto, using(crate::proofs::CodeRules::refuse_none))]
 fn shift_word<'a>(token: &'a Token, state: &mut State<'a>) -> Result<(), AllocError>
-    ensures { OnOk result (states.shift terminals.Word token.now (view_state state.old) ≡ Some (view_state state.new)) }
+    ensures { OnOk result
+        (states.shift terminals.Word token.now (view_state state.old)
+        ≡ Some (view_state state.new)) }
 {
     keep(token, &mut *state)?;
     match token.class {
@@ -72,7 +76,9 @@ fn number_of(token: &Token, state: &mut State) -> u32
 
 /// A name.
 fn shift_name(alloc: Global, token: &Token, state: &mut State) -> Result<(), AllocError>
-    ensures { OnOk result (states.shift terminals.Name token.now (view_state state.old) ≡ Some (view_state state.new)) }
+    ensures { OnOk result
+        (states.shift terminals.Name token.now (view_state state.old)
+        ≡ Some (view_state state.new)) }
 {
     let number = number_of(token, state);
     push_leaf(alloc, token.place, LeafForm::Name(Sym(number)), state)
@@ -80,7 +86,9 @@ fn shift_name(alloc: Global, token: &Token, state: &mut State) -> Result<(), All
 
 /// A string.
 fn shift_chars(alloc: Global, token: &Token, state: &mut State) -> Result<(), AllocError>
-    ensures { OnOk result (states.shift terminals.Chars token.now (view_state state.old) ≡ Some (view_state state.new)) }
+    ensures { OnOk result
+        (states.shift terminals.Chars token.now (view_state state.old)
+        ≡ Some (view_state state.new)) }
 {
     let text = chars_of(alloc, token.word.as_slice())?;
     push_leaf(alloc, token.place, LeafForm::Chars(text), state)
@@ -93,7 +101,9 @@ fn shift_fixed<'a>(
     token: &'a Token,
     state: &mut State<'a>,
 ) -> Result<(), AllocError>
-    ensures { OnOk result (states.shift (terminals.Fixed word) token.now (view_state state.old) ≡ Some (view_state state.new)) }
+    ensures { OnOk result
+        (states.shift (terminals.Fixed word) token.now (view_state state.old)
+        ≡ Some (view_state state.new)) }
 {
     match word {
         Reserved::True => push_leaf(alloc, token.place, LeafForm::Truth(true), state),
@@ -105,8 +115,12 @@ fn shift_fixed<'a>(
 
 /// A symbol; those that say no more than their rule aren't kept.
 fn shift_sign<'a>(symbol: Symbol, token: &'a Token, state: &mut State<'a>) -> Result<(), Stop>
-    ensures ok { OnOk result (states.shift (terminals.Sign symbol) token.now (view_state state.old) ≡ Some (view_state state.new)) }
-    ensures broken { IfErr result (λ stop. stop ≡ Broken → states.shift (terminals.Sign symbol) token.now (view_state state.old) ≡ None) }
+    ensures ok { OnOk result
+        (states.shift (terminals.Sign symbol) token.now (view_state state.old)
+        ≡ Some (view_state state.new)) }
+    ensures broken { IfErr result
+        (λ stop. stop ≡ Broken → states.shift (terminals.Sign symbol) token.now (view_state state.old)
+        ≡ None) }
 {
     match symbol {
         Symbol::LeftParen => Ok(()),
@@ -132,8 +146,10 @@ pub fn shift<'a>(
     token: &'a Token,
     state: &mut State<'a>,
 ) -> Result<(), Stop>
-    ensures ok { OnOk result (states.shift terminal token.now (view_state state.old) ≡ Some (view_state state.new)) }
-    ensures broken { IfErr result (λ stop. stop ≡ Broken → states.shift terminal token.now (view_state state.old) ≡ None) }
+    ensures ok { OnOk result
+        (states.shift terminal token.now (view_state state.old) ≡ Some (view_state state.new)) }
+    ensures broken { IfErr result
+        (λ stop. stop ≡ Broken → states.shift terminal token.now (view_state state.old) ≡ None) }
 {
     match terminal {
         Terminal::Sign(symbol) => return shift_sign(symbol, token, state),

@@ -62,7 +62,8 @@ fn note(values: &mut Values) -> Result<(Option<Ty>, Place), Stop>
 
 /// The binder of the word on top, perhaps with a type, of this number.
 fn named<'a>(number: u32, values: &mut Values<'a>) -> Result<Named<'a>, Stop>
-    ensures ok { IfOk result (λ b. states.named number values.old ≡ Some (view_named b, values.new)) }
+    ensures ok { IfOk result
+        (λ b. states.named number values.old ≡ Some (view_named b, values.new)) }
     ensures broken { IfErr result (λ stop. stop ≡ Broken → states.named number values.old ≡ None) }
 {
     let (note, note_place) = note(values)?;
@@ -90,8 +91,10 @@ fn number_behind(number: u32) -> Result<u32, Stop>
 
 /// The binder of a `let`: it isn't seen in its value.
 pub fn name_let(state: &mut State) -> Result<(), Stop>
-    ensures ok { OnOk result (states.name_let (view_state state.old) ≡ Some (view_state state.new)) }
-    ensures broken { IfErr result (λ stop. stop ≡ Broken → states.name_let (view_state state.old) ≡ None) }
+    ensures ok { OnOk result
+        (states.name_let (view_state state.old) ≡ Some (view_state state.new)) }
+    ensures broken { IfErr result
+        (λ stop. stop ≡ Broken → states.name_let (view_state state.old) ≡ None) }
 {
     let next = number_behind(state.next)?;
     let named = named(state.next, &mut state.values)?;
@@ -103,7 +106,8 @@ pub fn name_let(state: &mut State) -> Result<(), Stop>
 /// In the body of the `let` it is seen.
 pub fn see_let(state: &mut State) -> Result<(), Stop>
     ensures ok { OnOk result (states.see_let (view_state state.old) ≡ Some (view_state state.new)) }
-    ensures broken { IfErr result (λ stop. stop ≡ Broken → states.see_let (view_state state.old) ≡ None) }
+    ensures broken { IfErr result
+        (λ stop. stop ≡ Broken → states.see_let (view_state state.old) ≡ None) }
 {
     match state.binders.newest() {
         None => Err(Stop::Broken),
@@ -117,7 +121,8 @@ pub fn see_let(state: &mut State) -> Result<(), Stop>
 /// The binder of a lambda.
 pub fn bind(state: &mut State) -> Result<(), Stop>
     ensures ok { OnOk result (states.bind (view_state state.old) ≡ Some (view_state state.new)) }
-    ensures broken { IfErr result (λ stop. stop ≡ Broken → states.bind (view_state state.old) ≡ None) }
+    ensures broken { IfErr result
+        (λ stop. stop ≡ Broken → states.bind (view_state state.old) ≡ None) }
 {
     let next = number_behind(state.next)?;
     let named = named(state.next, &mut state.values)?;
@@ -133,7 +138,8 @@ pub fn bind(state: &mut State) -> Result<(), Stop>
 /// A parameter of the program.
 pub fn param(state: &mut State) -> Result<(), Stop>
     ensures ok { OnOk result (states.param (view_state state.old) ≡ Some (view_state state.new)) }
-    ensures broken { IfErr result (λ stop. stop ≡ Broken → states.param (view_state state.old) ≡ None) }
+    ensures broken { IfErr result
+        (λ stop. stop ≡ Broken → states.param (view_state state.old) ≡ None) }
 {
     let next = number_behind(state.next)?;
     let named = named(state.next, &mut state.values)?;
@@ -148,7 +154,8 @@ pub fn param(state: &mut State) -> Result<(), Stop>
 
 /// The binder that was opened last, which is closed, and isn't seen any more.
 pub fn close(state: &mut State) -> Result<Binder, Stop>
-    ensures ok { IfOk result (λ b. states.close (view_state state.old) ≡ Some (b, view_state state.new)) }
+    ensures ok { IfOk result
+        (λ b. states.close (view_state state.old) ≡ Some (b, view_state state.new)) }
     ensures broken { IfErr result (λ stop. states.close (view_state state.old) ≡ None) }
 {
     let Some(named) = state.binders.pop() else {

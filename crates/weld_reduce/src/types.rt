@@ -26,6 +26,7 @@ fn merge_op(class: Class) -> MergeOp
     }
 }
 
+/// The type of the values of a kind.
 fn scalar(alloc: Global, kind: Kind) -> Result<Box<Ty>, AllocError>
     ensures { IfOk result (λ ty. ty.value ≡ trees.scalar kind) }
 {
@@ -37,6 +38,7 @@ fn scalar(alloc: Global, kind: Kind) -> Result<Box<Ty>, AllocError>
     )?)
 }
 
+/// The type of vectors of these items.
 fn vec(alloc: Global, item: Box<Ty>) -> Result<Box<Ty>, AllocError>
     ensures { IfOk result (λ ty. ty.value ≡ trees.vec item.value) }
 {
@@ -48,6 +50,7 @@ fn vec(alloc: Global, item: Box<Ty>) -> Result<Box<Ty>, AllocError>
     )?)
 }
 
+/// The type of dictionaries of these keys and values.
 fn dict(alloc: Global, key: Box<Ty>, value: Box<Ty>) -> Result<Box<Ty>, AllocError>
     ensures { IfOk result (λ ty. ty.value ≡ trees.dict key.value value.value) }
 {
@@ -59,6 +62,7 @@ fn dict(alloc: Global, key: Box<Ty>, value: Box<Ty>) -> Result<Box<Ty>, AllocErr
     )?)
 }
 
+/// The type of structs of these fields.
 fn structure(alloc: Global, fields: Tys) -> Result<Box<Ty>, AllocError>
     ensures { IfOk result (λ ty. ty.value ≡ trees.struct (pack fields)) }
 {

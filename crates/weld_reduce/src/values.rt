@@ -57,7 +57,8 @@ impl<'a> Values<'a> {
 
     /// Takes the value on top away.
     pub fn pop(&mut self) -> Option<Value<'a>>
-        ensures { MatchOption result (self.old ≡ []) (λ value. self.old ≡ view_value value ∷ self.new) }
+        ensures { MatchOption result
+            (self.old ≡ []) (λ value. self.old ≡ view_value value ∷ self.new) }
     {
         self.items.pop()
     }

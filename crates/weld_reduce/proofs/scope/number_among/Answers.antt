@@ -1,10 +1,10 @@
-use Rattle.std.proofs.Common.{◌≡◌, refl, ℕ, ◌+◌, ◌-◌, ◌*◌, ◌<◌, ◌≤◌, Bool, true, false, List, [], ◌∷◌, length, take, map, reverse, ap, sym, ◌∙◌, arith, bytes_eq, rules}
+use Rattle.std.proofs.Common.{◌-◌, length, map, reverse, ap, sym, ◌∙◌, arith, bytes_eq}
 use Rattle.std.proofs.lemmas.List.{take_all}
 use Rattle.weld_names.specs.Names.{bears}
 use Rattle.weld_spell.specs.ProgramOf.{number_in}
 use Rattle.weld_reduce.specs.Views.{view_seen}
 use Rattle.weld_reduce.specs.States.{names_of}
-use Rattle.weld_reduce.proofs.CodeScope.{Same, newest_of, newest_seen, same_shorter, number_here, borne_here}
+use Rattle.weld_reduce.proofs.CodeScope.{newest_seen, same_shorter, number_here, borne_here}
 use Rattle.weld_reduce.proofs.scope.number_among.Goals as goal
 
 pub loop-i-init : goal.loop-i-init
