@@ -1,3 +1,5 @@
 pub mod Terminals
 pub mod Passing
 pub mod Parameters
+pub mod Scans
+pub mod Fields
