@@ -3,3 +3,6 @@ pub mod Passing
 pub mod Parameters
 pub mod Scans
 pub mod Fields
+pub mod Sizes
+pub mod Types
+pub mod Written
