@@ -1,5 +1,5 @@
 -- The field or leg that is one too many, by the tokens and by their tree.
-use Rattle.std.proofs.Common.{◌≡◌, refl, ℕ, zero, suc, ◌+◌, ◌<◌, ◌-◌, ltb, ◌⊎◌, inl, inr, Bool, true, false, ◌&&◌, ◌||◌, cond, eqb, Option, Some, None, List, [], ◌∷◌, ◌++◌, ap, sym, subst, ◌∙◌, append_assoc, append-nil, arith}
+use Rattle.std.proofs.Common.{◌≡◌, refl, ℕ, zero, suc, ◌<◌, ltb, ◌⊎◌, inl, inr, Bool, true, false, ◌&&◌, ◌||◌, cond, eqb, Option, Some, None, List, [], ◌∷◌, ◌++◌, ap, sym, subst, ◌∙◌, append_assoc, arith}
 use Rattle.std.proofs.lemmas.Bool.{false≢true, ltb-true, lt-ltb, eqb-true, eq-eqb, and_parts, and_from, or_left, or_right, cases_lt}
 use Rattle.std.proofs.Math.Dec.{eqb-suc-zero}
 use Rattle.weld_tree.specs.declared.place.Place.{Place}
@@ -20,14 +20,14 @@ use Rattle.weld_grammar.specs.Grammar.{Part, item, all_of, one_of, body, is_of}
 use Rattle.weld_grammar.specs.Derivation.{Tree, leaf, node, empty, pair, here, there, yield, IsOf}
 use Rattle.weld_spell.specs.Seen.{seen}
 use Rattle.weld_limits.specs.Depth.{earlier, is_before}
-use Rattle.weld_limits.specs.Lists.{is_brace, is_zip, is_paren, is_comma, is_bar, behind_commas, first_place, legs_behind, first_field_too_many, field_too_many}
+use Rattle.weld_limits.specs.Lists.{is_brace, is_zip, is_paren, behind_commas, first_place, legs_behind, first_field_too_many, field_too_many}
 use Rattle.weld_limits.specs.Lists.{item_too_many as at_tokens}
 use Rattle.weld_tokens.specs.TokenLimits.{is_opening, is_closing}
 use Rattle.weld_measures.specs.Measures.{place_in, further_behind, item_too_many, items_too_many}
 use Rattle.weld_measures.specs.Measures.{field_too_many as by_its_tree}
 use Rattle.weld_measures.proofs.Terminals.{of_sign, of_fixed, rule_begun}
 use Rattle.weld_measures.proofs.Passing.{quiet, passed, at_comma, at_end, at_none}
-use Rattle.weld_measures.proofs.Scans.{Search, by_tokens, by_tree, Unopened, Sane, Flow, Tail, SecondTail, Specials, headed, search-found, fits, ends_word}
+use Rattle.weld_measures.proofs.Scans.{Search, by_tokens, by_tree, Unopened, Sane, Specials, headed, search-found, fits, ends_word}
 
 -- ---- the earlier of two places
 
@@ -63,14 +63,6 @@ before_both p q k f g =
       | inl e ↦ elim g as (λ _. Before p k) [ inl d ↦ inl (omega arith) | inr d ↦ let m = d.0 in inl (omega arith) ]
       | inr e ↦ let n = e.0 in let o = e.1 in elim g as (λ _. Before p k) [ inl d ↦ inl (omega arith) | inr d ↦ let m = d.0 in let x = d.1 in inr (omega arith, omega arith) ]
     ]
-
--- a place is before another, or not
-before_or_not : (p q : Place) → Before p q ⊎ (Before p q → ⊥)
-before_or_not p q = cases (is_before p q) refl
-  where
-    cases : (b : Bool) → is_before p q ≡ b → Before p q ⊎ (Before p q → ⊥)
-    cases true e = inl (before-true p q e)
-    cases false e = inr (λ h. false≢true (sym e ∙ true-before p q h))
 
 -- what is before a place is before each that isn't before that
 before_apart : (p q k : Place) → Before k p → (Before q p → ⊥) → Before k q

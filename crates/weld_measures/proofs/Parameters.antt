@@ -1,20 +1,17 @@
 -- The parameter that is one too many, by the tokens and by the program.
-use Rattle.std.proofs.Common.{◌≡◌, refl, ℕ, zero, suc, ◌+◌, ◌-◌, Bool, true, false, ◌&&◌, cond, eqb, Option, Some, None, List, [], ◌∷◌, ◌++◌, ap, sym, subst, ◌∙◌, append_assoc, arith}
+use Rattle.std.proofs.Common.{◌≡◌, refl, ℕ, zero, suc, ◌+◌, Bool, true, false, cond, Some, None, List, [], ◌∷◌, ◌++◌, ap, sym, ◌∙◌, append_assoc}
 use Rattle.std.proofs.Math.Dec.{eqb-suc-zero}
-use Rattle.weld_tree.specs.declared.place.Place.{Place}
 use Rattle.weld_tree.specs.declared.binder.Binder.{Binder}
 use Rattle.weld_terminals.specs.declared.symbol.Symbol.TheVariants as s
-use Rattle.weld_terminals.specs.declared.class.Class.{Class}
 use Rattle.weld_terminals.specs.declared.class.Class.TheVariants as classes
 use Rattle.weld_terminals.specs.declared.token.Token.{Token}
-use Rattle.weld_grammar.specs.declared.terminal.Terminal.TheVariants.{Sign}
 use Rattle.weld_grammar.specs.declared.rule.Rule.TheVariants as r
-use Rattle.weld_grammar.specs.declared.item.Item.TheVariants.{One, Part as OfRule, Repeated}
-use Rattle.weld_grammar.specs.Grammar.{item, is_of}
+use Rattle.weld_grammar.specs.declared.item.Item.TheVariants.{Part as OfRule, Repeated}
+use Rattle.weld_grammar.specs.Grammar.{item}
 use Rattle.weld_grammar.specs.Derivation.{Tree, leaf, node, empty, pair, here, there, yield, IsOf}
 use Rattle.weld_spell.specs.Seen.{seen}
 use Rattle.weld_spell.specs.ProgramOf.{param_of, next_params_of, program_of}
-use Rattle.weld_limits.specs.Lists.{is_bar, is_comma, behind_commas, first_place, first_parameter_too_many}
+use Rattle.weld_limits.specs.Lists.{is_bar, behind_commas, first_place, first_parameter_too_many}
 use Rattle.weld_measures.specs.Measures.{binder_behind, parameter_too_many}
 use Rattle.weld_measures.proofs.Terminals.{of_sign}
 use Rattle.weld_measures.proofs.Passing.{passed, at_comma, at_end, at_none}

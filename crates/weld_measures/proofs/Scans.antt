@@ -1,9 +1,8 @@
 -- A place that is looked for token by token, by what stands at each, and by the tree, rule by rule: both find the same.
-use Rattle.std.proofs.Common.{◌≡◌, refl, Bool, true, false, not, ◌&&◌, ◌||◌, Option, Some, None, List, [], ◌∷◌, ◌++◌, ap, sym, subst, ◌∙◌, append_assoc, append-nil}
+use Rattle.std.proofs.Common.{◌≡◌, refl, Bool, true, false, not, ◌&&◌, ◌||◌, Option, None, List, [], ◌∷◌, ◌++◌, ap, sym, subst, ◌∙◌, append_assoc, append-nil}
 use Rattle.std.proofs.lemmas.Bool.{false≢true, not-true, and_parts}
 use Rattle.weld_tree.specs.declared.place.Place.{Place}
 use Rattle.weld_terminals.specs.declared.symbol.Symbol.TheVariants as s
-use Rattle.weld_terminals.specs.declared.class.Class.{Class}
 use Rattle.weld_terminals.specs.declared.class.Class.TheVariants as classes
 use Rattle.weld_terminals.specs.declared.token.Token.{Token}
 use Rattle.weld_grammar.specs.declared.terminal.Terminal.{Terminal}
@@ -173,9 +172,6 @@ at_rule l h sp q t shut k e f first second rest g =
     cases false w v m =
         f (h.table q w v) rest m
         ∙ ap (λ z. l.join z (by_tokens l rest)) (sym (h.left (by_tree l (body q) t)) ∙ ap (λ z. l.join z (by_tree l (body q) t)) (sym (h.own_none q t w)))
-
-no_more : (l : Search) (q : Rule) (shut : Bool) → fits_item l shut (Repeated q) ≡ true → fits_item l false (OfRule q) ≡ true
-no_more l q shut e = e
 
 mutual
   flow : (l : Search) → Sane l → Specials l → (p : Part) (t : Tree Token) (shut : Bool) → IsOf p (seen t) → fits l shut p ≡ true → Flow l shut p t

@@ -1,9 +1,9 @@
 -- Whether a written type is too large, by its tokens and by what they spell.
-use Rattle.std.proofs.Common.{◌≡◌, refl, ℕ, zero, suc, ◌+◌, ◌<◌, ◌≤◌, ◌-◌, max, ◌⊎◌, inl, inr, Bool, true, false, not, ◌&&◌, ◌||◌, cond, eqb, leb, List, [], ◌∷◌, ◌++◌, ap, sym, subst, ◌∙◌, append_assoc, add-one, add-zero, zero-add, arith}
-use Rattle.std.proofs.lemmas.Bool.{false≢true, leb-true, leb-false, le-leb, and_parts, and_from, or_left, or_right, or_cases, cases_lt}
+use Rattle.std.proofs.Common.{◌≡◌, refl, ℕ, ◌+◌, ◌<◌, ◌≤◌, ◌-◌, max, ◌⊎◌, inl, inr, Bool, true, false, not, ◌&&◌, ◌||◌, cond, eqb, leb, List, [], ◌∷◌, ◌++◌, ap, sym, subst, ◌∙◌, append_assoc, add-one, add-zero, zero-add, arith}
+use Rattle.std.proofs.lemmas.Bool.{false≢true, leb-true, leb-false, le-leb, or_left, or_right, cases_lt}
 use Rattle.std.proofs.Math.Dec.{eqb-suc-zero}
 use Rattle.std.proofs.Math.Nat.{max-zero}
-use Rattle.weld_tree.specs.TypeTree.{TypeTree, TypeTrees, BuildTree, scalar, vec, struct, dict, build, list, total, keyed, cells, groups, no_types, more_types, type_nodes, type_depth, types_nodes, types_depth}
+use Rattle.weld_tree.specs.TypeTree.{TypeTree, TypeTrees, scalar, vec, struct, dict, build, no_types, more_types, type_nodes, type_depth, types_nodes, types_depth}
 use Rattle.weld_terminals.specs.declared.symbol.Symbol.TheVariants as s
 use Rattle.weld_terminals.specs.declared.reserved.Reserved.{Reserved}
 use Rattle.weld_terminals.specs.declared.reserved.Reserved.TheVariants as w
@@ -88,13 +88,13 @@ one_node n b = same_truth (bad n b) (over n b 1 1)
 around : (n b nodes depth : ℕ) → 1 ≤ nodes → 1 ≤ depth → (bad n b || over (n + 1) (b + 1) nodes depth) ≡ over n b (1 + nodes) (1 + depth)
 around n b nodes depth p q = same_truth (bad n b || over (n + 1) (b + 1) nodes depth) (over n b (1 + nodes) (1 + depth))
     (λ e. true-over n b (1 + nodes) (1 + depth)
-        (elim (or-true (bad n b) (over (n + 1) (b + 1) nodes depth) e) as (λ _. Over n b (1 + nodes) (1 + depth)) [
-          | inl f ↦ elim (bad-true n b f) as (λ _. Over n b (1 + nodes) (1 + depth)) [ inl g ↦ inl (omega arith) | inr g ↦ inr (omega arith) ]
-          | inr f ↦ elim (over-true (n + 1) (b + 1) nodes depth f) as (λ _. Over n b (1 + nodes) (1 + depth)) [ inl g ↦ inl (omega arith) | inr g ↦ inr (omega arith) ]
-        ]))
+    (elim (or-true (bad n b) (over (n + 1) (b + 1) nodes depth) e) as (λ _. Over n b (1 + nodes) (1 + depth)) [
+      | inl f ↦ elim (bad-true n b f) as (λ _. Over n b (1 + nodes) (1 + depth)) [ inl g ↦ inl (omega arith) | inr g ↦ inr (omega arith) ]
+      | inr f ↦ elim (over-true (n + 1) (b + 1) nodes depth f) as (λ _. Over n b (1 + nodes) (1 + depth)) [ inl g ↦ inl (omega arith) | inr g ↦ inr (omega arith) ]
+    ]))
     (λ e. or_right (bad n b) (over (n + 1) (b + 1) nodes depth)
-        (true-over (n + 1) (b + 1) nodes depth
-            (elim (over-true n b (1 + nodes) (1 + depth) e) as (λ _. Over (n + 1) (b + 1) nodes depth) [ inl g ↦ inl (omega arith) | inr g ↦ inr (omega arith) ])))
+    (true-over (n + 1) (b + 1) nodes depth
+    (elim (over-true n b (1 + nodes) (1 + depth) e) as (λ _. Over (n + 1) (b + 1) nodes depth) [ inl g ↦ inl (omega arith) | inr g ↦ inr (omega arith) ])))
 
 -- one of two numbers is the greater
 greater : (d e : ℕ) → ((max d e ≡ d) × (e ≤ d)) ⊎ ((max d e ≡ e) × (d ≤ e))
@@ -108,22 +108,22 @@ greater d e =
 both : (n b nodes depth more deeper : ℕ) → (over n b nodes depth || over (n + nodes) b more deeper) ≡ over n b (nodes + more) (max depth deeper)
 both n b nodes depth more deeper = same_truth (over n b nodes depth || over (n + nodes) b more deeper) (over n b (nodes + more) (max depth deeper))
     (λ e. true-over n b (nodes + more) (max depth deeper)
-        (elim (greater depth deeper) as (λ _. Over n b (nodes + more) (max depth deeper)) [
-          | inl m ↦ let k = m.0 in let l = m.1 in elim (or-true (over n b nodes depth) (over (n + nodes) b more deeper) e) as (λ _. Over n b (nodes + more) (max depth deeper)) [
-              | inl f ↦ elim (over-true n b nodes depth f) as (λ _. Over n b (nodes + more) (max depth deeper)) [ inl g ↦ inl (omega arith) | inr g ↦ inr (omega arith) ]
-              | inr f ↦ elim (over-true (n + nodes) b more deeper f) as (λ _. Over n b (nodes + more) (max depth deeper)) [ inl g ↦ inl (omega arith) | inr g ↦ inr (omega arith) ]
-            ]
-          | inr m ↦ let k = m.0 in let l = m.1 in elim (or-true (over n b nodes depth) (over (n + nodes) b more deeper) e) as (λ _. Over n b (nodes + more) (max depth deeper)) [
-              | inl f ↦ elim (over-true n b nodes depth f) as (λ _. Over n b (nodes + more) (max depth deeper)) [ inl g ↦ inl (omega arith) | inr g ↦ inr (omega arith) ]
-              | inr f ↦ elim (over-true (n + nodes) b more deeper f) as (λ _. Over n b (nodes + more) (max depth deeper)) [ inl g ↦ inl (omega arith) | inr g ↦ inr (omega arith) ]
-            ]
-        ]))
+    (elim (greater depth deeper) as (λ _. Over n b (nodes + more) (max depth deeper)) [
+      | inl m ↦ let k = m.0 in let l = m.1 in elim (or-true (over n b nodes depth) (over (n + nodes) b more deeper) e) as (λ _. Over n b (nodes + more) (max depth deeper)) [
+        | inl f ↦ elim (over-true n b nodes depth f) as (λ _. Over n b (nodes + more) (max depth deeper)) [ inl g ↦ inl (omega arith) | inr g ↦ inr (omega arith) ]
+        | inr f ↦ elim (over-true (n + nodes) b more deeper f) as (λ _. Over n b (nodes + more) (max depth deeper)) [ inl g ↦ inl (omega arith) | inr g ↦ inr (omega arith) ]
+      ]
+      | inr m ↦ let k = m.0 in let l = m.1 in elim (or-true (over n b nodes depth) (over (n + nodes) b more deeper) e) as (λ _. Over n b (nodes + more) (max depth deeper)) [
+        | inl f ↦ elim (over-true n b nodes depth f) as (λ _. Over n b (nodes + more) (max depth deeper)) [ inl g ↦ inl (omega arith) | inr g ↦ inr (omega arith) ]
+        | inr f ↦ elim (over-true (n + nodes) b more deeper f) as (λ _. Over n b (nodes + more) (max depth deeper)) [ inl g ↦ inl (omega arith) | inr g ↦ inr (omega arith) ]
+      ]
+    ]))
     (λ e. elim (over-true n b (nodes + more) (max depth deeper) e) as (λ _. (over n b nodes depth || over (n + nodes) b more deeper) ≡ true) [
       | inl f ↦ or_right (over n b nodes depth) (over (n + nodes) b more deeper) (true-over (n + nodes) b more deeper (inl (omega arith)))
       | inr f ↦ elim (greater depth deeper) as (λ _. (over n b nodes depth || over (n + nodes) b more deeper) ≡ true) [
-          | inl m ↦ let k = m.0 in or_left (over n b nodes depth) (over (n + nodes) b more deeper) (true-over n b nodes depth (inr (omega arith)))
-          | inr m ↦ let k = m.0 in or_right (over n b nodes depth) (over (n + nodes) b more deeper) (true-over (n + nodes) b more deeper (inr (omega arith)))
-        ]
+        | inl m ↦ let k = m.0 in or_left (over n b nodes depth) (over (n + nodes) b more deeper) (true-over n b nodes depth (inr (omega arith)))
+        | inr m ↦ let k = m.0 in or_right (over n b nodes depth) (over (n + nodes) b more deeper) (true-over (n + nodes) b more deeper (inr (omega arith)))
+      ]
     ])
 
 -- a type is too large behind n nodes, within b brackets

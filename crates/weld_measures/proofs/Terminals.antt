@@ -1,5 +1,5 @@
 -- What a terminal says of its token's class, and that no rule yields nothing.
-use Rattle.std.proofs.Common.{◌≡◌, refl, ℕ, Bool, true, false, not, ◌&&◌, eqb, get_or, List, [], ◌∷◌, ◌++◌, ap, sym, ◌∙◌}
+use Rattle.std.proofs.Common.{◌≡◌, refl, Bool, true, false, ◌&&◌, eqb, get_or, List, [], ◌∷◌, ◌++◌, ap, sym, ◌∙◌}
 use Rattle.std.proofs.lemmas.Bool.{false≢true, eqb-true, and_parts}
 use Rattle.weld_terminals.specs.declared.symbol.Symbol.{Symbol}
 use Rattle.weld_terminals.specs.declared.symbol.Symbol.TheVariants as s
@@ -10,14 +10,13 @@ use Rattle.weld_terminals.specs.declared.class.Class.TheVariants as classes
 use Rattle.weld_terminals.specs.declared.token.Token.{Token}
 use Rattle.weld_terminals.specs.Symbols.{symbol_number}
 use Rattle.weld_terminals.specs.ReservedWords.{reserved_number}
-use Rattle.weld_grammar.specs.declared.terminal.Terminal.{Terminal}
-use Rattle.weld_grammar.specs.declared.terminal.Terminal.TheVariants.{Sign, Fixed, Word, Name, Number, Field, Chars}
+use Rattle.weld_grammar.specs.declared.terminal.Terminal.TheVariants.{Sign, Fixed}
 use Rattle.weld_grammar.specs.declared.rule.Rule.{Rule}
 use Rattle.weld_grammar.specs.declared.rule.Rule.TheVariants as r
 use Rattle.weld_grammar.specs.declared.item.Item.{Item}
 use Rattle.weld_grammar.specs.declared.item.Item.TheVariants.{One, Part as OfRule, Optional, Repeated}
 use Rattle.weld_grammar.specs.Grammar.{Part, item, all_of, one_of, body, is_of}
-use Rattle.weld_grammar.specs.Derivation.{Tree, leaf, node, empty, pair, here, there, yield, IsOf}
+use Rattle.weld_grammar.specs.Derivation.{Tree, leaf, node, pair, here, there, yield, IsOf}
 use Rattle.weld_spell.specs.Seen.{seen}
 
 -- ---- terminals that are one symbol or one word

@@ -1,8 +1,7 @@
 -- The type that is too large, by the tokens and by their tree: a written one, or one in the brackets of a builder's type.
-use Rattle.std.proofs.Common.{◌≡◌, refl, ℕ, ◌+◌, ◌≤◌, max, ◌⊎◌, inl, inr, Bool, true, false, not, ◌&&◌, ◌||◌, cond, leb, Option, Some, None, List, [], ◌∷◌, ◌++◌, ap, sym, subst, ◌∙◌, append_assoc, arith}
-use Rattle.std.proofs.lemmas.Bool.{false≢true, leb-true, le-leb, and_parts, and_from}
+use Rattle.std.proofs.Common.{◌≡◌, refl, Bool, true, false, not, cond, Option, Some, None, List, [], ◌∷◌, ◌++◌, ap, sym, subst, ◌∙◌, append_assoc}
+use Rattle.std.proofs.lemmas.Bool.{false≢true}
 use Rattle.weld_tree.specs.declared.place.Place.{Place}
-use Rattle.weld_tree.specs.TypeTree.{TypeTree, TypeTrees, type_nodes, type_depth, types_nodes, types_depth}
 use Rattle.weld_terminals.specs.declared.symbol.Symbol.{Symbol}
 use Rattle.weld_terminals.specs.declared.symbol.Symbol.TheVariants as s
 use Rattle.weld_terminals.specs.declared.reserved.Reserved.{Reserved}
@@ -15,18 +14,17 @@ use Rattle.weld_grammar.specs.declared.terminal.Terminal.TheVariants.{Sign, Fixe
 use Rattle.weld_grammar.specs.declared.rule.Rule.{Rule}
 use Rattle.weld_grammar.specs.declared.rule.Rule.TheVariants as r
 use Rattle.weld_grammar.specs.declared.item.Item.{Item}
-use Rattle.weld_grammar.specs.declared.item.Item.TheVariants.{One, Part as OfRule, Optional, Repeated}
-use Rattle.weld_grammar.specs.Grammar.{Part, item, all_of, one_of, body, is_of}
-use Rattle.weld_grammar.specs.Derivation.{Tree, leaf, node, empty, pair, here, there, yield, IsOf}
+use Rattle.weld_grammar.specs.declared.item.Item.TheVariants.{One, Part as OfRule, Optional}
+use Rattle.weld_grammar.specs.Grammar.{item, all_of, body, is_of}
+use Rattle.weld_grammar.specs.Derivation.{Tree, leaf, node, pair, here, there, yield, IsOf}
 use Rattle.weld_spell.specs.Seen.{seen}
-use Rattle.weld_spell.specs.TypeOf.{type_of, next_types_of}
+use Rattle.weld_spell.specs.TypeOf.{type_of}
 use Rattle.weld_tokens.specs.TokenLimits.{is_opening}
 use Rattle.weld_limits.specs.Lists.{is_colon, is_bracket, builds_one, builds_two, behind_commas, first_place, first_of, type_too_large, in_brackets, type_behind, first_type_too_large}
-use Rattle.weld_measures.specs.Measures.{place_in, fits as type_fits, if_large, written, types_too_large}
-use Rattle.weld_measures.specs.Measures.{first_of as first_of_these, type_too_large as by_its_tree}
+use Rattle.weld_measures.specs.Measures.{place_in, fits as type_fits, if_large}
 use Rattle.weld_measures.proofs.Terminals.{of_sign, of_fixed, rule_begun}
 use Rattle.weld_measures.proofs.Passing.{passed, at_comma, at_none}
-use Rattle.weld_measures.proofs.Scans.{Search, by_tokens, by_tree, Unopened, Sane, Flow, Tail, SecondTail, Specials, headed, search-found, fits, ends_word}
+use Rattle.weld_measures.proofs.Scans.{Search, by_tokens, by_tree, Unopened, Sane, Flow, Specials, headed, search-found, fits, ends_word}
 use Rattle.weld_measures.proofs.Sizes.{too-large}
 
 -- ---- the first of two places
@@ -165,7 +163,7 @@ none_word : (x : Token) (ts : List Token) → is_of Word x.class ≡ true → Un
 none_word x ts h u =
     ap (λ b. cond b (type_too_large ts) (cond (builds_one x.class) (in_brackets false ts) (cond (builds_two x.class) (in_brackets true ts) None))) (no_colon x.class h)
     ∙ either_none (builds_one x.class) (in_brackets false ts) (cond (builds_two x.class) (in_brackets true ts) None) (none_in false ts u)
-      (either_none (builds_two x.class) (in_brackets true ts) None (none_in true ts u) refl)
+    (either_none (builds_two x.class) (in_brackets true ts) None (none_in true ts u) refl)
 
 own-none : (q : Rule) (t : Tree Token) → adds q ≡ false → own q t ≡ None
 own-none r.Note t e = absurd (false≢true (sym e))
@@ -247,10 +245,10 @@ two_built : (x y c : Token) (t u v : Tree Token) (rest : List Token) → is_colo
 two_built x y c t u v rest e f g i h j k =
     let ts = (yield t ++ (c ∷ (yield u ++ yield v))) ++ rest in
     let behind : behind_commas false 1 0 ts ≡ (yield u ++ yield v) ++ rest =
-        ap (behind_commas false 1 0) (append_assoc (yield t) (c ∷ (yield u ++ yield v)) rest)
-        ∙ passed r.AnyType t false 1 (c ∷ ((yield u ++ yield v) ++ rest)) refl h refl
-        ∙ at_comma false 0 c ((yield u ++ yield v) ++ rest) (of_sign s.Comma c.class j)
-        ∙ at_none false ((yield u ++ yield v) ++ rest) in
+    ap (behind_commas false 1 0) (append_assoc (yield t) (c ∷ (yield u ++ yield v)) rest)
+    ∙ passed r.AnyType t false 1 (c ∷ ((yield u ++ yield v) ++ rest)) refl h refl
+    ∙ at_comma false 0 c ((yield u ++ yield v) ++ rest) (of_sign s.Comma c.class j)
+    ∙ at_none false ((yield u ++ yield v) ++ rest) in
     ap (λ b. cond b (type_too_large (y ∷ ts)) (cond (builds_one x.class) (in_brackets false (y ∷ ts)) (cond (builds_two x.class) (in_brackets true (y ∷ ts)) None))) e
     ∙ ap (λ b. cond b (in_brackets false (y ∷ ts)) (cond (builds_two x.class) (in_brackets true (y ∷ ts)) None)) f
     ∙ ap (λ b. cond b (in_brackets true (y ∷ ts)) None) g

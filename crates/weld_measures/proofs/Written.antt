@@ -2,7 +2,7 @@
 use Rattle.std.proofs.Common.{◌≡◌, refl, ℕ, ◌+◌, ◌≤◌, max, ◌⊎◌, inl, inr, Bool, true, false, not, ◌&&◌, cond, leb, Option, Some, None, List, [], ◌∷◌, ap, sym, subst, ◌∙◌, arith}
 use Rattle.std.proofs.lemmas.Bool.{false≢true, leb-true, le-leb, and_parts, and_from, not-true}
 use Rattle.weld_tree.specs.declared.place.Place.{Place}
-use Rattle.weld_tree.specs.TypeTree.{TypeTree, TypeTrees, type_nodes, type_depth, types_nodes, types_depth}
+use Rattle.weld_tree.specs.TypeTree.{TypeTree, type_nodes, type_depth, types_nodes, types_depth}
 use Rattle.weld_terminals.specs.declared.token.Token.{Token}
 use Rattle.weld_grammar.specs.declared.rule.Rule.{Rule}
 use Rattle.weld_grammar.specs.declared.rule.Rule.TheVariants as r
