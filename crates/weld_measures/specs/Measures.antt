@@ -1,15 +1,15 @@
 -- The limits on parameters, fields, legs and written types, as statements on what tokens spell: by the tree that derives them
 -- (this project's profile of Weld).
-use Rattle.std.specs.Prelude.{ℕ, zero, suc, Bool, true, false, ◌&&◌, nat_le, if◌then◌else◌, Option, Some, None, List, [], ◌∷◌}
+use Rattle.std.specs.Prelude.{ℕ, zero, suc, Bool, ◌&&◌, nat_le, if◌then◌else◌, Option, Some, None, List, [], ◌∷◌}
 use Rattle.weld_tree.specs.declared.place.Place.{Place}
 use Rattle.weld_tree.specs.declared.binder.Binder.{Binder}
 use Rattle.weld_tree.specs.TypeTree.{TypeTree, type_nodes, type_depth}
 use Rattle.weld_terminals.specs.declared.token.Token.{Token}
 use Rattle.weld_grammar.specs.declared.rule.Rule.{Rule}
 use Rattle.weld_grammar.specs.declared.rule.Rule.TheVariants.{Program, Param, Note, ListBuild, TotalBuild, KeyedBuild, CellsBuild, GroupsBuild, MakeStruct, StructType, Zip}
-use Rattle.weld_grammar.specs.declared.item.Item.TheVariants.{One, Part as OfRule, Optional, Repeated}
+use Rattle.weld_grammar.specs.declared.item.Item.TheVariants.{Part as OfRule, Optional, Repeated}
 use Rattle.weld_grammar.specs.Grammar.{Part, item, all_of, one_of, body}
-use Rattle.weld_grammar.specs.Derivation.{Tree, leaf, node, empty, pair, here, there, yield}
+use Rattle.weld_grammar.specs.Derivation.{Tree, node, pair, here, there, yield}
 use Rattle.weld_limits.specs.Depth.{earlier}
 use Rattle.weld_spell.specs.TypeOf.{type_of}
 

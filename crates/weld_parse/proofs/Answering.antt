@@ -30,6 +30,7 @@ use Rattle.weld_programs.specs.Ranges.{number_out_of_range}
 use Rattle.weld_limits.specs.Depth.{first_deep_node}
 use Rattle.weld_limits.specs.Lets.{has_too_many_lets}
 use Rattle.weld_limits.specs.Lists.{first_type_too_large, first_parameter_too_many, first_field_too_many}
+use Rattle.weld_measures.specs.Measures.{type_too_large, parameter_too_many, field_too_many}
 use Rattle.weld_names.specs.Names.{first_misnamed}
 use Rattle.weld_accept.specs.declared.stop.Stop.{Stop}
 use Rattle.weld_accept.specs.declared.stop.Stop.TheVariants.{Break}
@@ -64,7 +65,7 @@ find decided spelled text tokens =
 
 some_found : (text : List ℕ) (tokens : List Token) → Found text tokens → (found : Findings) × Finds text tokens found
 some_found text tokens (at_break n b) = (broken_at (place_at tokens n (end_of text)), broken n b refl)
-some_found text tokens (at_tree p tree is e) = (found_in tokens tree, derived tree is refl)
+some_found text tokens (at_tree p tree is e) = (found_in tree, derived tree is refl)
 
 pub by_size : AreDecided → AreSpelled → (text : List ℕ) (tokens : List Token) → has_too_many_bytes text ≡ false → AreTokens text tokens → has_too_many_tokens tokens ≡ true → IsRefused text (Size M3)
 by_size decided spelled text tokens fits of many =
@@ -87,12 +88,12 @@ by_break text tokens n place fits of few b e =
     subst P (sym e) (by_rule tokens (broken_at (place_at tokens n (end_of text))) (record { fits = fits; tokens_of = of; finds = broken n b refl }) (broken_first tokens (place_at tokens n (end_of text)) few))
 
 pub by_tree : (text : List ℕ) (tokens : List Token) (refusal : Refusal) → has_too_many_bytes text ≡ false → AreTokens text tokens → IsRefusedTree tokens refusal → IsRefused text refusal
-by_tree text tokens refusal fits of h = by_rule tokens (found_in tokens h.tree) (record { fits = fits; tokens_of = of; finds = derived h.tree h.tree_of refl }) h.refused
+by_tree text tokens refusal fits of h = by_rule tokens (found_in h.tree) (record { fits = fits; tokens_of = of; finds = derived h.tree h.tree_of refl }) h.refused
 
 pub accepted : (text : List ℕ) (tokens : List Token) (p : ProgramTree) → has_too_many_bytes text ≡ false → AreTokens text tokens → IsAccepted tokens p → Parses text p
 accepted text tokens p fits of h = record {
   tokens = tokens;
-  found = found_in tokens h.tree;
+  found = found_in h.tree;
   reads = record { fits = fits; tokens_of = of; finds = derived h.tree h.tree_of refl };
   unrefused = h.unrefused;
   spells = record { tree = h.tree; tree_of = h.tree_of.tree_of; tokens = h.tree_of.yields; is = h.spelled };
@@ -103,6 +104,12 @@ accepted text tokens p fits of h = record {
 -- the law of numbers
 abbrev pub NumbersByTree : Type 0
 NumbersByTree = (tree : Tree Token) → IsOf (item (OfRule Program)) (seen tree) → first_number_out_of_range (yield tree) ≡ number_out_of_range tree
+
+-- the laws of limits
+pub record Measured : Type 0 where
+  pub parameters : (tree : Tree Token) → IsOf (item (OfRule Program)) (seen tree) → first_parameter_too_many (yield tree) ≡ parameter_too_many (program_of tree).params
+  pub fields : (tree : Tree Token) → IsOf (item (OfRule Program)) (seen tree) → first_field_too_many (yield tree) ≡ field_too_many tree
+  pub types : (tree : Tree Token) → IsOf (item (OfRule Program)) (seen tree) → first_type_too_large (yield tree) ≡ type_too_large tree
 
 same_findings : (a : Option Place) (b b' : Option Place) (c c' : Option Place) (d d' : Bool) (e e' f f' g g' : Option Place) (h h' : Option (Code × Place)) (found : Findings)
     → found.ungrammatical ≡ a → found.out_of_range ≡ b → found.too_deep ≡ c → found.too_many_lets ≡ d → found.too_large_type ≡ e → found.too_many_parameters ≡ f → found.too_many_fields ≡ g → found.misnamed ≡ h
@@ -131,12 +138,16 @@ pub record FoundBy (tokens : List Token) (body : ExprTree) (misnamed : Option (C
   pub too_many_fields : found.too_many_fields ≡ first_field_too_many tokens
   pub misnamed_is : found.misnamed ≡ misnamed
 
-found_is : NumbersByTree → (tokens : List Token) (params : List Binder) (body : ExprTree) (misnamed : Option (Code × Place)) (r : IsRead tokens params body misnamed) (found : Findings) → FoundBy tokens body misnamed found → found ≡ found_in tokens r.tree
-found_is law tokens params body misnamed r found f =
+found_is : NumbersByTree → Measured → (tokens : List Token) (params : List Binder) (body : ExprTree) (misnamed : Option (Code × Place)) (r : IsRead tokens params body misnamed) (found : Findings) → FoundBy tokens body misnamed found → found ≡ found_in r.tree
+found_is law limits tokens params body misnamed r found f =
     let same_body : body ≡ (program_of r.tree).body = ap (λ (p : ProgramTree). p.body) (sym r.program) in
     let numbers : first_number_out_of_range tokens ≡ number_out_of_range r.tree = ap first_number_out_of_range (sym r.tokens) ∙ law r.tree r.tree_of in
     same_findings None _ _ _ _ _ _ _ _ _ _ _ _ _ _ found f.ungrammatical f.out_of_range f.too_deep f.too_many_lets f.too_large_type f.too_many_parameters f.too_many_fields f.misnamed_is
-    numbers (ap first_deep_node same_body) (ap has_too_many_lets same_body) refl refl refl (sym r.misnamed)
+    numbers (ap first_deep_node same_body) (ap has_too_many_lets same_body)
+    (ap first_type_too_large (sym r.tokens) ∙ limits.types r.tree r.tree_of)
+    (ap first_parameter_too_many (sym r.tokens) ∙ limits.parameters r.tree r.tree_of)
+    (ap first_field_too_many (sym r.tokens) ∙ limits.fields r.tree r.tree_of)
+    (sym r.misnamed)
 
 pub ranged_refused : NumbersByTree → AreSpelled → (tokens : List Token) (place : Place) → has_too_many_tokens tokens ≡ false → Derives Program (classes tokens) → first_number_out_of_range tokens ≡ Some place → IsRefusedTree tokens (At X3 place)
 ranged_refused law spelled tokens place few d e =
@@ -146,22 +157,22 @@ ranged_refused law spelled tokens place few d e =
     record {
       tree = tree;
       tree_of = record { tree_of = s.1.tree_of; yields = s.1.tokens };
-      refused = ranged_first tokens (found_in tokens tree) place few refl by_tree_is;
+      refused = ranged_first tokens (found_in tree) place few refl by_tree_is;
     }
 
-pub judged_refused : NumbersByTree → (tokens : List Token) (params : List Binder) (body : ExprTree) (misnamed : Option (Code × Place)) (r : IsRead tokens params body misnamed) (found : Findings) → FoundBy tokens body misnamed found → (refusal : Refusal) → first_refusal tokens found ≡ Some refusal → IsRefusedTree tokens refusal
-judged_refused law tokens params body misnamed r found f refusal e = record {
+pub judged_refused : NumbersByTree → Measured → (tokens : List Token) (params : List Binder) (body : ExprTree) (misnamed : Option (Code × Place)) (r : IsRead tokens params body misnamed) (found : Findings) → FoundBy tokens body misnamed found → (refusal : Refusal) → first_refusal tokens found ≡ Some refusal → IsRefusedTree tokens refusal
+judged_refused law limits tokens params body misnamed r found f refusal e = record {
   tree = r.tree;
   tree_of = record { tree_of = r.tree_of; yields = r.tokens };
-  refused = ap (first_refusal tokens) (sym (found_is law tokens params body misnamed r found f)) ∙ e;
+  refused = ap (first_refusal tokens) (sym (found_is law limits tokens params body misnamed r found f)) ∙ e;
 }
 
-pub judged_accepted : NumbersByTree → (tokens : List Token) (params : List Binder) (body : ExprTree) (misnamed : Option (Code × Place)) (r : IsRead tokens params body misnamed) (found : Findings) → FoundBy tokens body misnamed found → first_refusal tokens found ≡ None
+pub judged_accepted : NumbersByTree → Measured → (tokens : List Token) (params : List Binder) (body : ExprTree) (misnamed : Option (Code × Place)) (r : IsRead tokens params body misnamed) (found : Findings) → FoundBy tokens body misnamed found → first_refusal tokens found ≡ None
     → IsAccepted tokens (record { params = params; body = body })
-judged_accepted law tokens params body misnamed r found f e = record {
+judged_accepted law limits tokens params body misnamed r found f e = record {
   tree = r.tree;
   tree_of = record { tree_of = r.tree_of; yields = r.tokens };
-  unrefused = ap (first_refusal tokens) (sym (found_is law tokens params body misnamed r found f)) ∙ e;
+  unrefused = ap (first_refusal tokens) (sym (found_is law limits tokens params body misnamed r found f)) ∙ e;
   spelled = r.program;
 }
 
@@ -169,11 +180,11 @@ judged_accepted law tokens params body misnamed r found f e = record {
 abbrev pub SpellPrograms : Type 0
 SpellPrograms = (tree : Tree Token) → IsOf (item (OfRule Program)) (seen tree) → number_out_of_range tree ≡ None → first_misnamed tree ≡ None → length (yield tree) ≤ 16384 → IsProgram (program_of tree).params (program_of tree).body
 
-pub judged_program : NumbersByTree → SpellPrograms → (tokens : List Token) (params : List Binder) (body : ExprTree) (misnamed : Option (Code × Place)) (r : IsRead tokens params body misnamed) (found : Findings) → FoundBy tokens body misnamed found → first_refusal tokens found ≡ None
+pub judged_program : NumbersByTree → Measured → SpellPrograms → (tokens : List Token) (params : List Binder) (body : ExprTree) (misnamed : Option (Code × Place)) (r : IsRead tokens params body misnamed) (found : Findings) → FoundBy tokens body misnamed found → first_refusal tokens found ≡ None
     → IsProgram params body
-judged_program numbers law tokens params body misnamed r found f e =
+judged_program numbers limits law tokens params body misnamed r found f e =
     let c = clean tokens found e in
-    let same = found_is numbers tokens params body misnamed r found f in
+    let same = found_is numbers limits tokens params body misnamed r found f in
     let ranged : number_out_of_range r.tree ≡ None = ap (λ (g : Findings). g.out_of_range) (sym same) ∙ c.ranged in
     let well_named : first_misnamed r.tree ≡ None = ap (λ (g : Findings). g.misnamed) (sym same) ∙ c.well_named in
     let Few : List Token → Type 0 = λ ts. length ts ≤ 16384 in

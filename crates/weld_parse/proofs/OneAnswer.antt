@@ -38,10 +38,10 @@ abbrev pub HasReading : List ℕ → Type 0
 HasReading text = ((tokens : List Token) × AreTokens text tokens) ⊎ ((place : Place) × IsWrongAt text place)
 
 by_findings : (text : List ℕ) (tokens : List Token) (p : ProgramTree) (tree : Tree Token) → has_too_many_bytes text ≡ false → AreTokens text tokens → IsTreeOf tokens tree → program_of tree ≡ p
-    → (o : Option Refusal) → first_refusal tokens (found_in tokens tree) ≡ o → Answered text
+    → (o : Option Refusal) → first_refusal tokens (found_in tree) ≡ o → Answered text
 by_findings text tokens p tree fits of is e None k =
-    inl (p, record { tokens = tokens; found = found_in tokens tree; reads = record { fits = fits; tokens_of = of; finds = derived tree is refl }; unrefused = k; spells = record { tree = tree; tree_of = is.tree_of; tokens = is.yields; is = e } })
-by_findings text tokens p tree fits of is e (Some r) k = inr (r, by_rule tokens (found_in tokens tree) (record { fits = fits; tokens_of = of; finds = derived tree is refl }) k)
+    inl (p, record { tokens = tokens; found = found_in tree; reads = record { fits = fits; tokens_of = of; finds = derived tree is refl }; unrefused = k; spells = record { tree = tree; tree_of = is.tree_of; tokens = is.yields; is = e } })
+by_findings text tokens p tree fits of is e (Some r) k = inr (r, by_rule tokens (found_in tree) (record { fits = fits; tokens_of = of; finds = derived tree is refl }) k)
 
 by_broken : (text : List ℕ) (tokens : List Token) (n : ℕ) → has_too_many_bytes text ≡ false → AreTokens text tokens → BreaksAt Program (classes tokens) n
     → (o : Option Refusal) → first_refusal tokens (broken_at (place_at tokens n (end_of text))) ≡ o → Answered text
@@ -50,7 +50,7 @@ by_broken text tokens n fits of b (Some r) k = inr (r, by_rule tokens (broken_at
 
 by_tokens : (text : List ℕ) (tokens : List Token) → has_too_many_bytes text ≡ false → AreTokens text tokens → Found text tokens → Answered text
 by_tokens text tokens fits of (at_break n b) = by_broken text tokens n fits of b (first_refusal tokens (broken_at (place_at tokens n (end_of text)))) refl
-by_tokens text tokens fits of (at_tree p tree is e) = by_findings text tokens p tree fits of is e (first_refusal tokens (found_in tokens tree)) refl
+by_tokens text tokens fits of (at_tree p tree is e) = by_findings text tokens p tree fits of is e (first_refusal tokens (found_in tree)) refl
 
 pub answered : (text : List ℕ) → HasReading text → AreDecided → AreSpelled → Answered text
 answered text reading decided spelled = cases (has_too_many_bytes text) refl
@@ -84,7 +84,7 @@ one_finding : (text : List ℕ) → Laws text → (tokens : List Token) (f g : F
 one_finding text l tokens f g (broken m a e) (broken n b k) = e ∙ ap (λ z. broken_at (place_at tokens z (end_of text))) (l.one_break Program (classes tokens) m n a b) ∙ sym k
 one_finding text l tokens f g (broken m a e) (derived u j k) = absurd (l.unbroken Program (classes tokens) m (tree_derives text l tokens u j) a)
 one_finding text l tokens f g (derived t i e) (broken n b k) = absurd (l.unbroken Program (classes tokens) n (tree_derives text l tokens t i) b)
-one_finding text l tokens f g (derived t i e) (derived u j k) = e ∙ ap (found_in tokens) (l.one_tree Program t u i.tree_of j.tree_of (i.yields ∙ sym j.yields)) ∙ sym k
+one_finding text l tokens f g (derived t i e) (derived u j k) = e ∙ ap found_in (l.one_tree Program t u i.tree_of j.tree_of (i.yields ∙ sym j.yields)) ∙ sym k
 
 -- what is read of a text is one
 one_refusal_of : (text : List ℕ) → Laws text → (ts us : List Token) (f g : Findings) → Reads text ts f → Reads text us g → first_refusal ts f ≡ first_refusal us g

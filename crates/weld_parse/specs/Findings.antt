@@ -15,7 +15,7 @@ use Rattle.weld_spell.specs.ProgramOf.{program_of}
 use Rattle.weld_programs.specs.Ranges.{number_out_of_range}
 use Rattle.weld_limits.specs.Depth.{first_deep_node}
 use Rattle.weld_limits.specs.Lets.{has_too_many_lets}
-use Rattle.weld_limits.specs.Lists.{first_type_too_large, first_parameter_too_many, first_field_too_many}
+use Rattle.weld_measures.specs.Measures.{type_too_large, parameter_too_many, field_too_many}
 use Rattle.weld_names.specs.Names.{first_misnamed}
 
 -- the place of the token of this number, counted from 0; the end where there are no more tokens
@@ -43,19 +43,19 @@ pub record IsTreeOf (tokens : List Token) (tree : Tree Token) : Type 0 where
   pub yields : yield tree ≡ tokens
 
 -- what is found in tokens that a program's tree derives
-abbrev pub found_in : List Token → Tree Token → Findings
-found_in tokens tree = record {
+abbrev pub found_in : Tree Token → Findings
+found_in tree = record {
   ungrammatical = None;
   out_of_range = number_out_of_range tree;
   too_deep = first_deep_node (program_of tree).body;
   too_many_lets = has_too_many_lets (program_of tree).body;
-  too_large_type = first_type_too_large tokens;
-  too_many_parameters = first_parameter_too_many tokens;
-  too_many_fields = first_field_too_many tokens;
+  too_large_type = type_too_large tree;
+  too_many_parameters = parameter_too_many (program_of tree).params;
+  too_many_fields = field_too_many tree;
   misnamed = first_misnamed tree;
 }
 
 -- what the grammar finds in the tokens of a text: the place where they break it first, or what their tree shows
 pub data Finds (text : List ℕ) (tokens : List Token) (found : Findings) : Type 0 where
   broken : (n : ℕ) → BreaksAt Program (classes tokens) n → found ≡ broken_at (place_at tokens n (end_of text)) → Finds text tokens found
-  derived : (tree : Tree Token) → IsTreeOf tokens tree → found ≡ found_in tokens tree → Finds text tokens found
+  derived : (tree : Tree Token) → IsTreeOf tokens tree → found ≡ found_in tree → Finds text tokens found

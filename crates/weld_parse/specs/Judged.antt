@@ -12,11 +12,11 @@ use Rattle.weld_parse.specs.Findings.{IsTreeOf, found_in}
 pub record IsAccepted (tokens : List Token) (p : ProgramTree) : Type 0 where
   pub tree : Tree Token
   pub tree_of : IsTreeOf tokens tree
-  pub unrefused : first_refusal tokens (found_in tokens tree) ≡ None
+  pub unrefused : first_refusal tokens (found_in tree) ≡ None
   pub spelled : program_of tree ≡ p
 
 -- a rule refuses their tree first
 pub record IsRefusedTree (tokens : List Token) (refusal : Refusal) : Type 0 where
   pub tree : Tree Token
   pub tree_of : IsTreeOf tokens tree
-  pub refused : first_refusal tokens (found_in tokens tree) ≡ Some refusal
+  pub refused : first_refusal tokens (found_in tree) ≡ Some refusal

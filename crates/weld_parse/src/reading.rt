@@ -8,6 +8,7 @@ ghost use Rattle.weld_parse.specs.Judged.{IsAccepted, IsRefusedTree};
 use crate::findings::{found_in, place_at};
 use crate::program::{Unread, read_program};
 use std::alloc::Global;
+use weld_measures::laws::{fields_by_the_tree, parameters_by_the_tree, types_by_the_tree};
 use weld_programs::laws::{derived_or_broken, numbers_by_the_tree, spelled_programs};
 use weld_reduce::Read;
 use weld_spell::laws::programs_are_derived;
@@ -64,6 +65,9 @@ fn judge(tokens: &[Token], read: Read) -> Result<Program, Refusal>
     ensures refused { IfErr result (λ refusal. IsRefusedTree tokens.now refusal) }
 {
     numbers_by_the_tree();
+    parameters_by_the_tree();
+    fields_by_the_tree();
+    types_by_the_tree();
     spelled_programs();
     let found = found_in(tokens, &read);
     match first_refusal(tokens, &found) {

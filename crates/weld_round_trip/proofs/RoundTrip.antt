@@ -26,7 +26,7 @@ use Rattle.weld_spell.specs.Spells.{Spells}
 use Rattle.weld_programs.specs.Ranges.{number_out_of_range}
 use Rattle.weld_limits.specs.Depth.{first_deep_node}
 use Rattle.weld_limits.specs.Lets.{has_too_many_lets}
-use Rattle.weld_limits.specs.Lists.{first_type_too_large, first_parameter_too_many, first_field_too_many}
+use Rattle.weld_measures.specs.Measures.{type_too_large, parameter_too_many, field_too_many}
 use Rattle.weld_names.specs.Names.{Refused, first_misnamed}
 use Rattle.weld_print.specs.PrintText.{program_text}
 use Rattle.weld_reads_back.specs.Texts.{TextSpells, TextSpellsSoundly}
@@ -56,15 +56,15 @@ by_name : (found : Option Refused) (r : Refusal) → found ≡ None → named fo
 by_name None r n e = absurd (cc)
 by_name (Some f) r n e = absurd (cc)
 
-by_limit : (tokens : List Token) (tree : Tree Token) (r : Refusal) → number_out_of_range tree ≡ None → first_misnamed tree ≡ None → first_refusal tokens (found_in tokens tree) ≡ Some r → IsLimit r
+by_limit : (tokens : List Token) (tree : Tree Token) (r : Refusal) → number_out_of_range tree ≡ None → first_misnamed tree ≡ None → first_refusal tokens (found_in tree) ≡ Some r → IsLimit r
 by_limit tokens tree r ranged well_named e =
     by_whole M3 tt (has_too_many_tokens tokens) _ r (λ e.
     by_none X3 (number_out_of_range tree) _ r ranged (λ e.
     by_place M4 tt (first_deep_node (program_of tree).body) _ r (λ e.
     by_whole M5 tt (has_too_many_lets (program_of tree).body) _ r (λ e.
-    by_place M6 tt (first_type_too_large tokens) _ r (λ e.
-    by_place M7 tt (first_parameter_too_many tokens) _ r (λ e.
-    by_place M8 tt (first_field_too_many tokens) _ r (λ e.
+    by_place M6 tt (type_too_large tree) _ r (λ e.
+    by_place M7 tt (parameter_too_many (program_of tree).params) _ r (λ e.
+    by_place M8 tt (field_too_many tree) _ r (λ e.
     by_place M9 tt (first_long_name tokens) _ r (λ e. by_name (first_misnamed tree) r well_named e) e) e) e) e) e) e) e) e
 
 -- ---- the round trip
