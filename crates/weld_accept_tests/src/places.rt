@@ -1,6 +1,6 @@
+use crate::breaks::first_break;
 use std::alloc::{AllocError, Global};
 use std::test::Fail;
-use crate::breaks::first_break;
 use weld_data::Text;
 use weld_grammar::Rule;
 use weld_terminals::{Class, Reserved, Symbol, Token};

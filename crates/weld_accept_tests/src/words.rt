@@ -1,6 +1,6 @@
+use crate::breaks::first_break;
 use crate::places::tokens_of;
 use std::test::Fail;
-use crate::breaks::first_break;
 use weld_grammar::Rule;
 use weld_terminals::{Class, Reserved, Symbol};
 

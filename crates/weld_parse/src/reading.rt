@@ -13,10 +13,7 @@ use weld_programs::laws::{derived_or_broken, numbers_by_the_tree, spelled_progra
 use weld_reduce::Read;
 use weld_spell::laws::programs_are_derived;
 use weld_terminals::Token;
-use weld_tokens::{
-    end_of, first_refusal, has_too_many_bytes, has_too_many_tokens,
-    read_tokens,
-};
+use weld_tokens::{end_of, first_refusal, has_too_many_bytes, has_too_many_tokens, read_tokens};
 use weld_tree::{Code, Program, Refusal};
 
 /// The program that a text spells, its binders numbered in the order of the text. The text is refused by the first rule

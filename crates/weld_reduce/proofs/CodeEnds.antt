@@ -1,5 +1,7 @@
 -- What is left when the code has run through a derivation.
-use Rattle.std.proofs.Common.{◌≡◌, List, [], ◌∷◌, Option, Some, None, ap, sym, subst, ◌∙◌}
+use Rattle.std.proofs.Common.{◌≡◌, ◌↔◌, ℕ, Bool, true, false, IsTrue, List, [], ◌∷◌, Option, Some, None, ap, sym, subst, ◌∙◌}
+use Rattle.std.proofs.lemmas.Bool.{false≢true}
+use Rattle.weld_tree.specs.Types.{IsWithinLimits}
 use Rattle.weld_terminals.specs.declared.token.Token.{Token}
 use Rattle.weld_tree.specs.declared.place.Place.{Place}
 use Rattle.weld_tree.specs.TypeTree.{TypeTree}
@@ -15,8 +17,12 @@ use Rattle.weld_names.specs.Names.{Refused, first_misnamed}
 use Rattle.weld_spell.specs.Seen.{seen}
 use Rattle.weld_spell.specs.ProgramOf.{program_of, first_of}
 use Rattle.weld_spell.specs.TypeOf.{type_of}
-use Rattle.weld_spell.specs.Types.{SpellsType}
+use Rattle.weld_spell.specs.Types.{SpellsType, IsNoType, broken, too_large}
 use Rattle.weld_programs.specs.Ranges.{number_out_of_range}
+use Rattle.weld_grammar.specs.Classes.{classes}
+use Rattle.weld_accept.specs.declared.stop.Stop.{Stop}
+use Rattle.weld_accept.specs.declared.stop.Stop.TheVariants.{Break}
+use Rattle.weld_accept.specs.Stops.{StopsAt}
 use Rattle.weld_accept.specs.declared.step.Step.{Step}
 use Rattle.weld_accept.specs.Derived.{steps}
 use Rattle.weld_reduce.specs.Values.{Value, expr, ty, top_expr, top_type}
@@ -116,3 +122,10 @@ type_of_end ts st h place t rest e =
 
 pub no_type_topped : (ts : List Token) (st : State) → IsEndOfType ts st → top_type st.values ≡ None → ⊥
 no_type_topped ts st h e = none_some ((h.place, type_of h.tree), []) (sym e ∙ ap top_type h.values)
+
+-- tokens that spell no type within the limits
+pub no_type : (stop : Stop) (n : ℕ) (ts : List Token) → stop ≡ Break n → StopsAt AnyType (classes ts) stop → IsNoType ts
+no_type stop n ts e h = broken n (subst (StopsAt AnyType (classes ts)) e h)
+
+pub over_limits : (ts : List Token) (t u : TypeTree) (b : Bool) → SpellsType ts t → u ≡ t → (IsTrue b ↔ IsWithinLimits u) → b ≡ false → IsNoType ts
+over_limits ts t u b s e l f = too_large t s (λ h. false≢true (sym f ∙ l.1 (subst IsWithinLimits (sym e) h)))
