@@ -1,5 +1,5 @@
 -- What is left when the code has run through a derivation.
-use Rattle.std.proofs.Common.{◌≡◌, ◌↔◌, ℕ, Bool, true, false, IsTrue, List, [], ◌∷◌, Option, Some, None, ap, sym, subst, ◌∙◌}
+use Rattle.std.proofs.Common.{◌≡◌, ◌↔◌, ℕ, Bool, false, IsTrue, List, [], Some, None, ap, sym, subst, ◌∙◌}
 use Rattle.std.proofs.lemmas.Bool.{false≢true}
 use Rattle.weld_tree.specs.Types.{IsWithinLimits}
 use Rattle.weld_terminals.specs.declared.token.Token.{Token}
@@ -13,7 +13,7 @@ use Rattle.weld_grammar.specs.declared.rule.Rule.TheVariants.{Program, AnyType}
 use Rattle.weld_grammar.specs.declared.item.Item.TheVariants.{Part as OfRule}
 use Rattle.weld_grammar.specs.Grammar.{item}
 use Rattle.weld_grammar.specs.Derivation.{Tree, yield, IsOf}
-use Rattle.weld_names.specs.Names.{Refused, first_misnamed}
+use Rattle.weld_names.specs.Names.{first_misnamed}
 use Rattle.weld_spell.specs.Seen.{seen}
 use Rattle.weld_spell.specs.ProgramOf.{program_of, first_of}
 use Rattle.weld_spell.specs.TypeOf.{type_of}
@@ -25,7 +25,7 @@ use Rattle.weld_accept.specs.declared.stop.Stop.TheVariants.{Break}
 use Rattle.weld_accept.specs.Stops.{StopsAt}
 use Rattle.weld_accept.specs.declared.step.Step.{Step}
 use Rattle.weld_accept.specs.Derived.{steps}
-use Rattle.weld_reduce.specs.Values.{Value, expr, ty, top_expr, top_type}
+use Rattle.weld_reduce.specs.Values.{Value, top_expr, top_type}
 use Rattle.weld_reduce.specs.States.{State, start}
 use Rattle.weld_reduce.specs.Runs.{run, Comes, ComesToType}
 use Rattle.weld_reduce.specs.Programs.{IsDerivedBy, IsRead}

@@ -10,7 +10,7 @@ use Rattle.weld_grammar.specs.Derivation.{Tree, leaf, node, empty, pair, here, t
 use Rattle.weld_grammar.specs.Classes.{classes}
 use Rattle.weld_spell.specs.Seen.{seen}
 use Rattle.weld_accept.specs.declared.step.Step.{Step}
-use Rattle.weld_accept.specs.declared.step.Step.TheVariants.{Shift, Reduce}
+use Rattle.weld_accept.specs.declared.step.Step.TheVariants.{Reduce}
 use Rattle.weld_accept.specs.Derived.{steps, IsDerivation}
 use Rattle.weld_reduce.specs.Programs.{IsDerivedBy}
 
