@@ -1,8 +1,8 @@
 -- A loop over a `zip` of which a leg is the list that another loop makes may be rewritten to one loop over all legs.
-use Rattle.std.proofs.Common.{◌≡◌, ℕ, suc, ◌+◌, ◌*◌, ◌≤◌, ◌<◌, ◌^◌, true, ◌&&◌, Option, Some, None, refl, ap, sym, subst, ◌∙◌, arith}
+use Rattle.std.proofs.Common.{◌≡◌, ℕ, suc, ◌+◌, ◌*◌, ◌≤◌, ◌<◌, ◌^◌, nat_le, true, ◌&&◌, Option, Some, None, refl, ap, sym, subst, ◌∙◌, arith}
 use Rattle.std.proofs.lemmas.Bool.{leb-true}
 use Rattle.weld_tree.specs.declared.binder.Binder.{Binder}
-use Rattle.weld_tree.specs.TypeTree.{TypeTree, TypeTrees, scalar, vec, struct, dict, build, list, no_types, more_types, type_nodes, types_nodes}
+use Rattle.weld_tree.specs.TypeTree.{TypeTree, TypeTrees, scalar, vec, struct, dict, build, list, no_types, more_types, type_nodes, types_nodes, type_depth}
 use Rattle.weld_tree.specs.ExprTree.{At, ExprTree, leaf, one, two, three, many, let_in, loop, iterate, LegTree, whole, LegTrees, no_legs, more_legs, fresh, finish}
 use Rattle.weld_tree.specs.Program.{loops}
 use Rattle.weld_meaning.specs.Names.{put}
@@ -120,7 +120,7 @@ count_nodes (more_types u us) = omega (arith, some_nodes u, count_nodes us)
 
 few_of : (us : TypeTrees) → is_within_limits (struct us) ≡ true → count us < 10 ^ 9
 few_of us h =
-    let k : type_nodes (struct us) ≤ 256 = leb-true (type_nodes (struct us)) 256 (and_true _ _ h).1 in
+    let k : type_nodes (struct us) ≤ 256 = leb-true (type_nodes (struct us)) 256 (and_true (nat_le (type_depth (struct us)) 16) (nat_le (type_nodes (struct us)) 256) h).1 in
     omega (arith, k, count_nodes us)
 
 several_of : (bs zs : LegTrees) (l : LegTree) → are_several (legs_behind bs (more_legs l zs)) ≡ true → 1 ≤ count (items bs) + count (items zs)
