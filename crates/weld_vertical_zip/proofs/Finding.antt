@@ -1,7 +1,7 @@
 -- The first leg that another loop makes, in a list that is cut there.
-use Rattle.std.proofs.Common.{◌≡◌, ℕ, suc, ◌+◌, ◌<◌, ◌≤◌, ◌^◌, if◌then◌else◌, Bool, true, false, ◌&&◌, Option, Some, None, option_map, List, [], ◌∷◌, ◌++◌, length, take, drop, get_or, map, IsTrue, ◌↔◌, nat_le, refl, sym, ap, subst, ◌∙◌, arith}
+use Rattle.std.proofs.Common.{◌≡◌, ℕ, suc, ◌+◌, ◌-◌, ◌<◌, ◌≤◌, ◌^◌, if◌then◌else◌, Bool, true, false, ◌&&◌, Option, Some, None, option_map, List, [], ◌∷◌, ◌++◌, length, take, drop, get_or, map, IsTrue, ◌↔◌, nat_le, refl, sym, ap, subst, ◌∙◌, arith}
 use Rattle.std.proofs.lemmas.Bool.{leb-true, le-leb}
-use Rattle.std.proofs.lemmas.List.{take-append-drop, take_more, length-take-le, append_assoc}
+use Rattle.std.proofs.lemmas.List.{take-append-drop, take_more, take_all, length-take-le, length-drop, append_assoc}
 use Rattle.weld_tree.specs.TypeTree.{TypeTree, TypeTrees, struct, type_nodes, type_depth}
 use Rattle.weld_tree.specs.Types.{IsWithinLimits}
 use Rattle.weld_tree.specs.ExprTree.{ExprTree, leaf, one, two, three, many, let_in, loop, iterate, LegTree, LegTrees, no_legs, more_legs, pack_legs}
@@ -147,6 +147,10 @@ limits_are b t h = by b (is_within_limits t) refl h
     by true c e h = sym (of_limits (h.0 refl))
     by false true e h = h.1 (limits_of e) ∙ sym e
     by false false e h = sym e
+
+-- the rest of a list, of which as much is taken as there is
+pub rest_all : (legs : List Leg) (n : ℕ) → take (length legs - n) (drop n legs) ≡ drop n legs
+rest_all legs n = take_all (length legs - n) (drop n legs) (let h = length-drop n legs in omega (arith, h))
 
 pub fits_is : (legs : List Leg) (n : ℕ) (l : Leg) (before within after all : TypeTrees) (b : Bool) → n < length legs → l ≡ get_or legs n l → Some n ≡ place_produced (pack_legs (map view_leg legs)) → before ≡ items (pack_legs (map view_leg (take n legs))) → within ≡ own_items (view_leg l) → after ≡ items (pack_legs (map view_leg (drop (n + 1) legs))) → all ≡ types_behind before (types_behind within after) → (IsTrue b ↔ IsWithinLimits (struct all)) → b ≡ fits_around (first_made (pack_legs (map view_leg legs)))
 fits_is legs n l before within after all b h e p bs ks zs together limits =

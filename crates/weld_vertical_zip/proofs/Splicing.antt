@@ -14,8 +14,8 @@ use Rattle.weld_putting.proofs.Following.{and_true}
 use Rattle.weld_sinking.specs.Sinking.{starts_list, ends_in_merge, is_producer, sunk, fused}
 use Rattle.weld_substitution.specs.Uses.{uses}
 use Rattle.weld_twice.specs.Twice.{items, count}
-use Rattle.weld_zipping.specs.Zipping.{legs_behind, types_behind, Around, first_made, Sides, all_items, widened, own_row, sides, sides_of, is_within_limits, are_several, fits_around, is_zipped, joined_by, unzipped}
-use Rattle.weld_vertical_zip.specs.Zips.{place_produced, spliced_body, spliced_loop, AreFew, IsMadeBy}
+use Rattle.weld_zipping.specs.Zipping.{legs_behind, types_behind, Around, first_made, Sides, all_items, widened, own_row, sides, sides_of, is_within_limits, fits_around, joined_by, unzipped}
+use Rattle.weld_vertical_zip.specs.Zips.{place_produced, spliced_body, spliced_producer, over_legs, is_loop, spliced_loop, AreFew, IsMadeBy, IsCut}
 use Rattle.weld_vertical_zip.proofs.Finding.{no_place, Cut, cut}
 
 -- ---- lists of legs
@@ -116,11 +116,6 @@ cut_there all before after l n h p q place =
     ap (λ (ks : List Leg). place_produced (pack_legs (map view_leg ks))) (sym same) ∙ sym place ∙ ap Some (sym (last_place all before l n h p)) in
     subst (λ (ks : List Leg). Cut before l after (pack_legs (map view_leg ks))) (sym same) (cut before l after here)
 
-pub unzipped_is : (a : At) (ls : LegTrees) (e : ExprTree) (b n x : Binder) (f : ExprTree) (before after : List Leg) (l : Leg) (q : ExprTree) → Cut before l after ls → IsMadeBy (view_leg l) q → unzipped (loop a ls e b n x f) ≡ spliced_loop a e b n x f (pack_legs (map view_leg before)) (pack_legs (map view_leg after)) q
-unzipped_is a ls e b n x f before after l q k made =
-    ap (λ o. fused (joined_by a ls e b n x f o)) (k.first ∙ ap (λ m. Some (record { before = pack_legs (map view_leg before); leg = m; after = pack_legs (map view_leg after) })) made.1)
-    ∙ joined_loop a e b n x f (pack_legs (map view_leg before)) (pack_legs (map view_leg after)) made.0 q made.2
-
 -- ---- few
 
 some_nodes : (t : TypeTree) → 1 ≤ type_nodes t
@@ -143,14 +138,48 @@ few_sides s h =
     let k : type_nodes (struct (all_items s)) ≤ 256 = leb-true (type_nodes (struct (all_items s))) 256 (and_true (nat_le (type_depth (struct (all_items s))) 16) (nat_le (type_nodes (struct (all_items s))) 256) h).1 in
     omega (arith, k, count_nodes (all_items s), count_behind s.before (types_behind s.within s.after), count_behind s.within s.after)
 
-pub few_there : (c : ExprTree) (a : At) (ls : LegTrees) (e : ExprTree) (b n x : Binder) (f : ExprTree) (before after : List Leg) (l : Leg) (q : ExprTree) → c ≡ loop a ls e b n x f → is_zipped c ≡ true → Cut before l after ls → IsMadeBy (view_leg l) q → AreFew (sides (pack_legs (map view_leg before)) q (pack_legs (map view_leg after)))
-few_there c a ls e b n x f before after l q is h k made =
-    let fits : fits_around (first_made ls) ≡ true = (and_true (are_several ls) (fits_around (first_made ls)) (sym (ap is_zipped is) ∙ h)).1 in
-    let same = k.first ∙ ap (λ m. Some (record { before = pack_legs (map view_leg before); leg = m; after = pack_legs (map view_leg after) })) made.1 in
-    few_sides (sides (pack_legs (map view_leg before)) q (pack_legs (map view_leg after))) (sym (ap fits_around same) ∙ fits)
+pub few_cut : (ls bs zs : LegTrees) (q : ExprTree) → fits_around (first_made ls) ≡ true → IsCut ls bs zs q → AreFew (sides bs q zs)
+few_cut ls bs zs q fits c =
+    let same = c.1 ∙ ap (λ m. Some (record { before = bs; leg = m; after = zs })) c.2.1 in few_sides (sides bs q zs) (sym (ap fits_around same) ∙ fits)
 
-pub some_place : (c : ExprTree) (a : At) (ls : LegTrees) (e : ExprTree) (b n x : Binder) (f : ExprTree) → c ≡ loop a ls e b n x f → is_zipped c ≡ true → place_produced ls ≢ None
-some_place c a ls e b n x f is h none =
-    let fits : fits_around (first_made ls) ≡ true = (and_true (are_several ls) (fits_around (first_made ls)) (sym (ap is_zipped is) ∙ h)).1 in
-    let no = no_place ls none in
-    let wrong : false ≡ true = sym (ap fits_around no) ∙ fits in cc
+pub made_cut : (ls bs zs : LegTrees) (q : ExprTree) → IsCut ls bs zs q → is_producer q ≡ true
+made_cut ls bs zs q c = c.2.2
+
+pub loop_made : (ty : Known) (place : Place) (n x : Binder) (f : ExprTree) (w : Sides) (q : ExprTree) → is_producer q ≡ true → is_loop (spliced_producer ty place n x f w q) ≡ true
+loop_made ty place n x f w (leaf p l) h = let nothing : ⊥ = cc in absurd nothing
+loop_made ty place n x f w (one p o q) h = let nothing : ⊥ = cc in absurd nothing
+loop_made ty place n x f w (two p o q g) h = let nothing : ⊥ = cc in absurd nothing
+loop_made ty place n x f w (three p o c q g) h = let nothing : ⊥ = cc in absurd nothing
+loop_made ty place n x f w (many p o es) h = let nothing : ⊥ = cc in absurd nothing
+loop_made ty place n x f w (let_in p z v g) h = let nothing : ⊥ = cc in absurd nothing
+loop_made ty place n x f w (loop p ks s d i r g) h = refl
+loop_made ty place n x f w (iterate p q d g) h = let nothing : ⊥ = cc in absurd nothing
+
+pub is_loop_of : (q : ExprTree) → is_producer q ≡ true → is_loop q ≡ true
+is_loop_of (leaf p l) h = let nothing : ⊥ = cc in absurd nothing
+is_loop_of (one p o q) h = let nothing : ⊥ = cc in absurd nothing
+is_loop_of (two p o q g) h = let nothing : ⊥ = cc in absurd nothing
+is_loop_of (three p o c q g) h = let nothing : ⊥ = cc in absurd nothing
+is_loop_of (many p o es) h = let nothing : ⊥ = cc in absurd nothing
+is_loop_of (let_in p z v g) h = let nothing : ⊥ = cc in absurd nothing
+is_loop_of (loop p ks s d i r g) h = refl
+is_loop_of (iterate p q d g) h = let nothing : ⊥ = cc in absurd nothing
+
+pub unzipped_cut : (a : At) (ls : LegTrees) (e : ExprTree) (b n x : Binder) (f : ExprTree) (bs zs : LegTrees) (q : ExprTree) → IsCut ls bs zs q → unzipped (loop a ls e b n x f) ≡ spliced_loop a e b n x f bs zs q
+unzipped_cut a ls e b n x f bs zs q c =
+    ap (λ o. fused (joined_by a ls e b n x f o)) (c.1 ∙ ap (λ m. Some (record { before = bs; leg = m; after = zs })) c.2.1)
+    ∙ joined_loop a e b n x f bs zs c.2.0 q c.2.2
+
+pub join_is : (a : At) (ty : Known) (place : Place) (ls bs zs : LegTrees) (q p e : ExprTree) (b n x : Binder) (f : ExprTree) → IsCut ls bs zs q → p ≡ spliced_producer ty place n x f (sides bs q zs) q → a.place ≡ place → a.ty ≡ ty
+    → over_legs a e b bs zs p ≡ unzipped (loop a ls e b n x f)
+join_is a ty place ls bs zs q p e b n x f c made here noted =
+    ap (over_legs a e b bs zs) (made ∙ (λ j. spliced_producer (sym noted j) (sym here j) n x f (sides bs q zs) q)) ∙ sym (unzipped_cut a ls e b n x f bs zs q c)
+
+-- the legs that were cut out of a list
+pub is_cut : (items before after : List Leg) (legs : List LegTree) (l : Leg) (n : ℕ) (q : ExprTree) → map view_leg items ≡ legs → n < length items → before ++ l ∷ [] ≡ take (n + 1) items → after ≡ drop (n + 1) items → Some n ≡ place_produced (pack_legs (map view_leg items)) → IsMadeBy (view_leg l) q → IsCut (pack_legs legs) (pack_legs (map view_leg before)) (pack_legs (map view_leg after)) q
+is_cut items before after legs l n q same h p k place made =
+    let c = cut_there items before after l n h p k place in
+    (view_leg l, sym (ap (λ (ls : List LegTree). first_made (pack_legs ls)) same) ∙ c.first, made)
+
+pub some_place : (ls : LegTrees) → fits_around (first_made ls) ≡ true → place_produced ls ≢ None
+some_place ls fits none = let wrong : false ≡ true = sym (ap fits_around (no_place ls none)) ∙ fits in cc

@@ -1,11 +1,11 @@
 //! Rows over all legs, and what is made of them.
 
-ghost use Rattle.std.specs.Prelude.{◌≡◌, ◌+◌, ◌<◌, ◌^◌, length, IfOk};
+ghost use Rattle.std.specs.Prelude.{◌≡◌, ◌+◌, ◌<◌, ◌^◌, [], ◌∷◌, ◌++◌, length, IfOk};
 ghost use Rattle.weld_tree.specs.TypeTree.{pack, struct};
 ghost use Rattle.weld_tree.specs.ExprTree.{make_struct, many, pack_exprs};
 ghost use Rattle.weld_twice.specs.Twice.{items_from, node_of};
-ghost use Rattle.weld_zipping.specs.Zipping.{made_row, own_row, part_of_row, types_behind, whole_row};
-ghost use Rattle.weld_vertical_zip.specs.Zips.{of_sides, AreFew};
+ghost use Rattle.weld_zipping.specs.Zipping.{all_items, made_row, own_row, part_of_row, types_behind, whole_row};
+ghost use Rattle.weld_vertical_zip.specs.Zips.{of_sides, row_fields, AreFew};
 
 use std::alloc::{AllocError, Global};
 use weld_horizontal::item_at;
@@ -113,7 +113,6 @@ fn part_of_row(
 }
 
 /// The consumer's row, from a row over all legs and the value that was merged.
-#[tactic(auto, using(crate::proofs::RowLists::packed_row))]
 pub(crate) fn made_row(
     alloc: Global,
     place: Place,
@@ -124,14 +123,65 @@ pub(crate) fn made_row(
     requires { AreFew (of_sides sides.now) }
     ensures { IfOk result (λ e. e ≡ made_row place row.0 (of_sides sides.now) value) }
 {
+    let fields = row_fields(alloc, place, row, sides, value)?;
+    let ty = whole_row(alloc, sides)?;
+    Ok(struct_at(place, ty, fields))
+}
+
+/// The items of the consumer's row.
+fn row_fields(
+    alloc: Global,
+    place: Place,
+    row: Sym,
+    sides: &Sides,
+    value: Expr,
+) -> Result<Exprs, AllocError>
+    requires { AreFew (of_sides sides.now) }
+    ensures { IfOk result (λ es.
+        pack_exprs es ≡ row_fields place row.0 (of_sides sides.now) value) }
+{
     let all = all_items(alloc, &sides.before, &sides.within, &sides.after)?;
+    fields_from(alloc, place, row, &all, sides, value)
+}
+
+/// The same, by the items of all legs.
+fn fields_from(
+    alloc: Global,
+    place: Place,
+    row: Sym,
+    all: &Tys,
+    sides: &Sides,
+    value: Expr,
+) -> Result<Exprs, AllocError>
+    requires few { AreFew (of_sides sides.now) }
+    requires all { pack all.now ≡ all_items (of_sides sides.now) }
+    ensures { IfOk result (λ es.
+        pack_exprs es ≡ row_fields place row.0 (of_sides sides.now) value) }
+{
+    let first = items_from(alloc, place, row, all, 0, &sides.before)?;
+    let first = with_value(first, value)?;
     let behind = sides.before.len() + sides.within.len();
-    let mut fields = items_from(alloc, place, row, &all, 0, &sides.before)?;
-    let mut last = items_from(alloc, place, row, &all, behind, &sides.after)?;
-    fields.push(value)?;
-    fields.append(&mut last)?;
-    let fields = Exprs::from_vec(fields);
-    Ok(struct_at(place, whole_row(alloc, sides)?, fields))
+    let last = items_from(alloc, place, row, all, behind, &sides.after)?;
+    joined(first, last)
+}
+
+/// The items and one more.
+fn with_value(items: Vec<Expr>, value: Expr) -> Result<Vec<Expr>, AllocError>
+    ensures { IfOk result (λ es. es.items ≡ items.items ++ value ∷ []) }
+{
+    let mut items = items;
+    items.push(value)?;
+    Ok(items)
+}
+
+/// The items, and others behind them.
+fn joined(first: Vec<Expr>, last: Vec<Expr>) -> Result<Exprs, AllocError>
+    ensures { IfOk result (λ es. pack_exprs es ≡ pack_exprs (first.items ++ last.items)) }
+{
+    let mut items = first;
+    let mut last = last;
+    items.append(&mut last)?;
+    Ok(Exprs::from_vec(items))
 }
 
 /// The struct of the items, which has this type.

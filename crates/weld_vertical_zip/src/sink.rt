@@ -5,6 +5,7 @@ ghost use Rattle.weld_tree.specs.declared.known.Known.TheVariants.{Is};
 ghost use Rattle.weld_tree.specs.ExprTree.{At, leaf, let_in, name};
 ghost use Rattle.weld_tree.specs.ExprView.{view_form};
 ghost use Rattle.weld_meaning.specs.Typing.{place_type};
+ghost use Rattle.weld_zipping.specs.Zipping.{made_row};
 ghost use Rattle.weld_vertical_zip.specs.Zips.{of_sides, spliced_body, AreFew};
 
 use crate::rows::{Sides, made_row};
@@ -51,13 +52,33 @@ pub(crate) fn sink(
         Form::Let(_, _, rest) => sink(alloc, ty, place, row, consumer, rest)?,
         Form::Two(_, _, value) => {
             let value = mem::replace(&mut **value, blank(here));
-            let value = made_row(alloc, place, row.name, &row.sides, value)?;
-            e.form = consume(alloc, ty, here, row.count, consumer, value)?;
+            e.form = consume_row(alloc, ty, here, place, row, consumer, value)?;
         }
         _ => return Ok(()),
     }
     e.ty = ty.copy(alloc)?;
     Ok(())
+}
+
+/// The consumer on the row that is made of the value.
+fn consume_row(
+    alloc: Global,
+    ty: &Known,
+    here: Place,
+    place: Place,
+    row: &Row,
+    consumer: Consumer,
+    value: Expr,
+) -> Result<Form, AllocError>
+    requires { AreFew (of_sides row.now.sides) }
+    ensures { IfOk result (λ form. (at : At) → view_form form at
+        ≡ let_in at consumer.number
+        (leaf (record { place = here; ty = Is place_type }) (name row.now.count.0))
+        (let_in (record { place = here; ty = ty.now }) consumer.row
+        (made_row place row.now.name.0 (of_sides row.now.sides) value) consumer.body.value)) }
+{
+    let value = made_row(alloc, place, row.name, &row.sides, value)?;
+    consume(alloc, ty, here, row.count, consumer, value)
 }
 
 /// The consumer on the value.

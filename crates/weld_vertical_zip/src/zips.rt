@@ -1,6 +1,6 @@
 //! Which loops over a `zip` have a leg that another loop makes.
 
-ghost use Rattle.std.specs.Prelude.{◌≡◌, ◌&&◌, map, Some, IfOk, true};
+ghost use Rattle.std.specs.Prelude.{◌≡◌, ◌<◌, ◌&&◌, length, map, Some, IfOk, true};
 ghost use Rattle.weld_tree.specs.TypeTree.{pack};
 ghost use Rattle.weld_tree.specs.ExprTree.{pack_legs};
 ghost use Rattle.weld_tree.specs.ExprView.{view_leg};
@@ -44,7 +44,8 @@ fn are_zipped(alloc: Global, legs: &[Leg]) -> Result<bool, AllocError>
 /// another loop makes.
 #[tactic(auto, using(crate::proofs::Finding::produced_there))]
 fn fits(alloc: Global, legs: &[Leg], place: usize) -> Result<bool, AllocError>
-    requires { Some place ≡ place_produced (pack_legs (map view_leg legs.now)) }
+    requires within { place < length legs.now }
+    requires first { Some place ≡ place_produced (pack_legs (map view_leg legs.now)) }
     ensures { IfOk result (λ b. b ≡ fits_around (first_made (pack_legs (map view_leg legs.now)))) }
 {
     let before = items_of(alloc, &legs[..place])?;
