@@ -170,10 +170,11 @@ unzipped_cut a ls e b n x f bs zs q c =
     ap (λ o. fused (joined_by a ls e b n x f o)) (c.1 ∙ ap (λ m. Some (record { before = bs; leg = m; after = zs })) c.2.1)
     ∙ joined_loop a e b n x f bs zs c.2.0 q c.2.2
 
-pub join_is : (a : At) (ty : Known) (place : Place) (ls bs zs : LegTrees) (q p e : ExprTree) (b n x : Binder) (f : ExprTree) → IsCut ls bs zs q → p ≡ spliced_producer ty place n x f (sides bs q zs) q → a.place ≡ place → a.ty ≡ ty
+pub join_is : (a : At) (ty : Known) (place : Place) (ls bs zs : LegTrees) (q r p e : ExprTree) (b n x : Binder) (f : ExprTree) → IsCut ls bs zs q → r ≡ q → p ≡ spliced_producer ty place n x f (sides bs r zs) r → a.place ≡ place → a.ty ≡ ty
     → over_legs a e b bs zs p ≡ unzipped (loop a ls e b n x f)
-join_is a ty place ls bs zs q p e b n x f c made here noted =
-    ap (over_legs a e b bs zs) (made ∙ (λ j. spliced_producer (sym noted j) (sym here j) n x f (sides bs q zs) q)) ∙ sym (unzipped_cut a ls e b n x f bs zs q c)
+join_is a ty place ls bs zs q r p e b n x f c same made here noted =
+    ap (over_legs a e b bs zs) (made ∙ (λ j. spliced_producer (sym noted j) (sym here j) n x f (sides bs (same j) zs) (same j)))
+    ∙ sym (unzipped_cut a ls e b n x f bs zs q c)
 
 -- the legs that were cut out of a list
 pub is_cut : (items before after : List Leg) (legs : List LegTree) (l : Leg) (n : ℕ) (q : ExprTree) → map view_leg items ≡ legs → n < length items → before ++ l ∷ [] ≡ take (n + 1) items → after ≡ drop (n + 1) items → Some n ≡ place_produced (pack_legs (map view_leg items)) → IsMadeBy (view_leg l) q → IsCut (pack_legs legs) (pack_legs (map view_leg before)) (pack_legs (map view_leg after)) q
