@@ -12,3 +12,4 @@ mod row;
 pub use doubles::Doubles;
 pub use pass::join_legs;
 pub use picks::Picks;
+pub use row::{item_at, items_of};

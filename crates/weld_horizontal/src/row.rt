@@ -98,7 +98,7 @@ fn items_from(alloc: Global, place: Place, row: Sym, types: &Tys) -> Result<Vec<
 /// The item of that number and type in a row over legs of such items: the row itself where there is
 /// one leg.
 #[tactic(auto, using(crate::proofs::RowLemmas::item_few, crate::proofs::RowLemmas::item_many))]
-fn item_at(
+pub fn item_at(
     alloc: Global,
     place: Place,
     row: Sym,
@@ -133,7 +133,7 @@ fn named(place: Place, sym: Sym, ty: Ty) -> Expr
 
 /// The types of the legs' items, as noted.
 #[tactic(auto, using(crate::proofs::RowLemmas::items_all))]
-pub(crate) fn items_of(alloc: Global, legs: &[Leg]) -> Result<Tys, AllocError>
+pub fn items_of(alloc: Global, legs: &[Leg]) -> Result<Tys, AllocError>
     ensures value { IfOk result (λ ts. pack ts ≡ items (pack_legs (map view_leg legs.now))) }
     ensures len { IfOk result (λ ts. length ts ≡ length legs.now) }
 {

@@ -28,7 +28,7 @@ module _ (place : Place) (x : ℕ) where
   seen : (o : Origin) → o ≡ value → IsSeen o
   seen o h = subst IsSeen (sym h) tt
 
-  item_idle : (us : TypeTrees) (n : ℕ) (u : TypeTree) (g : Named Origin) → origin_of_name x g ≡ value → IdleAt (item_at place x us n u) g
+  pub item_idle : (us : TypeTrees) (n : ℕ) (u : TypeTree) (g : Named Origin) → origin_of_name x g ≡ value → IdleAt (item_at place x us n u) g
   item_idle no_types n u g h = record { from = h; none = λ s q. chain_takes_none (x, []) g s q false h; keeps = seen (origin_of_name x g) h; splits = tt }
   item_idle (more_types t no_types) n u g h = record { from = h; none = λ s q. chain_takes_none (x, []) g s q false h; keeps = seen (origin_of_name x g) h; splits = tt }
   item_idle (more_types t (more_types s ts)) n u g h = record {
@@ -38,11 +38,11 @@ module _ (place : Place) (x : ℕ) where
     splits = (tt, tt);
   }
 
-  abbrev AllIdle : ExprTrees → Named Origin → Type 0
+  abbrev pub AllIdle : ExprTrees → Named Origin → Type 0
   AllIdle no_exprs g = Unit {0}
   AllIdle (more_exprs e es) g = IdleAt e g × AllIdle es g
 
-  items_idle : (all : TypeTrees) (n : ℕ) (us : TypeTrees) (g : Named Origin) → origin_of_name x g ≡ value → AllIdle (items_from place x all n us) g
+  pub items_idle : (all : TypeTrees) (n : ℕ) (us : TypeTrees) (g : Named Origin) → origin_of_name x g ≡ value → AllIdle (items_from place x all n us) g
   items_idle all n no_types g h = tt
   items_idle all n (more_types u us) g h = (item_idle all n u g h, items_idle all (suc n) us g h)
 
@@ -51,26 +51,26 @@ module _ (place : Place) (x : ℕ) where
   with_idle (suc n) e no_exprs g h k = (h, tt)
   with_idle (suc n) e (more_exprs f es) g h k = (k.0, with_idle n e es g h k.1)
 
-  all_values : (es : ExprTrees) (g : Named Origin) → AllIdle es g → are_values (origins es g) ≡ true
+  pub all_values : (es : ExprTrees) (g : Named Origin) → AllIdle es g → are_values (origins es g) ≡ true
   all_values no_exprs g h = refl
   all_values (more_exprs e es) g h = let k = all_values es g h.1 in λ i. is_value (h.0.from i) && k i
 
-  none_taken : (es : ExprTrees) (g : Named Origin) → AllIdle es g → (s : ℕ) (q : Path) → some_take es g s q ≡ false
+  pub none_taken : (es : ExprTrees) (g : Named Origin) → AllIdle es g → (s : ℕ) (q : Path) → some_take es g s q ≡ false
   none_taken no_exprs g h s q = refl
   none_taken (more_exprs e es) g h s q = let k = none_taken es g h.1 s q in λ i. h.0.none s q i || k i
 
-  all_keep : (es : ExprTrees) (g : Named Origin) → AllIdle es g → AllKeep es g
+  pub all_keep : (es : ExprTrees) (g : Named Origin) → AllIdle es g → AllKeep es g
   all_keep no_exprs g h = tt
   all_keep (more_exprs e es) g h = (h.0.keeps, all_keep es g h.1)
 
   first_none : (e : ExprTree) (es : ExprTrees) (g : Named Origin) → IdleAt e g → Apart (takes e g) (some_take es g)
   first_none e es g h = record { apart = λ s q k m. let z = h.none s q in let nothing : ⊥ = cc in nothing }
 
-  all_split : (es : ExprTrees) (g : Named Origin) → AllIdle es g → AllSplit es g
+  pub all_split : (es : ExprTrees) (g : Named Origin) → AllIdle es g → AllSplit es g
   all_split no_exprs g h = tt
   all_split (more_exprs e es) g h = (h.0.splits, all_split es g h.1, first_none e es g h.0)
 
-  item_named : (us : TypeTrees) (n : ℕ) (u : TypeTree) → IsFree (item_at place x us n u) x
+  pub item_named : (us : TypeTrees) (n : ℕ) (u : TypeTree) → IsFree (item_at place x us n u) x
   item_named no_types n u = refl
   item_named (more_types t no_types) n u = refl
   item_named (more_types t (more_types s ts)) n u = refl
@@ -93,12 +93,12 @@ module _ (place : Place) (x : ℕ) where
     pub made : IsWellMade e
     pub spellable : IsSpellable e
 
-  item_small : (us : TypeTrees) (n : ℕ) (u : TypeTree) → n < 10 ^ 9 → Small (item_at place x us n u)
+  pub item_small : (us : TypeTrees) (n : ℕ) (u : TypeTree) → n < 10 ^ 9 → Small (item_at place x us n u)
   item_small no_types n u b = record { binds = refl; no_loops = refl; no_legs = refl; names = λ t h. h; made = tt; spellable = tt }
   item_small (more_types t no_types) n u b = record { binds = refl; no_loops = refl; no_legs = refl; names = λ t h. h; made = tt; spellable = tt }
   item_small (more_types t (more_types s ts)) n u b = record { binds = refl; no_loops = refl; no_legs = refl; names = λ t h. h; made = (tt, tt); spellable = (b, tt) }
 
-  abbrev EachSmall : ExprTrees → Type 0
+  abbrev pub EachSmall : ExprTrees → Type 0
   EachSmall no_exprs = Unit {0}
   EachSmall (more_exprs e es) = Small e × EachSmall es
 
@@ -127,11 +127,11 @@ module _ (place : Place) (x : ℕ) where
       by t (inl f) = h.names t f
       by t (inr f) = k.names t f
 
-  all_small : (es : ExprTrees) → EachSmall es → AreSmall es
+  pub all_small : (es : ExprTrees) → EachSmall es → AreSmall es
   all_small no_exprs h = none_small
   all_small (more_exprs e es) h = more_small e es h.0 (all_small es h.1)
 
-  items_small : (all : TypeTrees) (n : ℕ) (us : TypeTrees) → Within n us all → count all < 10 ^ 9 → EachSmall (items_from place x all n us)
+  pub items_small : (all : TypeTrees) (n : ℕ) (us : TypeTrees) → Within n us all → count all < 10 ^ 9 → EachSmall (items_from place x all n us)
   items_small all n no_types w b = tt
   items_small all n (more_types u us) w b =
       (item_small all n u (omega (arith, b, field_below n all u (within_here n u us all w))), items_small all (suc n) us (within_next n u us all w) b)

@@ -83,11 +83,11 @@ module _ (place : Place) (x : ℕ) where
   item_noted (more_types t (more_types s ts)) n u g l f =
       let all = more_types t (more_types s ts) in ((struct all, refl, l), (u, refl, (struct all, l, (all, refl, f))))
 
-  items_typed : (all : TypeTrees) (n : ℕ) (us : TypeTrees) (g : Types) → look_for x g ≡ Some (row_of all) → Within n us all → HaveTypes (items_from place x all n us) g us
+  pub items_typed : (all : TypeTrees) (n : ℕ) (us : TypeTrees) (g : Types) → look_for x g ≡ Some (row_of all) → Within n us all → HaveTypes (items_from place x all n us) g us
   items_typed all n no_types g l w = tt
   items_typed all n (more_types u us) g l w = (item_typed all n u g l (within_here n u us all w), items_typed all (suc n) us g l (within_next n u us all w))
 
-  items_noted : (all : TypeTrees) (n : ℕ) (us : TypeTrees) (g : Types) → look_for x g ≡ Some (row_of all) → Within n us all → AllAreNoted (items_from place x all n us) g
+  pub items_noted : (all : TypeTrees) (n : ℕ) (us : TypeTrees) (g : Types) → look_for x g ≡ Some (row_of all) → Within n us all → AllAreNoted (items_from place x all n us) g
   items_noted all n no_types g l w = tt
   items_noted all n (more_types u us) g l w = (item_noted all n u g l (within_here n u us all w), items_noted all (suc n) us g l (within_next n u us all w))
 
@@ -132,7 +132,7 @@ module _ (place : Place) (x : ℕ) where
   nth_there (suc n) (more_types t us) u no_values f h = absurd h
   nth_there (suc n) (more_types t us) u (and_value v vs) f h = nth_there n us u vs f h.1
 
-  item_gives : (us : TypeTrees) (n : ℕ) (u : TypeTree) (env : Env) (w : Value) → look_for x env ≡ Some (plain w) → HasValue (row_of us) w → IsField n us u → eval (item_at place x us n u) env ≡ done (plain (nth_value n (fields_of us w)))
+  pub item_gives : (us : TypeTrees) (n : ℕ) (u : TypeTree) (env : Env) (w : Value) → look_for x env ≡ Some (plain w) → HasValue (row_of us) w → IsField n us u → eval (item_at place x us n u) env ≡ done (plain (nth_value n (fields_of us w)))
   item_gives no_types n u env w l h f = absurd f
   item_gives (more_types t no_types) zero u env w l h f = ap found l
   item_gives (more_types t no_types) (suc n) u env w l h f = absurd f
@@ -151,18 +151,18 @@ module _ (place : Place) (x : ℕ) where
   fields_fit (more_types t (more_types s ts)) (struct_value vs) some h = h
   fields_fit (more_types t (more_types s ts)) (dict_value es) some h = absurd h
 
-  abbrev plains : Values → Things
+  abbrev pub plains : Values → Things
   plains no_values = no_things
   plains (and_value v vs) = more_things (plain v) (plains vs)
 
   -- each comes to the value at its place
-  abbrev Give : ExprTrees → Values → Env → Type 0
+  abbrev pub Give : ExprTrees → Values → Env → Type 0
   Give no_exprs no_values env = Unit {0}
   Give no_exprs (and_value v vs) env = ⊥
   Give (more_exprs e es) no_values env = ⊥
   Give (more_exprs e es) (and_value v vs) env = (eval e env ≡ done (plain v)) × Give es vs env
 
-  items_give : (all : TypeTrees) (n : ℕ) (us : TypeTrees) (vs : Values) (env : Env) (w : Value) → look_for x env ≡ Some (plain w) → HasValue (row_of all) w → Within n us all → HaveValues us vs → ((k : ℕ) → nth_value (n + k) (fields_of all w) ≡ nth_value k vs) → Give (items_from place x all n us) vs env
+  pub items_give : (all : TypeTrees) (n : ℕ) (us : TypeTrees) (vs : Values) (env : Env) (w : Value) → look_for x env ≡ Some (plain w) → HasValue (row_of all) w → Within n us all → HaveValues us vs → ((k : ℕ) → nth_value (n + k) (fields_of all w) ≡ nth_value k vs) → Give (items_from place x all n us) vs env
   items_give all n no_types no_values env w l h i k f = tt
   items_give all n no_types (and_value v vs) env w l h i k f = absurd k
   items_give all n (more_types u us) no_values env w l h i k f = absurd k
@@ -179,13 +179,13 @@ module _ (place : Place) (x : ℕ) where
   with_give (suc n) e (more_exprs f es) v no_values env h k = absurd k
   with_give (suc n) e (more_exprs f es) v (and_value w vs) env h k = (k.0, with_give n e es v vs env h k.1)
 
-  all_give : (es : ExprTrees) (vs : Values) (env : Env) → Give es vs env → eval_all es env ≡ done (plains vs)
+  pub all_give : (es : ExprTrees) (vs : Values) (env : Env) → Give es vs env → eval_all es env ≡ done (plains vs)
   all_give no_exprs no_values env h = refl
   all_give no_exprs (and_value v vs) env h = absurd h
   all_give (more_exprs e es) no_values env h = absurd h
   all_give (more_exprs e es) (and_value v vs) env h = let k = all_give es vs env h.1 in λ i. and_then (h.0 i) (λ t. map_out (more_things t) (k i))
 
-  are_plain : (vs : Values) → as_values (plains vs) ≡ done vs
+  pub are_plain : (vs : Values) → as_values (plains vs) ≡ done vs
   are_plain no_values = refl
   are_plain (and_value v vs) = ap (map_out (and_value v)) (are_plain vs)
 

@@ -54,7 +54,7 @@ use Rattle.weld_twice.proofs.RowHolds.{Small, rebuilt_small, rebuilt_named, rebu
 -- ---- types
 
 -- the items that are noted are those of the types
-items_are : (ls : LegTrees) (g : Types) (us : TypeTrees) → LegsHave ls g us → LegsAreNoted ls g → items ls ≡ us
+pub items_are : (ls : LegTrees) (g : Types) (us : TypeTrees) → LegsHave ls g us → LegsAreNoted ls g → items ls ≡ us
 items_are no_legs g no_types h n = refl
 items_are no_legs g (more_types u us) h n = absurd h
 items_are (more_legs l ls) g no_types h n = absurd h
@@ -83,7 +83,7 @@ row_two (suc zero) u v vs r h = h
 row_two (suc (suc n)) u v no_types r h = h
 row_two (suc (suc n)) u v (more_types w vs) r h = h
 
-row_is : (us : TypeTrees) → HasTypes us → RowHas us (row_of us)
+pub row_is : (us : TypeTrees) → HasTypes us → RowHas us (row_of us)
 row_is no_types h = h
 row_is (more_types t no_types) h = refl
 row_is (more_types t (more_types s ts)) h = refl

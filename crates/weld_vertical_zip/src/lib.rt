@@ -1,0 +1,13 @@
+//! Lists that other loops make, on legs of a `zip`, made where they are used.
+#![tactic(auto)]
+
+pub mod laws;
+mod pass;
+mod producers;
+mod rows;
+mod rule;
+mod sink;
+mod zips;
+
+pub use pass::fuse_zipped;
+pub use rule::Zips;

@@ -1,0 +1,13 @@
+pub mod Merging
+pub mod Gathering
+pub mod Splicing
+pub mod MadeRows
+pub mod Widening
+pub mod Producing
+pub mod UsesPut
+pub mod Recognised
+pub mod Splice
+pub mod SplicePlaced
+pub mod SpliceMeans
+pub mod SpliceRule
+pub mod Cases
