@@ -12,22 +12,20 @@ use Rattle.weld_replacing.specs.Rewriting.{SameMeaning}
 use Rattle.weld_inline.specs.Inlining.{HasNoSuchLet, lets_rule}
 use Rattle.weld_predicate.specs.Predicating.{HasNoGuard, guards_rule}
 use Rattle.weld_vertical.specs.Fusing.{HasNoSuchLoop, loops_rule}
-use Rattle.weld_vertical_zip.specs.Zips.{HasNoMadeLeg, zips_rule}
 use Rattle.weld_horizontal.specs.Doubles.{HasNoDouble, doubles_rule}
 use Rattle.weld_joining.specs.Joining.{HasNoPair, beside_rule}
 
 -- the rules of all passes as one
 abbrev pub all_rules : RootRule
-all_rules = either lets_rule (either guards_rule (either loops_rule (either zips_rule (either doubles_rule beside_rule))))
+all_rules = either lets_rule (either guards_rule (either loops_rule (either doubles_rule beside_rule)))
 
 -- nothing stands in the program that a pass would rewrite (the Weld papers, as far as this project goes): no `let` that can be
--- put in place, no guarded merge that can be merged always, no loop over what another loop makes row by row, no such list on a leg
--- of a `zip`, no leg that stands twice in one loop, and no two neighbouring lets of results of loops over one name
+-- put in place, no guarded merge that can be merged always, no loop over what another loop makes row by row, no leg that stands
+-- twice in one loop, and no two neighbouring lets of results of loops over one name
 pub record IsNormal (q : ProgramTree) : Type 0 where
   pub no_let : HasNoSuchLet q.body
   pub no_guard : HasNoGuard q.body
   pub no_loop_over_a_loop : HasNoSuchLoop q.body
-  pub no_made_leg : HasNoMadeLeg q.body
   pub no_leg_twice : HasNoDouble q.body
   pub no_loops_side_by_side : HasNoPair q.body
 

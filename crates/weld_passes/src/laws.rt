@@ -23,7 +23,6 @@ use weld_rounds::laws::{rounds_rewrite, sweeps_fall};
 use weld_types::laws::the_walk_is_typing;
 use weld_unnoted::laws::notes_play_no_part;
 use weld_vertical::laws::loops_may_be_fused;
-use weld_vertical_zip::laws::made_legs_may_be_spliced;
 
 /// The rules of all passes as one make lighter and are sound; and where none of them matches, a program is in
 /// normal form.
@@ -35,7 +34,6 @@ pub fn all_rules_may_be_tried()
     lets_may_be_rewritten();
     guards_may_be_rewritten();
     loops_may_be_fused();
-    made_legs_may_be_spliced();
     legs_may_stand_once();
     loops_may_be_joined();
     rules_may_be_joined();

@@ -19,13 +19,12 @@ use weld_meaning::Accepted;
 use weld_pass::{Either, run_pass};
 use weld_predicate::Guards;
 use weld_vertical::Loops;
-use weld_vertical_zip::Zips;
 
 /// The program in normal form (the Weld papers, as far as this project goes): no `let` stands in it
 /// that can be put in place, no guarded merge that can be merged always, no loop over what another
-/// loop makes row by row, no such list on a leg of a `zip`, no leg that stands twice in one loop, and no
-/// two neighbouring lets of results of loops over one name. It means the same on all arguments that
-/// fit, faults included, and has no more legs and loops; and where some text spelled it, noted
+/// loop makes row by row, no leg that stands twice in one loop, and no two neighbouring lets of results
+/// of loops over one name. It means the same on all arguments that fit, faults included, and has no
+/// more legs and loops; and where some text spelled it, noted
 /// types apart, its printed text spells it. It asks for a program whose nodes have their types noted,
 /// as the checker leaves it. It fails for want of memory alone, and the program is spent then.
 pub fn optimise(alloc: Global, p: Accepted) -> Result<Accepted, AllocError>
@@ -42,13 +41,9 @@ pub fn optimise(alloc: Global, p: Accepted) -> Result<Accepted, AllocError>
         first: &Doubles,
         second: &Beside,
     };
-    let of_legs = Either {
-        first: &Zips,
-        second: &over_one,
-    };
     let of_loops = Either {
         first: &Loops,
-        second: &of_legs,
+        second: &over_one,
     };
     let others = Either {
         first: &Guards,
