@@ -1,7 +1,8 @@
 use std::alloc::Global;
 use std::test::Fail;
 use weld_acts::is_direct;
-use weld_parse::{Read, read_program};
+use weld_parse::read_program;
+use weld_reduce::Read;
 use weld_tokens::{has_too_many_bytes, read_tokens};
 
 /// Reads a text.

@@ -8,4 +8,4 @@ pub mod Asking
 mod Counting
 mod ScriptLemmas
 mod FrontLemmas
-pub mod Sure
+pub mod Counts

@@ -11,7 +11,7 @@ use weld_ports::{Gate, SureSink, SureSource};
 
 /// Runs the program over a source and a sink that never fail. Where the words are in form, the status is that of the
 /// job's answer, for every command, or memory was wanting; where they aren't, it is `Words`, or memory was wanting.
-#[tactic(auto, using(crate::proofs::Sure::never_rises))]
+#[tactic(auto, using(crate::proofs::Counts::never_rises))]
 pub fn weld_surely<R: Threads + Sync, G: Gate>(
     rt: &R,
     alloc: Global,
