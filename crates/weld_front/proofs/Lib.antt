@@ -8,4 +8,3 @@ pub mod Asking
 mod Counting
 mod ScriptLemmas
 mod FrontLemmas
-pub mod Counts

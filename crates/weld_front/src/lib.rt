@@ -13,9 +13,7 @@ mod running;
 mod scripting;
 mod showing;
 mod status;
-mod sure;
 mod words;
 
 pub use front::weld_main;
 pub use status::Status;
-pub use sure::weld_surely;
