@@ -8,3 +8,4 @@ pub mod Asking
 mod Counting
 mod ScriptLemmas
 mod FrontLemmas
+pub mod Counts

@@ -13,7 +13,9 @@ mod running;
 mod scripting;
 mod showing;
 mod status;
+mod sure;
 mod words;
 
 pub use front::weld_main;
 pub use status::Status;
+pub use sure::weld_surely;
