@@ -36,7 +36,7 @@ pub(crate) fn take_half(value: Box<Expr>) -> Half
     requires { is_some (over value.value) ≡ true }
     ensures { IsHalf value.value result }
 {
-    let Expr { form, place, ty } = Box::into_inner(value);
+    let (form, place, ty) = Box::into_inner(value).into_parts();
     let Form::One(_, part) = form else {
         unreachable!();
     };
@@ -51,11 +51,7 @@ fn take_run(e: Box<Expr>) -> Run
     requires { is_some (loop_over e.value) ≡ true }
     ensures { IsRun e.value result }
 {
-    let Expr {
-        form,
-        place: _,
-        ty: _,
-    } = Box::into_inner(e);
+    let (form, _, _) = Box::into_inner(e).into_parts();
     let Form::For(legs, start, builder, number, row, body) = form else {
         unreachable!();
     };

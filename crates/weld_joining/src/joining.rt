@@ -41,7 +41,7 @@ fn from_first(
     requires { is_followed binder value.value rest.value ≡ true }
     ensures { IfOk result (λ e. e ≡ joined_pair (let_in (at_of outer) binder value.value rest.value)) }
 {
-    let Expr { form, place, ty } = Box::into_inner(rest);
+    let (form, place, ty) = Box::into_inner(rest).into_parts();
     let Form::Let(other, after, rest) = form else {
         unreachable!();
     };

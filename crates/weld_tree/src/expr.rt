@@ -1,3 +1,6 @@
+ghost use Rattle.std.specs.Prelude.{◌≡◌};
+ghost use Rattle.weld_tree.specs.ExprView.{view_form};
+
 use crate::binder::Binder;
 use crate::known::Known;
 use crate::place::Place;
@@ -14,11 +17,40 @@ pub use loops::loops_of;
 
 /// An expression of a program. Contracts see it as plain data, an `ExprTree`.
 #[cycle(expr)]
-#[derive(Drop)]
 pub struct Expr {
     pub form: Form,
     pub place: Place,
     pub ty: Known,
+}
+
+/// By a loop along bodies of lets and left operands, so that neither a thousand lets nor a long sum
+/// takes stack.
+impl Drop for Expr {
+    #[cycle(expr)]
+    fn drop(mut self) {
+        loop {
+            let Expr {
+                form,
+                place: _,
+                ty: _,
+            } = self;
+            match form {
+                Form::Let(_binder, _value, body) => self = Box::into_inner(body),
+                Form::Two(_, left, _right) => self = Box::into_inner(left),
+                _other => return,
+            }
+        }
+    }
+}
+
+impl Expr {
+    /// The expression's form, place and type, given up. It takes no memory.
+    pub fn into_parts(self) -> (Form, Place, Known)
+        ensures { view_form result.0 (record { place = result.1; ty = result.2 }) ≡ self }
+    {
+        let Expr { form, place, ty } = self;
+        (form, place, ty)
+    }
 }
 
 /// What an expression is, one level of it, by how many parts it has.

@@ -61,11 +61,7 @@ fn join(
         → view_form form at ≡ joined at start.value builder consumer.number consumer.row
         consumer.body.value producer.value) }
 {
-    let Expr {
-        form,
-        place: _,
-        ty: _,
-    } = Box::into_inner(producer);
+    let (form, _, _) = Box::into_inner(producer).into_parts();
     let Form::For(legs, _, _, count, item, inside) = form else {
         unreachable!();
     };
@@ -95,11 +91,7 @@ fn producer_of(leg: Leg) -> Box<Expr>
     let Leg::Whole(e) = leg else {
         unreachable!();
     };
-    let Expr {
-        form,
-        place: _,
-        ty: _,
-    } = Box::into_inner(e);
+    let (form, _, _) = Box::into_inner(e).into_parts();
     let Form::One(_, producer) = form else {
         unreachable!();
     };

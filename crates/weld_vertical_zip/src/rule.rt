@@ -205,11 +205,7 @@ fn over_all(others: Others, outer: Outer, producer: Box<Expr>) -> Result<Form, A
         (pack_legs (map view_leg others.after.items)) producer.value) }
 {
     let Others { before, after } = others;
-    let Expr {
-        form,
-        place: _,
-        ty: _,
-    } = Box::into_inner(producer);
+    let (form, _, _) = Box::into_inner(producer).into_parts();
     let Form::For(legs, _, _, count, own, body) = form else {
         unreachable!();
     };
@@ -261,11 +257,7 @@ fn producer_of(leg: Leg) -> Box<Expr>
     let Leg::Whole(e) = leg else {
         unreachable!();
     };
-    let Expr {
-        form,
-        place: _,
-        ty: _,
-    } = Box::into_inner(e);
+    let (form, _, _) = Box::into_inner(e).into_parts();
     let Form::One(_, producer) = form else {
         unreachable!();
     };
