@@ -1,4 +1,4 @@
--- Frames of a scope, and parameters one by one from the last.
+-- Parameters one by one from the last.
 use Rattle.std.proofs.Common.{◌≡◌, List, [], ◌∷◌, ◌++◌, Some, sym, ap, ◌∙◌, refl, All, IsSome, Bor}
 use Rattle.std.proofs.lemmas.List.{append_assoc}
 use Rattle.std.proofs.lemmas.List.Elements.{All-pop}
@@ -6,17 +6,6 @@ use Rattle.weld_meaning.specs.Typing.{Types, noted_type, param_types}
 use Rattle.weld_tree.specs.TypeTree.{TypeTree}
 use Rattle.weld_tree.specs.declared.sym.Sym.{Sym}
 use Rattle.weld_tree.specs.declared.binder.Binder.{Binder}
-use Rattle.weld_types.specs.declared.scope.Scope.{Scope}
-use Rattle.weld_types.specs.declared.scope.Scope.TheFolds.{fold-roll-Scope}
-use Rattle.weld_types.specs.declared.scope.Scope.TheOpen.{Scope-F}
-use Rattle.weld_types.specs.declared.scope.Scope.TheVariants.{Empty, rolls-Empty, Bound, rolls-Bound}
-use Rattle.weld_types.specs.ScopeView.{scope_step, view_scope}
-
-pub no_frame : view_scope Empty ≡ []
-no_frame = ap view_scope (sym rolls-Empty) ∙ fold-roll-Scope Types scope_step Scope-F.Empty
-
-pub one_frame : (s : Sym) (t : Bor TypeTree) (rest : Bor Scope) → view_scope (Bound s t rest) ≡ (s.0, t.now) ∷ view_scope rest.now
-one_frame s t rest = ap view_scope (sym (rolls-Bound s t rest)) ∙ fold-roll-Scope Types scope_step (Scope-F.Bound s t rest)
 
 types_append : (bs cs : List Binder) → param_types (bs ++ cs) ≡ param_types bs ++ param_types cs
 types_append [] cs = refl

@@ -4,7 +4,6 @@ ghost use Rattle.weld_tree.specs.TypeTree.{vec, struct as struct_type, pack};
 ghost use Rattle.weld_tree.specs.ExprTree.{pack_exprs};
 ghost use Rattle.weld_tree.specs.ExprView.{view_one, view_two};
 ghost use Rattle.weld_meaning.specs.Typing.{param_types, ProgramHas};
-ghost use Rattle.weld_types.specs.ScopeView.{view_scope};
 ghost use Rattle.weld_answer_type.specs.Answered.{one_answer, two_answer, answered, first_answered, all_answered};
 
 use crate::nodes::{field_answer, leaf_answer, looked_up_answer, operated_answer, result_answer};
@@ -23,7 +22,7 @@ pub fn answer_type(alloc: Global, p: &Accepted) -> Result<Ty, AllocError>
         alloc,
         program.params.as_slice(),
         &program.body,
-        &Scope::Empty,
+        &Scope::empty(),
     )
 }
 
@@ -36,18 +35,18 @@ fn under_params(
     scope: &Scope,
 ) -> Result<Ty, AllocError>
     requires { All (λ b. IsSome b.note) params.now }
-    ensures { IfOk result (λ ty. ty ≡ answered body.now (param_types params.now ++ view_scope scope.now)) }
+    ensures { IfOk result (λ ty. ty ≡ answered body.now (param_types params.now ++ scope.now)) }
 {
     let Some((last, before)) = params.split_last() else {
         return answer(alloc, body, scope);
     };
     let Some(ty) = &last.note else { unreachable!() };
-    under_params(alloc, before, body, &Scope::Bound(last.sym, ty, &*scope))
+    under_params(alloc, before, body, &Scope::bound(last.sym, ty, &*scope))
 }
 
 #[cycle(answer)]
 fn answer(alloc: Global, e: &Expr, scope: &Scope) -> Result<Ty, AllocError>
-    ensures { IfOk result (λ ty. ty ≡ answered e.now (view_scope scope.now)) }
+    ensures { IfOk result (λ ty. ty ≡ answered e.now scope.now) }
 {
     match &e.form {
         Form::Leaf(leaf) => leaf_answer(alloc, leaf, scope),
@@ -69,7 +68,7 @@ fn answer(alloc: Global, e: &Expr, scope: &Scope) -> Result<Ty, AllocError>
 
 #[cycle(answer)]
 fn one_under(alloc: Global, one: &OneForm, part: &Expr, scope: &Scope) -> Result<Ty, AllocError>
-    ensures { IfOk result (λ ty. ty ≡ one_answer (view_one one.now) (answered part.now (view_scope scope.now))) }
+    ensures { IfOk result (λ ty. ty ≡ one_answer (view_one one.now) (answered part.now scope.now)) }
 {
     match one {
         OneForm::Neg => answer(alloc, part, scope),
@@ -90,7 +89,7 @@ fn one_under(alloc: Global, one: &OneForm, part: &Expr, scope: &Scope) -> Result
 
 #[cycle(answer)]
 fn two_under(alloc: Global, two: TwoForm, first: &Expr, scope: &Scope) -> Result<Ty, AllocError>
-    ensures { IfOk result (λ ty. ty ≡ two_answer (view_two two) (answered first.now (view_scope scope.now))) }
+    ensures { IfOk result (λ ty. ty ≡ two_answer (view_two two) (answered first.now scope.now)) }
 {
     match two {
         TwoForm::Binary(op) => {
@@ -108,7 +107,7 @@ fn two_under(alloc: Global, two: TwoForm, first: &Expr, scope: &Scope) -> Result
 
 #[cycle(answer)]
 fn vec_under(alloc: Global, parts: &Exprs, scope: &Scope) -> Result<Ty, AllocError>
-    ensures { IfOk result (λ ty. ty ≡ vec (first_answered (pack_exprs parts.now) (view_scope scope.now))) }
+    ensures { IfOk result (λ ty. ty ≡ vec (first_answered (pack_exprs parts.now) scope.now)) }
 {
     match parts.as_slice() {
         [] => Ty::vec_of(alloc, Ty::scalar(Kind::Bool)),
@@ -121,7 +120,7 @@ fn vec_under(alloc: Global, parts: &Exprs, scope: &Scope) -> Result<Ty, AllocErr
 
 #[cycle(answer)]
 fn struct_under(alloc: Global, parts: &Exprs, scope: &Scope) -> Result<Ty, AllocError>
-    ensures { IfOk result (λ ty. ty ≡ struct_type (all_answered (pack_exprs parts.now) (view_scope scope.now))) }
+    ensures { IfOk result (λ ty. ty ≡ struct_type (all_answered (pack_exprs parts.now) scope.now)) }
 {
     let mut fields = Tys::new(alloc);
     for part in parts.as_slice() {
@@ -139,8 +138,8 @@ fn let_under(
     body: &Expr,
     scope: &Scope,
 ) -> Result<Ty, AllocError>
-    ensures { IfOk result (λ ty. ty ≡ answered body.now ((binder.now.sym.0, answered value.now (view_scope scope.now)) ∷ view_scope scope.now)) }
+    ensures { IfOk result (λ ty. ty ≡ answered body.now ((binder.now.sym.0, answered value.now scope.now) ∷ scope.now)) }
 {
     let ty = answer(alloc, value, scope)?;
-    answer(alloc, body, &Scope::Bound(binder.sym, &ty, &*scope))
+    answer(alloc, body, &Scope::bound(binder.sym, &ty, &*scope))
 }

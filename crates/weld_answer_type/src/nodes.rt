@@ -3,7 +3,6 @@ ghost use Rattle.std.specs.Prelude.{◌≡◌, IfOk};
 ghost use Rattle.weld_tree.specs.TypeTree.{pack};
 ghost use Rattle.weld_meaning.specs.Typing.{truth_type};
 ghost use Rattle.weld_tree.specs.ExprView.{view_leaf};
-ghost use Rattle.weld_types.specs.ScopeView.{view_scope};
 ghost use Rattle.weld_answer_type.specs.Answered.{leaf_answer, nth_type, field_answer, result_answer, operated_answer, looked_up_answer};
 
 use std::alloc::{AllocError, Global};
@@ -19,7 +18,7 @@ fn no_type() -> Ty
 }
 
 pub(crate) fn leaf_answer(alloc: Global, leaf: &LeafForm, scope: &Scope) -> Result<Ty, AllocError>
-    ensures { IfOk result (λ ty. ty ≡ leaf_answer (view_leaf leaf.now) (view_scope scope.now)) }
+    ensures { IfOk result (λ ty. ty ≡ leaf_answer (view_leaf leaf.now) scope.now) }
 {
     match leaf {
         LeafForm::Int(kind, _) => Ok(Ty::scalar(*kind)),

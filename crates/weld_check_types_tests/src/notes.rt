@@ -89,7 +89,7 @@ fn each_node_of_a_sum_has_its_note(rt: HostRuntime) -> Result<(), Fail> {
     let alloc = rt.alloc();
     let wanted = types_of_a_sum(alloc)?;
     let mut e = sums_to(alloc, 7)?;
-    match note_types(alloc, &mut e, &Scope::Empty) {
+    match note_types(alloc, &mut e, &Scope::empty()) {
         Ok(ty) => assert!(rt; ty.same(&wanted.truth) && all_are(&e, &wanted)),
         Err(refusal) => assert_eq!(rt; refusal, Refusal::Memory),
     }

@@ -6,4 +6,3 @@ pub mod Marks
 pub mod Names
 pub mod Lists
 pub mod Fields
-pub mod Scopes

@@ -6,9 +6,11 @@ pub mod available;
 pub mod laws;
 pub mod path;
 pub mod scope;
+pub mod seen;
 pub mod source;
 
 pub use available::{Available, Builder};
 pub use path::Path;
 pub use scope::Scope;
+pub use seen::Seen;
 pub use source::{Label, Source, SourceForm, Sources};

@@ -4,7 +4,6 @@ ghost use Rattle.weld_meaning.specs.Typing.{param_types};
 ghost use Rattle.weld_tree.specs.TypeTree.{TypeTree};
 ghost use Rattle.weld_type_walk.specs.Noted.{typed};
 ghost use Rattle.weld_types.specs.Says.{Allows, Says};
-ghost use Rattle.weld_types.specs.ScopeView.{view_scope};
 ghost use Rattle.weld_types.specs.Walk.{Found, found, go_on, demand_at, param_types_fit, place_of, type_of};
 ghost use Rattle.weld_types.specs.Tests.{is_builder_free};
 ghost use Rattle.weld_tree.specs.declared.code.Code.TheVariants.{Y3};
@@ -25,7 +24,7 @@ pub fn note_program(alloc: Global, params: &[Binder], body: &mut Expr) -> Result
 {
     check_params(params)?;
     let place = body.place;
-    let ty = body_under(alloc, params, body, &Scope::Empty)?;
+    let ty = body_under(alloc, params, body, &Scope::empty())?;
     check_answer(&ty, place)?;
     Ok(ty)
 }
@@ -53,12 +52,12 @@ fn body_under(
     scope: &Scope,
 ) -> Result<Ty, Refusal>
     requires { All (λ b. IsSome b.note) params.now }
-    ensures found { Says result (type_of body.old (param_types params.now ++ view_scope scope.now)) }
-    ensures noted { IfOk result (λ _. body.new ≡ typed body.old (param_types params.now ++ view_scope scope.now)) }
+    ensures found { Says result (type_of body.old (param_types params.now ++ scope.now)) }
+    ensures noted { IfOk result (λ _. body.new ≡ typed body.old (param_types params.now ++ scope.now)) }
 {
     let Some((last, before)) = params.split_last() else {
         return note_types(alloc, body, scope);
     };
     let Some(ty) = &last.note else { unreachable!() };
-    body_under(alloc, before, body, &Scope::Bound(last.sym, ty, &*scope))
+    body_under(alloc, before, body, &Scope::bound(last.sym, ty, &*scope))
 }

@@ -10,7 +10,6 @@ ghost use Rattle.weld_tree.specs.declared.known.Known.{Known};
 ghost use Rattle.weld_type_walk.specs.Gathered.{GathersLeg, Pushes, SaysStrips, SaysTypes, type_behind_legs, view_strips};
 ghost use Rattle.weld_type_walk.specs.Noted.{all_with_types, at, leg_with_types, legs_with_types, rows_found, typed, under, with_types};
 ghost use Rattle.weld_types.specs.Says.{Allows, Says};
-ghost use Rattle.weld_types.specs.ScopeView.{view_scope};
 ghost use Rattle.weld_types.specs.Tests.{is_builder_free, same_type};
 ghost use Rattle.weld_types.specs.Walk.{Found, found, at_node, demand_at, go_on, many_type, noted, one_type, strips_of, three_type, two_type, type_of, types_of};
 
@@ -31,8 +30,8 @@ use weld_types::{
 /// Weld); want of memory.
 #[cycle(walk)]
 pub fn note_types(alloc: Global, e: &mut Expr, scope: &Scope) -> Result<Ty, Refusal>
-    ensures found { Says result (type_of e.old (view_scope scope.now)) }
-    ensures noted { IfOk result (λ _. e.new ≡ typed e.old (view_scope scope.now)) }
+    ensures found { Says result (type_of e.old scope.now) }
+    ensures noted { IfOk result (λ _. e.new ≡ typed e.old scope.now) }
 {
     let ty = form_under(alloc, &mut e.form, e.place, scope)?;
     match ty.copy(alloc) {
@@ -47,8 +46,8 @@ pub fn note_types(alloc: Global, e: &mut Expr, scope: &Scope) -> Result<Ty, Refu
 /// The type of the node of such a form; the types of its parts are noted at them.
 #[cycle(walk)]
 fn form_under(alloc: Global, form: &mut Form, place: Place, scope: &Scope) -> Result<Ty, Refusal>
-    ensures found { (k : Known) → Says result (type_of (view_form form.old (at place k)) (view_scope scope.now)) }
-    ensures noted { IfOk result (λ _. (k j : Known) → view_form form.new (at place j) ≡ with_types (view_form form.old (at place k)) j (view_scope scope.now)) }
+    ensures found { (k : Known) → Says result (type_of (view_form form.old (at place k)) scope.now) }
+    ensures noted { IfOk result (λ _. (k j : Known) → view_form form.new (at place j) ≡ with_types (view_form form.old (at place k)) j scope.now) }
 {
     match form {
         Form::Leaf(leaf) => leaf_type(leaf, scope, place, alloc),
@@ -76,8 +75,8 @@ fn one_under(
     place: Place,
     scope: &Scope,
 ) -> Result<Ty, Refusal>
-    ensures found { Says result (go_on (type_of part.old (view_scope scope.now)) (λ u. at_node place (one_type (view_one one.now) u))) }
-    ensures noted { IfOk result (λ _. part.new ≡ typed part.old (view_scope scope.now)) }
+    ensures found { Says result (go_on (type_of part.old scope.now) (λ u. at_node place (one_type (view_one one.now) u))) }
+    ensures noted { IfOk result (λ _. part.new ≡ typed part.old scope.now) }
 {
     let part = note_types(alloc, part, scope)?;
     one_type(one, &part, place, alloc)
@@ -92,9 +91,9 @@ fn two_under(
     place: Place,
     scope: &Scope,
 ) -> Result<Ty, Refusal>
-    ensures found { Says result (go_on (type_of first.old (view_scope scope.now)) (λ u. go_on (type_of second.old (view_scope scope.now)) (λ v. at_node place (two_type (view_two two) u v)))) }
-    ensures first { IfOk result (λ _. first.new ≡ typed first.old (view_scope scope.now)) }
-    ensures second { IfOk result (λ _. second.new ≡ typed second.old (view_scope scope.now)) }
+    ensures found { Says result (go_on (type_of first.old scope.now) (λ u. go_on (type_of second.old scope.now) (λ v. at_node place (two_type (view_two two) u v)))) }
+    ensures first { IfOk result (λ _. first.new ≡ typed first.old scope.now) }
+    ensures second { IfOk result (λ _. second.new ≡ typed second.old scope.now) }
 {
     let first = note_types(alloc, first, scope)?;
     let second = note_types(alloc, second, scope)?;
@@ -111,10 +110,10 @@ fn three_under(
     place: Place,
     scope: &Scope,
 ) -> Result<Ty, Refusal>
-    ensures found { Says result (go_on (type_of first.old (view_scope scope.now)) (λ u. go_on (type_of second.old (view_scope scope.now)) (λ v. go_on (type_of third.old (view_scope scope.now)) (λ w. at_node place (three_type (view_three three) u v w))))) }
-    ensures first { IfOk result (λ _. first.new ≡ typed first.old (view_scope scope.now)) }
-    ensures second { IfOk result (λ _. second.new ≡ typed second.old (view_scope scope.now)) }
-    ensures third { IfOk result (λ _. third.new ≡ typed third.old (view_scope scope.now)) }
+    ensures found { Says result (go_on (type_of first.old scope.now) (λ u. go_on (type_of second.old scope.now) (λ v. go_on (type_of third.old scope.now) (λ w. at_node place (three_type (view_three three) u v w))))) }
+    ensures first { IfOk result (λ _. first.new ≡ typed first.old scope.now) }
+    ensures second { IfOk result (λ _. second.new ≡ typed second.old scope.now) }
+    ensures third { IfOk result (λ _. third.new ≡ typed third.old scope.now) }
 {
     let first = note_types(alloc, first, scope)?;
     let second = note_types(alloc, second, scope)?;
@@ -131,8 +130,8 @@ fn many_under(
     place: Place,
     scope: &Scope,
 ) -> Result<Ty, Refusal>
-    ensures found { Says result (go_on (types_of (pack_exprs parts.old) (view_scope scope.now)) (λ us. at_node place (many_type (view_many many) us))) }
-    ensures noted { IfOk result (λ _. pack_exprs parts.new ≡ all_with_types (pack_exprs parts.old) (view_scope scope.now)) }
+    ensures found { Says result (go_on (types_of (pack_exprs parts.old) scope.now) (λ us. at_node place (many_type (view_many many) us))) }
+    ensures noted { IfOk result (λ _. pack_exprs parts.new ≡ all_with_types (pack_exprs parts.old) scope.now) }
 {
     let types = each_under(alloc, parts.as_mut_slice(), scope)?;
     many_type(many, types, place, alloc)
@@ -142,8 +141,8 @@ fn many_under(
 #[cycle(walk)]
 #[tactic(auto, using(crate::proofs::Left::no_type_left))]
 fn each_under(alloc: Global, parts: &mut [Expr], scope: &Scope) -> Result<Tys, Refusal>
-    ensures found { SaysTypes result (types_of (pack_exprs parts.old) (view_scope scope.now)) }
-    ensures noted { IfOk result (λ _. parts.new ≡ map (λ e. typed e (view_scope scope.now)) parts.old) }
+    ensures found { SaysTypes result (types_of (pack_exprs parts.old) scope.now) }
+    ensures noted { IfOk result (λ _. parts.new ≡ map (λ e. typed e scope.now) parts.old) }
 {
     let mut types = Tys::new(alloc);
     for part in parts.iter_mut() {
@@ -158,8 +157,8 @@ fn each_under(alloc: Global, parts: &mut [Expr], scope: &Scope) -> Result<Tys, R
 /// Puts the type of the expression behind those before.
 #[cycle(walk)]
 fn push_under(alloc: Global, e: &mut Expr, types: &mut Tys, scope: &Scope) -> Result<(), Refusal>
-    ensures found { Pushes result (type_of e.old (view_scope scope.now)) types.old types.new }
-    ensures noted { IfOk result (λ _. e.new ≡ typed e.old (view_scope scope.now)) }
+    ensures found { Pushes result (type_of e.old scope.now) types.old types.new }
+    ensures noted { IfOk result (λ _. e.new ≡ typed e.old scope.now) }
 {
     let ty = note_types(alloc, e, scope)?;
     match types.push(ty) {
@@ -176,13 +175,13 @@ fn let_under(
     binder: &Binder,
     scope: &Scope,
 ) -> Result<Ty, Refusal>
-    ensures found { Says result (go_on (type_of value.old (view_scope scope.now)) (λ u. noted binder.now.note binder.now u (type_of body.old ((binder.now.sym.0, u) ∷ view_scope scope.now)))) }
-    ensures value { IfOk result (λ _. value.new ≡ typed value.old (view_scope scope.now)) }
-    ensures body { IfOk result (λ _. body.new ≡ under (type_of value.old (view_scope scope.now)) (λ u. typed body.old ((binder.now.sym.0, u) ∷ view_scope scope.now)) body.old) }
+    ensures found { Says result (go_on (type_of value.old scope.now) (λ u. noted binder.now.note binder.now u (type_of body.old ((binder.now.sym.0, u) ∷ scope.now)))) }
+    ensures value { IfOk result (λ _. value.new ≡ typed value.old scope.now) }
+    ensures body { IfOk result (λ _. body.new ≡ under (type_of value.old scope.now) (λ u. typed body.old ((binder.now.sym.0, u) ∷ scope.now)) body.old) }
 {
     let ty = note_types(alloc, value, scope)?;
     check_note(binder, &ty)?;
-    note_types(alloc, body, &Scope::Bound(binder.sym, &ty, &*scope))
+    note_types(alloc, body, &Scope::bound(binder.sym, &ty, &*scope))
 }
 
 #[cycle(walk)]
@@ -194,15 +193,15 @@ fn iterate_under(
     place: Place,
     scope: &Scope,
 ) -> Result<Ty, Refusal>
-    ensures found { Says result (go_on (type_of state.old (view_scope scope.now)) (λ s. demand_at (is_builder_free s) Y27 place (noted binder.now.note binder.now s
-        (go_on (type_of body.old ((binder.now.sym.0, s) ∷ view_scope scope.now)) (λ u. demand_at (same_type u (pair_of s truth_type)) Y27 place (found s)))))) }
-    ensures state { IfOk result (λ _. state.new ≡ typed state.old (view_scope scope.now)) }
-    ensures body { IfOk result (λ _. body.new ≡ under (type_of state.old (view_scope scope.now)) (λ s. typed body.old ((binder.now.sym.0, s) ∷ view_scope scope.now)) body.old) }
+    ensures found { Says result (go_on (type_of state.old scope.now) (λ s. demand_at (is_builder_free s) Y27 place (noted binder.now.note binder.now s
+        (go_on (type_of body.old ((binder.now.sym.0, s) ∷ scope.now)) (λ u. demand_at (same_type u (pair_of s truth_type)) Y27 place (found s)))))) }
+    ensures state { IfOk result (λ _. state.new ≡ typed state.old scope.now) }
+    ensures body { IfOk result (λ _. body.new ≡ under (type_of state.old scope.now) (λ s. typed body.old ((binder.now.sym.0, s) ∷ scope.now)) body.old) }
 {
     let ty = note_types(alloc, state, scope)?;
     check_state(&ty, place)?;
     check_note(binder, &ty)?;
-    let turn = note_types(alloc, body, &Scope::Bound(binder.sym, &ty, &*scope))?;
+    let turn = note_types(alloc, body, &Scope::bound(binder.sym, &ty, &*scope))?;
     check_turn(&turn, &ty, place)?;
     Ok(ty)
 }
@@ -219,11 +218,11 @@ fn loop_under(
     place: Place,
     scope: &Scope,
 ) -> Result<Ty, Refusal>
-    ensures found { Says result (go_on (strips_of (pack_legs legs.old) (view_scope scope.now)) (λ s. type_behind_legs place s builder.old b.now n.now x.now body.old (view_scope scope.now))) }
-    ensures legs { IfOk result (λ _. pack_legs legs.new ≡ legs_with_types (pack_legs legs.old) (view_scope scope.now)) }
-    ensures builder { IfOk result (λ _. builder.new ≡ typed builder.old (view_scope scope.now)) }
-    ensures body { IfOk result (λ _. body.new ≡ under (rows_found place (strips_of (pack_legs legs.old) (view_scope scope.now)) (type_of builder.old (view_scope scope.now)))
-        (λ tr. typed body.old (body_types b.now n.now x.now tr.0 tr.1 (view_scope scope.now))) body.old) }
+    ensures found { Says result (go_on (strips_of (pack_legs legs.old) scope.now) (λ s. type_behind_legs place s builder.old b.now n.now x.now body.old scope.now)) }
+    ensures legs { IfOk result (λ _. pack_legs legs.new ≡ legs_with_types (pack_legs legs.old) scope.now) }
+    ensures builder { IfOk result (λ _. builder.new ≡ typed builder.old scope.now) }
+    ensures body { IfOk result (λ _. body.new ≡ under (rows_found place (strips_of (pack_legs legs.old) scope.now) (type_of builder.old scope.now))
+        (λ tr. typed body.old (body_types b.now n.now x.now tr.0 tr.1 scope.now)) body.old) }
 {
     let strips = legs_under(alloc, legs, scope)?;
     rows_under(alloc, builder, body, b, n, x, &strips, place, scope)
@@ -233,8 +232,8 @@ fn loop_under(
 #[cycle(walk)]
 #[tactic(auto)]
 fn legs_under(alloc: Global, legs: &mut Legs, scope: &Scope) -> Result<Strips, Refusal>
-    ensures found { SaysStrips result (strips_of (pack_legs legs.old) (view_scope scope.now)) }
-    ensures noted { IfOk result (λ _. pack_legs legs.new ≡ legs_with_types (pack_legs legs.old) (view_scope scope.now)) }
+    ensures found { SaysStrips result (strips_of (pack_legs legs.old) scope.now) }
+    ensures noted { IfOk result (λ _. pack_legs legs.new ≡ legs_with_types (pack_legs legs.old) scope.now) }
 {
     each_leg_under(alloc, legs.as_mut_slice(), scope)
 }
@@ -243,8 +242,8 @@ fn legs_under(alloc: Global, legs: &mut Legs, scope: &Scope) -> Result<Strips, R
 #[cycle(walk)]
 #[tactic(auto)]
 fn each_leg_under(alloc: Global, legs: &mut [Leg], scope: &Scope) -> Result<Strips, Refusal>
-    ensures found { SaysStrips result (strips_of (pack_legs (map view_leg legs.old)) (view_scope scope.now)) }
-    ensures noted { IfOk result (λ _. map view_leg legs.new ≡ map (λ leg. leg_with_types leg (view_scope scope.now)) (map view_leg legs.old)) }
+    ensures found { SaysStrips result (strips_of (pack_legs (map view_leg legs.old)) scope.now) }
+    ensures noted { IfOk result (λ _. map view_leg legs.new ≡ map (λ leg. leg_with_types leg scope.now) (map view_leg legs.old)) }
 {
     let mut strips = Strips::new(alloc);
     for leg in legs.iter_mut() {
@@ -265,8 +264,8 @@ fn leg_under(
     strips: &mut Strips,
     scope: &Scope,
 ) -> Result<(), Refusal>
-    ensures found { GathersLeg result (view_leg leg.old) (view_scope scope.now) strips.old strips.new }
-    ensures noted { IfOk result (λ _. view_leg leg.new ≡ leg_with_types (view_leg leg.old) (view_scope scope.now)) }
+    ensures found { GathersLeg result (view_leg leg.old) scope.now strips.old strips.new }
+    ensures noted { IfOk result (λ _. view_leg leg.new ≡ leg_with_types (view_leg leg.old) scope.now) }
 {
     match leg {
         Leg::Whole(vector) => push_under(alloc, vector, &mut strips.vectors, scope),
@@ -292,10 +291,10 @@ fn rows_under(
     place: Place,
     scope: &Scope,
 ) -> Result<Ty, Refusal>
-    ensures found { Says result (type_behind_legs place (view_strips strips.now) builder.old b.now n.now x.now body.old (view_scope scope.now)) }
-    ensures builder { IfOk result (λ _. builder.new ≡ typed builder.old (view_scope scope.now)) }
-    ensures body { IfOk result (λ _. body.new ≡ under (rows_found place (found (view_strips strips.now)) (type_of builder.old (view_scope scope.now)))
-        (λ tr. typed body.old (body_types b.now n.now x.now tr.0 tr.1 (view_scope scope.now))) body.old) }
+    ensures found { Says result (type_behind_legs place (view_strips strips.now) builder.old b.now n.now x.now body.old scope.now) }
+    ensures builder { IfOk result (λ _. builder.new ≡ typed builder.old scope.now) }
+    ensures body { IfOk result (λ _. body.new ≡ under (rows_found place (found (view_strips strips.now)) (type_of builder.old scope.now))
+        (λ tr. typed body.old (body_types b.now n.now x.now tr.0 tr.1 scope.now)) body.old) }
 {
     let ty = note_types(alloc, builder, scope)?;
     let row = row_type(&strips.vectors, &strips.bounds, &ty, place, alloc)?;
@@ -317,12 +316,12 @@ fn body_under(
     place: Place,
     scope: &Scope,
 ) -> Result<(), Refusal>
-    ensures found { (later : Found TypeTree) → Allows result (go_on (type_of body.old (body_types b.now n.now x.now builder.now row.now (view_scope scope.now))) (λ u. demand_at (same_type u builder.now) Y26 place later)) later }
-    ensures noted { IfOk result (λ _. body.new ≡ typed body.old (body_types b.now n.now x.now builder.now row.now (view_scope scope.now))) }
+    ensures found { (later : Found TypeTree) → Allows result (go_on (type_of body.old (body_types b.now n.now x.now builder.now row.now scope.now)) (λ u. demand_at (same_type u builder.now) Y26 place later)) later }
+    ensures noted { IfOk result (λ _. body.new ≡ typed body.old (body_types b.now n.now x.now builder.now row.now scope.now)) }
 {
     let number = Ty::scalar(Kind::I64);
-    let outer = Scope::Bound(b.sym, &*builder, &*scope);
-    let middle = Scope::Bound(n.sym, &number, &outer);
-    let ty = note_types(alloc, body, &Scope::Bound(x.sym, &*row, &middle))?;
+    let outer = Scope::bound(b.sym, &*builder, &*scope);
+    let middle = Scope::bound(n.sym, &number, &outer);
+    let ty = note_types(alloc, body, &Scope::bound(x.sym, &*row, &middle))?;
     check_loop_body(&ty, builder, place)
 }

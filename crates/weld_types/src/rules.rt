@@ -1,7 +1,6 @@
 //! The rules of nodes, by their number of parts.
 ghost use Rattle.weld_types.specs.Walk.{fits, breaks, field_type, at_node, leaf_type, one_type, len_type, field_of_type, result_type, may_start};
 ghost use Rattle.weld_types.specs.Says.{Says};
-ghost use Rattle.weld_types.specs.ScopeView.{view_scope};
 ghost use Rattle.weld_tree.specs.ExprView.{view_leaf, view_one};
 ghost use Rattle.weld_tree.specs.ExprTree.{started};
 ghost use Rattle.weld_types.specs.Tests.{same_type};
@@ -43,7 +42,7 @@ pub(crate) fn sized(ty: Ty, place: Place) -> Result<Ty, Refusal>
 
 /// The type of a node without parts.
 pub fn leaf_type(leaf: &LeafForm, scope: &Scope, place: Place, alloc: Global) -> Result<Ty, Refusal>
-    ensures { Says result (at_node place (leaf_type (view_leaf leaf.now) (view_scope scope.now))) }
+    ensures { Says result (at_node place (leaf_type (view_leaf leaf.now) scope.now)) }
 {
     match leaf {
         LeafForm::Int(kind, _) => sized(Ty::scalar(*kind), place),

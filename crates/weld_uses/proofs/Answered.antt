@@ -206,12 +206,9 @@ no_less {a = a} e h = subst (λ x. x ≤ a) e h
 
 -- ---- with the names in scope known by an equation
 
-pub scope_turn : (g : Named Origin) {h k : Named Origin} {s : ℕ} → h ≡ (s, value) ∷ k → k ≡ outside g → h ≡ (s, value) ∷ outside g
-scope_turn g {s = s} p q = p ∙ (λ i. (s, value) ∷ q i)
-
-pub scope_inside : (g : Named Origin) {h3 h2 h1 h0 : Named Origin} {sx sn sb : ℕ} {mine : Origin} → h3 ≡ (sx, value) ∷ h2 → h2 ≡ (sn, value) ∷ h1 → h1 ≡ (sb, mine) ∷ h0 → h0 ≡ outside g
+pub scope_inside : (g : Named Origin) {h3 h2 h1 : Named Origin} {sx sn sb : ℕ} {mine : Origin} → h3 ≡ (sx, value) ∷ h2 → h2 ≡ (sn, value) ∷ h1 → h1 ≡ (sb, mine) ∷ outside g
     → h3 ≡ (sx, value) ∷ (sn, value) ∷ (sb, mine) ∷ outside g
-scope_inside g {sx = sx} {sn = sn} {sb = sb} {mine = mine} p q r s = p ∙ (λ i. (sx, value) ∷ q i) ∙ (λ i. (sx, value) ∷ (sn, value) ∷ r i) ∙ (λ i. (sx, value) ∷ (sn, value) ∷ (sb, mine) ∷ s i)
+scope_inside g {sx = sx} {sn = sn} {sb = sb} {mine = mine} p q r = p ∙ (λ i. (sx, value) ∷ q i) ∙ (λ i. (sx, value) ∷ (sn, value) ∷ r i)
 
 pub bound_alone : (s : ℕ) (o : Origin) {none m : Left} → m ≡ builders_of s o ++ none → none ≡ [] → m ≡ builders_of s o ++ []
 bound_alone s o p q = p ∙ (λ i. builders_of s o ++ q i)

@@ -9,7 +9,6 @@ ghost use Rattle.weld_tree.specs.ExprView.{view_one, view_two, view_three, view_
 ghost use Rattle.weld_tree.specs.Program.{bound, bound_in, bound_in_leg, bound_in_legs};
 ghost use Rattle.weld_meaning.specs.Available.{chain_of, chain_of_one};
 ghost use Rattle.weld_linear.specs.Resolve.{resolve};
-ghost use Rattle.weld_linear.specs.ScopeView.{view_scope};
 ghost use Rattle.weld_uses.specs.Walks.{at, somewhere, Walks, BodyWalks, AllWalk, LegWalks, LegsWalk, AreClear};
 
 use crate::chain::{chain_of_one, name_place};
@@ -34,7 +33,7 @@ pub(crate) fn walk(
     alloc: Global,
 ) -> Result<Source, Refusal>
     requires { AreClear (bound e.now) left.old }
-    ensures { Walks result e.now (view_scope scope.now) left.old left.new }
+    ensures { Walks result e.now scope.now left.old left.new }
 {
     match &e.form {
         Form::Leaf(leaf) => use_leaf(leaf, e.place, scope, left, alloc),
@@ -66,7 +65,7 @@ fn walk_one(
     alloc: Global,
 ) -> Result<Source, Refusal>
     requires { AreClear (bound part.now) left.old }
-    ensures { Walks result (tree.one (at place) (view_one one.now) part.now) (view_scope scope.now) left.old left.new }
+    ensures { Walks result (tree.one (at place) (view_one one.now) part.now) scope.now left.old left.new }
 {
     match chain_of_one(one, part, alloc) {
         Err(_) => Err(Refusal::Memory),
@@ -86,7 +85,7 @@ fn walk_part(
 ) -> Result<Source, Refusal>
     requires clear { AreClear (bound part.now) left.old }
     requires no_chain { chain_of_one (view_one one.now) (chain_of part.now) ≡ None }
-    ensures { Walks result (tree.one (at place) (view_one one.now) part.now) (view_scope scope.now) left.old left.new }
+    ensures { Walks result (tree.one (at place) (view_one one.now) part.now) scope.now left.old left.new }
 {
     let source = walk(part, scope, left, alloc)?;
     one_answer(one, &source, place, scope, alloc)
@@ -104,7 +103,7 @@ fn walk_two(
 ) -> Result<Source, Refusal>
     requires first { AreClear (bound first.now) left.old }
     requires second { AreClear (bound second.now) left.old }
-    ensures { Walks result (tree.two (at place) (view_two two) first.now second.now) (view_scope scope.now) left.old left.new }
+    ensures { Walks result (tree.two (at place) (view_two two) first.now second.now) scope.now left.old left.new }
 {
     let source = walk(first, scope, left, alloc)?;
     let before = left.len();
@@ -125,7 +124,7 @@ fn walk_if(
     requires condition { AreClear (bound condition.now) left.old }
     requires first { AreClear (bound first.now) left.old }
     requires second { AreClear (bound second.now) left.old }
-    ensures { Walks result (tree.three (at place) if_else condition.now first.now second.now) (view_scope scope.now) left.old left.new }
+    ensures { Walks result (tree.three (at place) if_else condition.now first.now second.now) scope.now left.old left.new }
 {
     walk(condition, scope, left, alloc)?;
     let Ok(mut other) = left.copy(alloc) else {
@@ -157,7 +156,7 @@ fn walk_three(
     requires first { AreClear (bound first.now) left.old }
     requires second { AreClear (bound second.now) left.old }
     requires third { AreClear (bound third.now) left.old }
-    ensures { Walks result (tree.three (at place) (view_three three) first.now second.now third.now) (view_scope scope.now) left.old left.new }
+    ensures { Walks result (tree.three (at place) (view_three three) first.now second.now third.now) scope.now left.old left.new }
 {
     match three {
         ThreeForm::If => walk_if(first, second, third, place, scope, left, alloc),
@@ -179,7 +178,7 @@ fn walk_select(
     requires first { AreClear (bound first.now) left.old }
     requires second { AreClear (bound second.now) left.old }
     requires third { AreClear (bound third.now) left.old }
-    ensures { Walks result (tree.three (at somewhere) select first.now second.now third.now) (view_scope scope.now) left.old left.new }
+    ensures { Walks result (tree.three (at somewhere) select first.now second.now third.now) scope.now left.old left.new }
 {
     walk(first, scope, left, alloc)?;
     walk(second, scope, left, alloc)?;
@@ -196,7 +195,7 @@ fn walk_many(
     alloc: Global,
 ) -> Result<Source, Refusal>
     requires { AreClear (bound_in (pack_exprs parts.now)) left.old }
-    ensures { Walks result (tree.many (at somewhere) (view_many many) (pack_exprs parts.now)) (view_scope scope.now) left.old left.new }
+    ensures { Walks result (tree.many (at somewhere) (view_many many) (pack_exprs parts.now)) scope.now left.old left.new }
 {
     let sources = walk_all(parts, scope, left, alloc)?;
     Ok(many_answer(many, sources))
@@ -210,7 +209,7 @@ fn walk_all(
     alloc: Global,
 ) -> Result<Sources, Refusal>
     requires { AreClear (bound_in (pack_exprs parts.now)) left.old }
-    ensures { AllWalk result (pack_exprs parts.now) (view_scope scope.now) left.old left.new }
+    ensures { AllWalk result (pack_exprs parts.now) scope.now left.old left.new }
 {
     let mut sources = Sources::new(alloc);
     for part in parts.as_slice() {
@@ -235,7 +234,7 @@ fn walk_let(
     alloc: Global,
 ) -> Result<Source, Refusal>
     requires { AreClear (bound (let_in (at somewhere) binder.now value.now body.now)) left.old }
-    ensures { Walks result (let_in (at somewhere) binder.now value.now body.now) (view_scope scope.now) left.old left.new }
+    ensures { Walks result (let_in (at somewhere) binder.now value.now body.now) scope.now left.old left.new }
 {
     let source = walk(value, scope, left, alloc)?;
     let Ok(real) = source.resolve(scope, alloc) else {
@@ -265,11 +264,10 @@ fn walk_iterate(
     alloc: Global,
 ) -> Result<Source, Refusal>
     requires { AreClear (bound (iterate (at somewhere) state.now binder.now body.now)) left.old }
-    ensures { Walks result (iterate (at somewhere) state.now binder.now body.now) (view_scope scope.now) left.old left.new }
+    ensures { Walks result (iterate (at somewhere) state.now binder.now body.now) scope.now left.old left.new }
 {
     walk(state, scope, left, alloc)?;
-    let outer = Scope::outside(&*scope);
-    let inner = Scope::of_value(binder.sym, &outer);
+    let inner = Scope::value_within(binder.sym, &*scope);
     let mut none = Available::new(alloc);
     walk(body, &inner, &mut none, alloc)?;
     Ok(Source::value())
@@ -289,7 +287,7 @@ fn walk_for(
     alloc: Global,
 ) -> Result<Source, Refusal>
     requires { AreClear (bound (loop (at place) (pack_legs legs.now) builder.now b.now n.now x.now body.now)) left.old }
-    ensures { Walks result (loop (at place) (pack_legs legs.now) builder.now b.now n.now x.now body.now) (view_scope scope.now) left.old left.new }
+    ensures { Walks result (loop (at place) (pack_legs legs.now) builder.now b.now n.now x.now body.now) scope.now left.old left.new }
 {
     walk_legs(legs, scope, left, alloc)?;
     let source = walk(builder, scope, left, alloc)?;
@@ -310,7 +308,7 @@ fn walk_body(
     alloc: Global,
 ) -> Result<(), Refusal>
     requires { AreClear (b.now.sym.0 ∷ bound body.now) [] }
-    ensures { BodyWalks result b.now n.now x.now body.now place (resolve (view_scope scope.now) source.now) (view_scope scope.now) }
+    ensures { BodyWalks result b.now n.now x.now body.now place (resolve scope.now source.now) scope.now }
 {
     let Ok(own) = own_builder(source, scope, alloc) else {
         return Err(Refusal::Memory);
@@ -319,8 +317,7 @@ fn walk_body(
     let Ok(()) = left.bind(b.sym, &own, alloc) else {
         return Err(Refusal::Memory);
     };
-    let outer = Scope::outside(&*scope);
-    let with_builder = Scope::bound(b.sym, &own, &outer);
+    let with_builder = Scope::bound_within(b.sym, &own, &*scope);
     let with_number = Scope::of_value(n.sym, &with_builder);
     let inner = Scope::of_value(x.sym, &with_number);
     let answer = walk(body, &inner, &mut left, alloc)?;
@@ -340,7 +337,7 @@ fn walk_body(
 #[cycle(walk)]
 fn walk_legs(legs: &Legs, scope: &Scope, left: &mut Available, alloc: Global) -> Result<(), Refusal>
     requires { AreClear (bound_in_legs (pack_legs legs.now)) left.old }
-    ensures { LegsWalk result (pack_legs legs.now) (view_scope scope.now) left.old left.new }
+    ensures { LegsWalk result (pack_legs legs.now) scope.now left.old left.new }
 {
     for leg in legs.as_slice() {
         match walk_leg(leg, scope, left, alloc) {
@@ -354,7 +351,7 @@ fn walk_legs(legs: &Legs, scope: &Scope, left: &mut Available, alloc: Global) ->
 #[cycle(walk)]
 fn walk_leg(leg: &Leg, scope: &Scope, left: &mut Available, alloc: Global) -> Result<(), Refusal>
     requires { AreClear (bound_in_leg (view_leg leg.now)) left.old }
-    ensures { LegWalks result (view_leg leg.now) (view_scope scope.now) left.old left.new }
+    ensures { LegWalks result (view_leg leg.now) scope.now left.old left.new }
 {
     match leg {
         Leg::Whole(e) => {

@@ -7,7 +7,6 @@ ghost use Rattle.weld_meaning.specs.Available.{at_path};
 ghost use Rattle.weld_meaning.specs.LinearWalk.{paths_below};
 ghost use Rattle.weld_linear.specs.AvailableView.{view_builder, of_name};
 ghost use Rattle.weld_linear.specs.Resolve.{follow, resolve};
-ghost use Rattle.weld_linear.specs.ScopeView.{view_scope};
 ghost use Rattle.weld_linear.specs.Sources.{pack_origins};
 ghost use Rattle.weld_uses.specs.Walks.{at, Walks, UsesChain, EndsOne, EndsTwo};
 
@@ -24,7 +23,7 @@ pub(super) fn use_leaf(
     left: &mut Available,
     alloc: Global,
 ) -> Result<Source, Refusal>
-    ensures { Walks result (tree.leaf (at place) (view_leaf leaf.now)) (view_scope scope.now) left.old left.new }
+    ensures { Walks result (tree.leaf (at place) (view_leaf leaf.now)) scope.now left.old left.new }
 {
     match leaf {
         LeafForm::Name(name) => {
@@ -49,7 +48,7 @@ pub(super) fn use_chain(
     left: &mut Available,
     alloc: Global,
 ) -> Result<Source, Refusal>
-    ensures { UsesChain result (view_builder chain.now) place (view_scope scope.now) left.old left.new }
+    ensures { UsesChain result (view_builder chain.now) place scope.now left.old left.new }
 {
     let Ok(real) = scope.origin_of(chain.name, alloc) else {
         return Err(Refusal::Memory);
@@ -96,7 +95,7 @@ pub(super) fn one_answer(
     scope: &Scope,
     alloc: Global,
 ) -> Result<Source, Refusal>
-    ensures { EndsOne result (view_one one.now) place (view_scope scope.now) part.now }
+    ensures { EndsOne result (view_one one.now) place scope.now part.now }
 {
     match one {
         OneForm::Field(number) => match part.field(*number as usize, alloc) {
@@ -160,7 +159,7 @@ pub(super) fn own_builder(
     scope: &Scope,
     alloc: Global,
 ) -> Result<Source, AllocError>
-    ensures { IfOk result (λ own. own ≡ own_paths (resolve (view_scope scope.now) source.now)) }
+    ensures { IfOk result (λ own. own ≡ own_paths (resolve scope.now source.now)) }
 {
     source.resolve(scope, alloc)?.own_paths(alloc)
 }
@@ -173,10 +172,9 @@ pub(super) fn named_before(
     scope: &Scope,
     alloc: Global,
 ) -> Result<Source, AllocError>
-    ensures { IfOk result (λ o. o ≡ resolve ((name.0, source.now) ∷ by_name (view_scope scope.now)) answer.now) }
+    ensures { IfOk result (λ o. o ≡ resolve ((name.0, source.now) ∷ by_name scope.now) answer.now) }
 {
-    let names = Scope::by_name(&*scope);
-    let inner = Scope::bound(name, &*source, &names);
+    let inner = Scope::bound_by_name(name, &*source, &*scope);
     answer.resolve(&inner, alloc)
 }
 

@@ -1,7 +1,6 @@
 use Rattle.std.proofs.Common.{◌≡◌, ◌+◌, ◌*◌, take, map}
 use Rattle.weld_tree.specs.ExprTree.{pack_exprs}
 use Rattle.weld_tree.specs.ExprFalls.{expr_nodes, exprs_nodes}
-use Rattle.weld_types.specs.ScopeView.{view_scope}
 use Rattle.weld_answer_type.specs.Answered.{answered}
 use Rattle.weld_answer_type.proofs.answer.+answer.Given as goal
 
@@ -26,4 +25,4 @@ decreases-let_under l = 4 * (expr_nodes l.value.now + expr_nodes l.body.now) + 1
 -- the fields before have theirs in the list
 
 abbrev pub invariant-struct_under-loop-part : goal.invariant-struct_under-loop-part
-invariant-struct_under-loop-part l = l.fields ≡ map (λ e. answered e (view_scope l.scope)) (take l.part-index l.part-items)
+invariant-struct_under-loop-part l = l.fields ≡ map (λ e. answered e l.scope) (take l.part-index l.part-items)

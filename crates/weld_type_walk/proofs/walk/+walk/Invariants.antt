@@ -3,7 +3,6 @@ use Rattle.weld_tree.specs.ExprTree.{pack_exprs, pack_legs}
 use Rattle.weld_tree.specs.ExprFalls.{expr_nodes, exprs_nodes, leg_nodes, legs_nodes}
 use Rattle.weld_tree.specs.ExprView.{view_form, view_leg}
 use Rattle.weld_tree.specs.declared.known.Known.TheVariants.{Blank}
-use Rattle.weld_types.specs.ScopeView.{view_scope}
 use Rattle.weld_types.specs.Walk.{strips_of, types_of}
 use Rattle.weld_type_walk.specs.Gathered.{gathered_strips, gathered_types}
 use Rattle.weld_type_walk.specs.Noted.{at, leg_with_types, typed}
@@ -64,10 +63,10 @@ decreases-body_under l = 8 * expr_nodes l.body.now + 2
 
 abbrev pub invariant-each_under-loop-part : goal.invariant-each_under-loop-part
 invariant-each_under-loop-part l =
-    (types_of (pack_exprs l.initial.parts) (view_scope l.scope) ≡ gathered_types l.types (pack_exprs (drop l.part-index l.initial.parts)) (view_scope l.scope))
-    × (l.parts ≡ up_to (λ e. typed e (view_scope l.scope)) l.part-index l.initial.parts)
+    (types_of (pack_exprs l.initial.parts) l.scope ≡ gathered_types l.types (pack_exprs (drop l.part-index l.initial.parts)) l.scope)
+    × (l.parts ≡ up_to (λ e. typed e l.scope) l.part-index l.initial.parts)
 
 abbrev pub invariant-each_leg_under-loop-leg : goal.invariant-each_leg_under-loop-leg
 invariant-each_leg_under-loop-leg l =
-    (strips_of (pack_legs (map view_leg l.initial.legs)) (view_scope l.scope) ≡ gathered_strips l.strips (pack_legs (drop l.leg-index (map view_leg l.initial.legs))) (view_scope l.scope))
-    × (map view_leg l.legs ≡ up_to (λ leg. leg_with_types leg (view_scope l.scope)) l.leg-index (map view_leg l.initial.legs))
+    (strips_of (pack_legs (map view_leg l.initial.legs)) l.scope ≡ gathered_strips l.strips (pack_legs (drop l.leg-index (map view_leg l.initial.legs))) l.scope)
+    × (map view_leg l.legs ≡ up_to (λ leg. leg_with_types leg l.scope) l.leg-index (map view_leg l.initial.legs))

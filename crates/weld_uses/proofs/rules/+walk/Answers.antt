@@ -5,11 +5,10 @@ use Rattle.weld_tree.specs.ExprView.{view_one, view_two, view_leg, view_form}
 use Rattle.weld_tree.specs.Program.{bound, bound_in_legs}
 use Rattle.weld_meaning.specs.LinearWalk.{same_origin, is_not_made}
 use Rattle.weld_linear.specs.AvailableView.{view_builder}
-use Rattle.weld_linear.specs.ScopeView.{view_scope}
 use Rattle.weld_uses.proofs.Clear.{clear_first, clear_second, clear_none, clear_body, clear_lambda}
 use Rattle.weld_uses.proofs.Steps.{chain_walks, part_stops, part_walks, first_stops, second_stops, two_walks, condition_stops, middle_stops, last_stops}
 use Rattle.weld_uses.proofs.Binding.{value_stops, state_stops, legs_stop, builder_stops, loop_body_stops, loop_walks, whole_walks, whole_stops, strided_stops, start_stops, end_stops, stride_stops, strided_walks, many_stops, all_next, legs_next, legs_step, clear_walked, clear_legs}
-use Rattle.weld_uses.proofs.Answered.{clear_same, stop, stop_leg, stop_body, chain_at, three_answers, many_answers, iterate_stops, iterate_answers, let_stops, let_leaves, let_answers, inside_stops, inside_leaves, inside_differs, inside_walks, scope_turn, scope_inside, bound_alone, clear_with, select_no_if, other_arm_stops, arms_leave_others, arms_answer_others, if_answers, both_true, first_false, second_false, leaf_node, one_node, two_node, three_node, many_node, let_node, loop_node, iterate_node, clear_one, clear_two, clear_three, clear_many, clear_let, clear_loop, clear_iterate, leg_stops, walked_leg, clear_leg, clear_node, clear_strided, all_starts, all_refused, all_more, all_answer, legs_start, legs_refused, legs_answer, less, no_less}
+use Rattle.weld_uses.proofs.Answered.{clear_same, stop, stop_leg, stop_body, chain_at, three_answers, many_answers, iterate_stops, iterate_answers, let_stops, let_leaves, let_answers, inside_stops, inside_leaves, inside_differs, inside_walks, scope_inside, bound_alone, clear_with, select_no_if, other_arm_stops, arms_leave_others, arms_answer_others, if_answers, both_true, first_false, second_false, leaf_node, one_node, two_node, three_node, many_node, let_node, loop_node, iterate_node, clear_one, clear_two, clear_three, clear_many, clear_let, clear_loop, clear_iterate, leg_stops, walked_leg, clear_leg, clear_node, clear_strided, all_starts, all_refused, all_more, all_answer, legs_start, legs_refused, legs_answer, less, no_less}
 use Rattle.weld_uses.proofs.rules.+walk.Goals as goal
 use Rattle.weld_uses.proofs.rules.+walk.Goals.{walk_if-else-same-via-then-same+else-is_not_made, walk_if-else-same-via-else-same}
 
@@ -32,7 +31,7 @@ walk_one-walk_part-requires t c =
 
 pub walk_one-returns-in-Ok-Some : goal.walk_one-returns-in-Ok-Some
 walk_one-returns-in-Ok-Some t c =
-    chain_walks c.use_chain.result (view_one c.args.one.now) c.args.part.now c.args.place (view_scope c.args.scope.now) c.args.left.now c.use_chain.new.left (view_builder c.in-Ok-Some.chain)
+    chain_walks c.use_chain.result (view_one c.args.one.now) c.args.part.now c.args.place c.args.scope.now c.args.left.now c.use_chain.new.left (view_builder c.in-Ok-Some.chain)
     (rw c.in-Ok-Some.field-0-is at c.in-Ok-Some.ensures) (chain_at _ _ _ _ _ c.name_place.ensures c.use_chain.ensures)
 
 pub walk_one-returns-in-Ok-None : goal.walk_one-returns-in-Ok-None
@@ -231,11 +230,11 @@ walk_iterate-walk-requires-2 t c =
 pub walk_iterate-returns-in_err-walk-2 : goal.walk_iterate-returns-in_err-walk-2
 walk_iterate-returns-in_err-walk-2 t c =
     let p = err_from_is_err_and c.from_residual-in_err-walk-2.result c.from_residual-in_err-walk-2.ensures.1 in
-    stop _ p.1 p.2 (iterate_stops c.new-none.ensures c.in_ok-walk.ensures c.in_err-walk-2.ensures (scope_turn _ c.of_value-inner.ensures c.outside-outer.ensures))
+    stop _ p.1 p.2 (iterate_stops c.new-none.ensures c.in_ok-walk.ensures c.in_err-walk-2.ensures c.value_within-inner.ensures)
 
 pub walk_iterate-returns : goal.walk_iterate-returns
 walk_iterate-returns t c =
-    iterate_answers c.value.ensures c.new-none.ensures c.in_ok-walk.ensures c.in_ok-walk-2.ensures (scope_turn _ c.of_value-inner.ensures c.outside-outer.ensures)
+    iterate_answers c.value.ensures c.new-none.ensures c.in_ok-walk.ensures c.in_ok-walk-2.ensures c.value_within-inner.ensures
 
 pub walk_for-walk_legs-requires : goal.walk_for-walk_legs-requires
 walk_for-walk_legs-requires t c =
@@ -275,19 +274,19 @@ walk_body-walk-requires t c =
 pub walk_body-returns-in_err-answer : goal.walk_body-returns-in_err-answer
 walk_body-returns-in_err-answer t c =
     let p = err_from_is_err_and c.from_residual.result c.from_residual.ensures.1 in
-    stop_body p.1 p.2 (inside_stops c.in-Ok.ensures (bound_alone c.args.b.now.sym.0 c.in-Ok.own c.in-Ok-bind.ensures c.new-left.ensures) c.in_err-answer.ensures (scope_inside _ c.of_value-inner.ensures c.of_value-with_number.ensures c.bound-with_builder.ensures c.outside-outer.ensures))
+    stop_body p.1 p.2 (inside_stops c.in-Ok.ensures (bound_alone c.args.b.now.sym.0 c.in-Ok.own c.in-Ok-bind.ensures c.new-left.ensures) c.in_err-answer.ensures (scope_inside _ c.of_value-inner.ensures c.of_value-with_number.ensures c.bound_within-with_builder.ensures))
 
 pub walk_body-returns-then-has_name : goal.walk_body-returns-then-has_name
 walk_body-returns-then-has_name t c =
-    inside_leaves c.in-Ok.ensures (bound_alone c.args.b.now.sym.0 c.in-Ok.own c.in-Ok-bind.ensures c.new-left.ensures) c.in_ok-answer.ensures (scope_inside _ c.of_value-inner.ensures c.of_value-with_number.ensures c.bound-with_builder.ensures c.outside-outer.ensures) (sym c.has_name.ensures ∙ c.if-has_name.true)
+    inside_leaves c.in-Ok.ensures (bound_alone c.args.b.now.sym.0 c.in-Ok.own c.in-Ok-bind.ensures c.new-left.ensures) c.in_ok-answer.ensures (scope_inside _ c.of_value-inner.ensures c.of_value-with_number.ensures c.bound_within-with_builder.ensures) (sym c.has_name.ensures ∙ c.if-has_name.true)
 
 pub walk_body-returns-then-same : goal.walk_body-returns-then-same
 walk_body-returns-then-same t c =
-    inside_walks c.in-Ok.ensures (bound_alone c.args.b.now.sym.0 c.in-Ok.own c.in-Ok-bind.ensures c.new-left.ensures) c.in_ok-answer.ensures (scope_inside _ c.of_value-inner.ensures c.of_value-with_number.ensures c.bound-with_builder.ensures c.outside-outer.ensures) (sym c.has_name.ensures ∙ c.if-has_name.false) c.in-Ok-resolve.ensures (sym c.same.ensures ∙ c.if-same.true)
+    inside_walks c.in-Ok.ensures (bound_alone c.args.b.now.sym.0 c.in-Ok.own c.in-Ok-bind.ensures c.new-left.ensures) c.in_ok-answer.ensures (scope_inside _ c.of_value-inner.ensures c.of_value-with_number.ensures c.bound_within-with_builder.ensures) (sym c.has_name.ensures ∙ c.if-has_name.false) c.in-Ok-resolve.ensures (sym c.same.ensures ∙ c.if-same.true)
 
 pub walk_body-returns : goal.walk_body-returns
 walk_body-returns t c =
-    inside_differs c.in-Ok.ensures (bound_alone c.args.b.now.sym.0 c.in-Ok.own c.in-Ok-bind.ensures c.new-left.ensures) c.in_ok-answer.ensures (scope_inside _ c.of_value-inner.ensures c.of_value-with_number.ensures c.bound-with_builder.ensures c.outside-outer.ensures) (sym c.has_name.ensures ∙ c.if-has_name.false) c.in-Ok-resolve.ensures (sym c.same.ensures ∙ c.if-same.false)
+    inside_differs c.in-Ok.ensures (bound_alone c.args.b.now.sym.0 c.in-Ok.own c.in-Ok-bind.ensures c.new-left.ensures) c.in_ok-answer.ensures (scope_inside _ c.of_value-inner.ensures c.of_value-with_number.ensures c.bound_within-with_builder.ensures) (sym c.has_name.ensures ∙ c.if-has_name.false) c.in-Ok-resolve.ensures (sym c.same.ensures ∙ c.if-same.false)
 
 pub walk-returns-in-Leaf : goal.walk-returns-in-Leaf
 walk-returns-in-Leaf t c =

@@ -2,7 +2,6 @@ use Rattle.std.proofs.Common.{◌+◌, ◌*◌}
 use Rattle.weld_tree.specs.ExprTree.{pack_exprs, pack_legs}
 use Rattle.weld_tree.specs.ExprView.{view_leg}
 use Rattle.weld_tree.specs.ExprFalls.{expr_nodes, exprs_nodes, leg_nodes, legs_nodes}
-use Rattle.weld_linear.specs.ScopeView.{view_scope}
 use Rattle.weld_uses.proofs.Binding.{AllSo, LegsSo}
 use Rattle.weld_uses.proofs.rules.+walk.Given as goal
 
@@ -53,7 +52,7 @@ decreases-walk_leg l = 4 * leg_nodes (view_leg l.leg.now) + 1
 
 -- what is refused, answered and left by those so far and by the rest
 abbrev pub invariant-walk_all-loop-part : goal.invariant-walk_all-loop-part
-invariant-walk_all-loop-part l = AllSo l.part-items l.part-index l.sources (view_scope l.scope) l.fn.left l.left
+invariant-walk_all-loop-part l = AllSo l.part-items l.part-index l.sources l.scope l.fn.left l.left
 
 abbrev pub invariant-walk_legs-loop-leg : goal.invariant-walk_legs-loop-leg
-invariant-walk_legs-loop-leg l = LegsSo l.leg-items l.leg-index (view_scope l.scope) l.fn.left l.left
+invariant-walk_legs-loop-leg l = LegsSo l.leg-items l.leg-index l.scope l.fn.left l.left

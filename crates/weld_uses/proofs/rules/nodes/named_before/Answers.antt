@@ -1,8 +1,8 @@
-use Rattle.std.proofs.Common.{◌≡◌, ◌∷◌, ◌∙◌, subst, IfOk}
+use Rattle.std.proofs.Common.{◌≡◌, subst, IfOk}
 use Rattle.weld_linear.specs.Resolve.{resolve}
 use Rattle.weld_uses.proofs.rules.nodes.named_before.Goals as goal
 
 pub returns : goal.returns
 returns c =
     subst (λ g. IfOk c.resolve.result (λ o. o ≡ resolve g c.args.answer.now))
-    (c.bound-inner.ensures ∙ (λ i. (c.args.name.0, c.args.source.now) ∷ c.by_name-names.ensures i)) c.resolve.ensures
+    c.bound_by_name-inner.ensures c.resolve.ensures

@@ -1,7 +1,6 @@
 use Rattle.std.proofs.Common.{◌≡◌, ◌∙◌, ℕ, List, sym, subst}
 use Rattle.weld_meaning.specs.LinearWalk.{after_taking}
 use Rattle.weld_linear.specs.AvailableView.{view_builder, stands_below}
-use Rattle.weld_linear.specs.ScopeView.{view_scope}
 use Rattle.weld_uses.proofs.Chains.{hidden, missing, used}
 use Rattle.weld_uses.proofs.rules.nodes.use_chain.Goals as goal
 
@@ -11,12 +10,12 @@ returns-then-not-is_seen c =
 
 pub returns-then-lacks : goal.returns-then-lacks
 returns-then-lacks c =
-    missing (view_builder c.args.chain.now) (view_scope c.args.scope.now) c.args.left.now c.in-Ok-wanted.wanted c.in-Ok.real c.in-Ok.ensures
+    missing (view_builder c.args.chain.now) c.args.scope.now c.args.left.now c.in-Ok-wanted.wanted c.in-Ok.real c.in-Ok.ensures
     (sym c.is_seen.ensures ∙ c.if-not-is_seen.false) c.in-Ok-wanted.ensures (sym c.lacks.ensures ∙ c.if-lacks.true)
 
 pub returns-in-Ok-answer_of : goal.returns-in-Ok-answer_of
 returns-in-Ok-answer_of c =
-    used (view_builder c.args.chain.now) (view_scope c.args.scope.now) c.args.left.now c.in-Ok-wanted.wanted c.take.new.self c.in-Ok.real c.in-Ok-answer_of.source
+    used (view_builder c.args.chain.now) c.args.scope.now c.args.left.now c.in-Ok-wanted.wanted c.take.new.self c.in-Ok.real c.in-Ok-answer_of.source
     c.in-Ok.ensures (sym c.is_seen.ensures ∙ c.if-not-is_seen.false) c.in-Ok-wanted.ensures (sym c.lacks.ensures ∙ c.if-lacks.false)
     (subst (λ (p : List ℕ). c.take.new.self ≡ after_taking (λ s q. stands_below c.args.chain.now.name.0 p c.in-Ok.real (s, q)) c.args.left.now) c.as_slice.ensures c.take.ensures)
     c.in-Ok-answer_of.ensures
