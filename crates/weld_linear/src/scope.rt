@@ -15,6 +15,7 @@ use weld_tree::Sym;
 /// Each name has the scope before it, and one further back: a look-up of a number that none of the names between them has
 /// jumps there, so it takes some twenty steps over a thousand names that were numbered in their order.
 #[cycle(scope)]
+#[derive(Drop)]
 pub struct Scope<'a> {
     /// The newest name, its origin where it isn't a value, how the names before it are seen, those names, some further back.
     newest: Option<(Sym, Option<&'a Source>, Seen, &'a Scope<'a>, &'a Scope<'a>)>,

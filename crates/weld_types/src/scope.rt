@@ -10,6 +10,7 @@ use weld_tree::{Sym, Ty};
 ///
 /// Each name has the scope before it, and one further back: a look-up of a number that none of the names between them has
 /// jumps there, so it takes some twenty steps over a thousand names that were numbered in their order.
+#[derive(Drop)]
 pub struct Scope<'a> {
     /// The newest name, its type, the scope before it, one further back.
     newest: Option<(Sym, &'a Ty, &'a Scope<'a>, &'a Scope<'a>)>,
