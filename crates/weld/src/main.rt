@@ -6,6 +6,8 @@ use std::env;
 use std::io::{self, ErrorKind};
 use std::process::ExitCode;
 use std::rt::Env;
+use std::thread;
+use std::thread::Builder;
 use weld_front::{Status, weld_main};
 use weld_ports::{NoGate, StdinSource, StdoutSink};
 
@@ -27,12 +29,17 @@ fn read_words(rt: &(impl Env + AllocGlobal)) -> Result<Vec<String>, AllocError> 
     Ok(words)
 }
 
-fn main(rt: HostRuntime) -> ExitCode {
+/// The bytes of stack that a job is given: the largest text within the limits, and each that is refused, is read, checked,
+/// optimised, run and let go in a part of it. Only what is used of it takes memory.
+const STACK: usize = 256 << 20;
+
+/// The status of the job that the words and the standard input are.
+fn answer(rt: &HostRuntime) -> Status {
     let mut input = StdinSource::new(rt.reader());
-    let mut output = StdoutSink::new(io::writer(&rt));
-    let status = match read_words(&rt) {
+    let mut output = StdoutSink::new(io::writer(rt));
+    match read_words(rt) {
         Ok(words) => weld_main(
-            &rt,
+            rt,
             rt.alloc(),
             words.as_slice(),
             &mut input,
@@ -40,6 +47,20 @@ fn main(rt: HostRuntime) -> ExitCode {
             &NoGate,
         ),
         Err(_) => Status::Memory,
-    };
+    }
+}
+
+/// The job has a thread of its own, whose stack doesn't depend on what the system gives the program; it has the program's own
+/// stack where no such thread can be made.
+fn main(rt: HostRuntime) -> ExitCode {
+    let status = thread::scope(thread::scope_env(), &rt, |scope| {
+        match Builder::new()
+            .stack_size(STACK)
+            .spawn_scoped(scope, || answer(&rt))
+        {
+            Ok(handle) => handle.join(&rt),
+            Err(_) => answer(&rt),
+        }
+    });
     ExitCode::from(status.exit())
 }
