@@ -3,11 +3,11 @@
 
 use std::alloc::AllocError;
 use std::env;
-use std::io::{self, ErrorKind};
+use std::io::{self, ErrorKind, Input, Print};
 use std::process::ExitCode;
 use std::rt::Env;
 use std::thread;
-use std::thread::Builder;
+use std::thread::{Builder, Threads};
 use weld_front::{Status, weld_main};
 use weld_ports::{NoGate, StdinSource, StdoutSink};
 
@@ -34,7 +34,7 @@ fn read_words(rt: &(impl Env + AllocGlobal)) -> Result<Vec<String>, AllocError> 
 const STACK: usize = 256 << 20;
 
 /// The status of the job that the words and the standard input are.
-fn answer(rt: &HostRuntime) -> Status {
+fn answer<R: Threads + Sync + Env + Input + Print + AllocGlobal>(rt: &R) -> Status {
     let mut input = StdinSource::new(rt.reader());
     let mut output = StdoutSink::new(io::writer(rt));
     match read_words(rt) {
