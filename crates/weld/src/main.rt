@@ -6,7 +6,6 @@ use std::env;
 use std::io::{self, ErrorKind, Input, Print};
 use std::process::ExitCode;
 use std::rt::Env;
-use std::thread;
 use std::thread::{Builder, Threads};
 use weld_front::{Status, weld_main};
 use weld_ports::{NoGate, StdinSource, StdoutSink};
@@ -53,14 +52,12 @@ fn answer<R: Threads + Sync + Env + Input + Print + AllocGlobal>(rt: &R) -> Stat
 /// The job has a thread of its own, whose stack doesn't depend on what the system gives the program; it has the program's own
 /// stack where no such thread can be made.
 fn main(rt: HostRuntime) -> ExitCode {
-    let status = thread::scope(thread::scope_env(), &rt, |scope| {
-        match Builder::new()
-            .stack_size(STACK)
-            .spawn_scoped(scope, || answer(&rt))
-        {
-            Ok(handle) => handle.join(&rt),
-            Err(_) => answer(&rt),
-        }
-    });
+    let status = match Builder::new()
+        .stack_size(STACK)
+        .spawn(&rt, move || answer(&rt))
+    {
+        Ok(handle) => handle.join(&rt),
+        Err(_) => answer(&rt),
+    };
     ExitCode::from(status.exit())
 }
