@@ -19,7 +19,7 @@ use Rattle.weld_eval.proofs.RowLists.{row_stands, field_value}
 use Rattle.weld_blocks.specs.Numbers.{count_of, number_at, AreSame, AreGiven, MayGive, MayGiveLeg}
 use Rattle.weld_blocks.specs.declared.numbers.Numbers.{Numbers}
 use Rattle.weld_blocks.specs.declared.scope.Bound.{Bound}
-use Rattle.weld_blocks.specs.declared.scope.Bound as bound
+use Rattle.weld_blocks.specs.declared.scope.Bound.TheVariants as bounds
 use Rattle.weld_blocks.specs.declared.scope.Rows.{Rows}
 use Rattle.weld_blocks.specs.declared.scope.Scope.{Scope}
 use Rattle.weld_blocks.specs.declared.scope.Scope.TheFolds.{fold-roll-Scope}
@@ -56,7 +56,7 @@ copy_given (Some d) c n e h = record {
 
 -- ---- what is bound
 
-pub number_bound : (r : Option Numbers) (b : Bound) (c : Numbers) (n : ℕ) → b ≡ bound.Number c → MayGive (λ j v. v ≡ number_at c j) r n → MayGive (λ j v. v ≡ bound_at b j) r n
+pub number_bound : (r : Option Numbers) (b : Bound) (c : Numbers) (n : ℕ) → b ≡ bounds.Number c → MayGive (λ j v. v ≡ number_at c j) r n → MayGive (λ j v. v ≡ bound_at b j) r n
 number_bound r b c n is h = may_map (λ j v. v ≡ number_at c j) (λ j v. v ≡ bound_at b j) r n (λ j v q. q ∙ ap (λ (u : Bound). bound_at u j) (sym is)) h
 
 field_there : (cs : List Numbers) (k j : ℕ) (c : Numbers) → slice_get cs k ≡ Some c → value_at k (values (map (λ d. number_at d j) cs)) ≡ done (number_at c j)
@@ -64,7 +64,7 @@ field_there [] k j c e = let no : ⊥ = cc in absurd no
 field_there (d ∷ cs) zero j c e = let same : d ≡ c = cc in ap (λ (x : Numbers). done (number_at x j)) same
 field_there (d ∷ cs) (suc k) j c e = field_there cs k j c e
 
-pub field_bound : (r : Option Numbers) (b : Bound) (cs : Vec Numbers Global) (c : Numbers) (k n : ℕ) → b ≡ bound.Fields cs → slice_get cs.items k ≡ Some c → MayGive (λ j v. v ≡ number_at c j) r n
+pub field_bound : (r : Option Numbers) (b : Bound) (cs : Vec Numbers Global) (c : Numbers) (k n : ℕ) → b ≡ bounds.Fields cs → slice_get cs.items k ≡ Some c → MayGive (λ j v. v ≡ number_at c j) r n
     → MayGive (λ j v. value_field k (bound_at b j) ≡ done v) r n
 field_bound r b cs c k n is e h = may_map (λ j v. v ≡ number_at c j) (λ j v. value_field k (bound_at b j) ≡ done v) r n
     (λ j v q. ap (λ (u : Bound). value_field k (bound_at u j)) is ∙ field_there cs.items k j c e ∙ ap done (sym q)) h

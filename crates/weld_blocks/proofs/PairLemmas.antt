@@ -17,7 +17,7 @@ use Rattle.weld_blocks.specs.declared.deed.Deed.{Deed}
 use Rattle.weld_blocks.specs.declared.deed.Deed as deed
 use Rattle.weld_blocks.specs.declared.numbers.Numbers.{Numbers}
 use Rattle.weld_blocks.specs.declared.scope.Bound.{Bound}
-use Rattle.weld_blocks.specs.declared.scope.Bound as bound
+use Rattle.weld_blocks.specs.declared.scope.Bound.TheVariants as bounds
 use Rattle.weld_blocks.specs.declared.scope.Rows.{Rows}
 use Rattle.weld_blocks.specs.declared.scope.Scope.{Scope}
 use Rattle.weld_blocks.specs.declared.scope.Scope.TheVariants as scopes
@@ -67,7 +67,7 @@ two_fields (a ∷ []) j c d long e f = absurd (omega arith)
 two_fields (a ∷ b ∷ []) j c d long e f = ap (λ (x : Numbers). pair (number_at x j) (number_at b j)) (sym e) ∙ ap (λ (x : Numbers). pair (number_at c j) (number_at x j)) (sym f)
 two_fields (a ∷ b ∷ x ∷ cs) j c d long e f = absurd (omega arith)
 
-pub pair_bound : (b : Bound) (cs : Vec Numbers Global) (c d k m : Numbers) (n : ℕ) → b ≡ bound.Fields cs → length cs.items ≡ 2 → c ≡ get_or cs.items 0 c → d ≡ get_or cs.items 1 d
+pub pair_bound : (b : Bound) (cs : Vec Numbers Global) (c d k m : Numbers) (n : ℕ) → b ≡ bounds.Fields cs → length cs.items ≡ 2 → c ≡ get_or cs.items 0 c → d ≡ get_or cs.items 1 d
     → AreGiven (λ j v. v ≡ number_at c j) k n → AreGiven (λ j v. v ≡ number_at d j) m n → IsPairOf (λ j v. bound_at b j ≡ v) (deed.Pair k m) n
 pair_bound b cs c d k m n is long first second p q = (
   p.long,

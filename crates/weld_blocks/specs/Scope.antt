@@ -12,7 +12,7 @@ use Rattle.weld_eval.specs.ThingView.{thing_of}
 use Rattle.weld_blocks.specs.Numbers.{number_at, AreNumbersOf}
 use Rattle.weld_blocks.specs.declared.numbers.Numbers.{Numbers}
 use Rattle.weld_blocks.specs.declared.scope.Bound.{Bound}
-use Rattle.weld_blocks.specs.declared.scope.Bound as bound
+use Rattle.weld_blocks.specs.declared.scope.Bound.TheVariants as bounds
 use Rattle.weld_blocks.specs.declared.scope.Rows.{Rows}
 use Rattle.weld_blocks.specs.declared.scope.Scope.{Scope, fold-Scope}
 use Rattle.weld_blocks.specs.declared.scope.Scope.TheOpen.{Scope-F}
@@ -28,8 +28,8 @@ struct_at cs j = struct (values (map (λ c. number_at c j) cs))
 
 -- what is bound, on the row of a place
 abbrev pub bound_at : Bound → ℕ → Value
-bound_at (bound.Number c) j = number_at c j
-bound_at (bound.Fields cs) j = struct_at cs.items j
+bound_at (bounds.Number c) j = number_at c j
+bound_at (bounds.Fields cs) j = struct_at cs.items j
 
 abbrev pub scope_step : Scope-F (ℕ → Env) → ℕ → Env
 scope_step (Scope-F.Rows r) = λ j. row_env r.now j
