@@ -153,7 +153,7 @@ let_numbers (Some x) a b e f envs inner n at count is h k m = record {
 -- ---- what a `let` binds
 
 -- values among things
-plains : List Value → Things
+abbrev plains : List Value → Things
 plains [] = no_things
 plains (v ∷ vs) = more_things (plain v) (plains vs)
 

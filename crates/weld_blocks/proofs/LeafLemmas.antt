@@ -59,15 +59,15 @@ copy_given (Some d) c n e h = record {
 pub number_bound : (r : Option Numbers) (b : Bound) (c : Numbers) (n : ℕ) → b ≡ bounds.Number c → MayGive (λ j v. v ≡ number_at c j) r n → MayGive (λ j v. v ≡ bound_at b j) r n
 number_bound r b c n is h = may_map (λ j v. v ≡ number_at c j) (λ j v. v ≡ bound_at b j) r n (λ j v q. q ∙ ap (λ (u : Bound). bound_at u j) (sym is)) h
 
-field_there : (cs : List Numbers) (k j : ℕ) (c : Numbers) → slice_get cs k ≡ Some c → value_at k (values (map (λ d. number_at d j) cs)) ≡ done (number_at c j)
-field_there [] k j c e = let no : ⊥ = cc in absurd no
-field_there (d ∷ cs) zero j c e = let same : d ≡ c = cc in ap (λ (x : Numbers). done (number_at x j)) same
-field_there (d ∷ cs) (suc k) j c e = field_there cs k j c e
+field_there : (cs : List Numbers) (k j : ℕ) (c : Numbers) → k < length cs → c ≡ get_or cs k c → value_at k (values (map (λ d. number_at d j) cs)) ≡ done (number_at c j)
+field_there [] k j c less e = absurd (omega arith)
+field_there (d ∷ cs) zero j c less e = ap (λ (x : Numbers). done (number_at x j)) (sym e)
+field_there (d ∷ cs) (suc k) j c less e = field_there cs k j c (omega arith) e
 
-pub field_bound : (r : Option Numbers) (b : Bound) (cs : Vec Numbers Global) (c : Numbers) (k n : ℕ) → b ≡ bounds.Fields cs → slice_get cs.items k ≡ Some c → MayGive (λ j v. v ≡ number_at c j) r n
+pub field_bound : (r : Option Numbers) (b : Bound) (cs : Vec Numbers Global) (c : Numbers) (k n : ℕ) → b ≡ bounds.Fields cs → k < length cs.items → c ≡ get_or cs.items k c → MayGive (λ j v. v ≡ number_at c j) r n
     → MayGive (λ j v. value_field k (bound_at b j) ≡ done v) r n
-field_bound r b cs c k n is e h = may_map (λ j v. v ≡ number_at c j) (λ j v. value_field k (bound_at b j) ≡ done v) r n
-    (λ j v q. ap (λ (u : Bound). value_field k (bound_at u j)) is ∙ field_there cs.items k j c e ∙ ap done (sym q)) h
+field_bound r b cs c k n is less e h = may_map (λ j v. v ≡ number_at c j) (λ j v. value_field k (bound_at b j) ≡ done v) r n
+    (λ j v q. ap (λ (u : Bound). value_field k (bound_at u j)) is ∙ field_there cs.items k j c less e ∙ ap done (sym q)) h
 
 -- ---- rows of one leg
 

@@ -315,7 +315,6 @@ fn of_let(e: &Expr, scope: &Scope, count: usize, alloc: Global) -> Option<Number
 
 /// What a `let` binds: the numbers that an expression comes to, or of a struct those of each of its parts.
 #[cycle(columns)]
-#[tactic(auto, using(crate::proofs::ColumnLemmas::numbers_bound))]
 pub(crate) fn bound_of(e: &Expr, scope: &Scope, count: usize, alloc: Global) -> Option<Bound>
     ensures { MayBeBound e.now (scope_env scope.now) result count }
 {

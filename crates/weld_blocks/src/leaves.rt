@@ -172,10 +172,14 @@ fn field_of_bound(field: u32, bound: &Bound, count: usize, alloc: Global) -> Opt
 {
     match bound {
         Bound::Number(_) => None,
-        Bound::Fields(columns) => match columns.get(field as usize) {
-            Some(column) => first_of(column, count, alloc),
-            None => None,
-        },
+        Bound::Fields(columns) => {
+            let field = field as usize;
+            if field < columns.len() {
+                first_of(&columns[field], count, alloc)
+            } else {
+                None
+            }
+        }
     }
 }
 
