@@ -16,4 +16,4 @@ invariant_of-self-in-Some c =
     let e : reverse c.self.inside.items.items ≡ c.in-Some.field-0 ∷ names = ap reverse c.in-Some.ensures.items ∙ pushed_first c.pop.new.self.items c.in-Some.field-0 in
     let numbers = c.self.inside.newest in
     scope_popped numbers c.uncover.new.newest names c.in-Some.field-0 (subst (IsScope numbers) e c.self.invariant)
-      (λ name. c.uncover.ensures name ∙ ap (λ bytes. if bytes_eq bytes name then c.in-Some.field-0.hidden else number_at numbers name) c.as_slice.ensures)
+    (λ name. c.uncover.ensures name ∙ ap (λ bytes. if bytes_eq bytes name then c.in-Some.field-0.hidden else number_at numbers name) c.as_slice.ensures)
