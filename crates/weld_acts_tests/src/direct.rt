@@ -3,6 +3,7 @@ use std::test::Fail;
 use weld_acts::is_direct;
 use weld_parse::read_program;
 use weld_reduce::Read;
+use weld_tokens::laws::classes_of_tokens;
 use weld_tokens::{has_too_many_bytes, read_tokens};
 
 /// Reads a text.
@@ -13,6 +14,7 @@ fn read(alloc: Global, text: &[u8]) -> Result<Read, Fail> {
     let Ok(tokens) = read_tokens(alloc, text) else {
         return Err(Fail::from("the text has no tokens"));
     };
+    classes_of_tokens();
     match read_program(alloc, tokens.as_slice()) {
         Ok(read) => Ok(read),
         Err(_) => Err(Fail::from("the text is not read")),

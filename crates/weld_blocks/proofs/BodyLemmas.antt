@@ -19,6 +19,7 @@ use Rattle.weld_acts.proofs.Children.{then_acts, otherwise_acts, let_acts, struc
 use Rattle.weld_blocks.specs.Puts.{IsPut}
 use Rattle.weld_blocks.specs.Numbers.{number_at, AreNumbersOf}
 use Rattle.weld_blocks.specs.Deeds.{do_of, IsDeed, AreDeeds, IsItem, MayBeDeed, MayBeItem, IsBefore, IsMergeTree, IsQuiet, IsStructTree}
+use Rattle.weld_blocks.specs.Scope.{IsBound}
 use Rattle.weld_blocks.specs.declared.deed.Deed.{Deed}
 use Rattle.weld_blocks.specs.declared.deed.Deed as deed
 use Rattle.weld_blocks.specs.declared.deed.Deeds.{Deeds}
@@ -116,18 +117,18 @@ choice_of a o c e f envs n t p q count is form k x y = by o is (subst (λ m. IsI
 
 -- ---- a `let`
 
-pub let_does : (r : Option Deed) (a : At) (b : Binder) (e f : ExprTree) (envs inner : ℕ → Env) (n : ExprTree) (c : Numbers) (count : ℕ) → n ≡ let_in a b e f → AreNumbersOf e envs c count
-    → ((j : ℕ) → inner j ≡ (b.sym.0, plain (number_at c j)) ∷ envs j) → MayBeDeed f inner r count → MayBeDeed n envs r count
-let_does None a b e f envs inner n c count is h k m = tt
-let_does (Some d) a b e f envs inner n c count is h k m = record {
+pub let_does : (r : Option Deed) (a : At) (b : Binder) (e f : ExprTree) (envs inner : ℕ → Env) (n : ExprTree) (at : ℕ → Value) (count : ℕ) → n ≡ let_in a b e f → IsBound e envs at count
+    → ((j : ℕ) → inner j ≡ (b.sym.0, plain (at j)) ∷ envs j) → MayBeDeed f inner r count → MayBeDeed n envs r count
+let_does None a b e f envs inner n at count is h k m = tt
+let_does (Some d) a b e f envs inner n at count is h k m = record {
   does = λ j less s fit.
-      ap (λ u. act u (envs j) s) is ∙ ap (λ o. and_then o (λ t. act f ((b.sym.0, t) ∷ envs j) s)) (h.each j less)
+      ap (λ u. act u (envs j) s) is ∙ ap (λ o. and_then o (λ t. act f ((b.sym.0, t) ∷ envs j) s)) (h j less)
       ∙ ap (λ env. act f env s) (sym (k j)) ∙ m.does j less s (fits_in j less s fit);
   fits = λ j less s fit. m.fits j less s (fits_in j less s fit);
 }
   where
     fits_in : (j : ℕ) → j < count → (s : Thing) → ActFits n (envs j) s → ActFits f (inner j) s
-    fits_in j less s fit = subst (λ env. ActFits f env s) (sym (k j)) (let_acts a b e f (envs j) n s (plain (number_at c j)) is fit (h.each j less))
+    fits_in j less s fit = subst (λ env. ActFits f env s) (sym (k j)) (let_acts a b e f (envs j) n s (plain (at j)) is fit (h j less))
 
 -- ---- a struct
 

@@ -1,14 +1,17 @@
 -- The numbers that expressions come to, form by form.
-use Rattle.std.proofs.Common.{◌≡◌, ℕ, ◌∷◌, Bool, true, false, Option, Some, None, if◌then◌else◌, refl, sym, ap, ◌∙◌, subst}
+use Rattle.std.proofs.Common.{◌≡◌, ℕ, ◌+◌, ◌<◌, ◌++◌, ◌∷◌, [], Bool, true, false, List, length, map, take, get_or, Option, Some, None, if◌then◌else◌, refl, sym, ap, ◌∙◌, subst, arith}
+use Rattle.std.proofs.lemmas.List.{take_more, take_all}
 use Rattle.weld_data.specs.declared.op.BinOp.{BinOp}
-use Rattle.weld_data.specs.Value.{Value}
+use Rattle.weld_data.specs.Value.{Value, struct, and_value, values}
 use Rattle.weld_tree.specs.declared.binder.Binder.{Binder}
-use Rattle.weld_tree.specs.ExprTree.{ExprTree, At, leaf, one, two, three, let_in, Leaf, name, One, field, binary, and, or, Three, if_else, select, slice}
+use Rattle.weld_tree.specs.ExprTree.{ExprTree, At, leaf, one, two, three, many, let_in, Leaf, name, One, field, binary, and, or, Three, if_else, select, slice, Many, make_vec, make_struct, pack_exprs}
 use Rattle.weld_builders.specs.Outcome.{Outcome, done, and_then, map_out}
 use Rattle.weld_meaning.specs.Environment.{look_for}
-use Rattle.weld_meaning.specs.Thing.{Thing, plain, field_of}
-use Rattle.weld_meaning.specs.Evaluation.{Env, eval, found, leaf_thing, one_thing, two_thing, three_thing, operated, truth_value, chosen, value_out}
+use Rattle.weld_meaning.specs.Thing.{Thing, plain, Things, no_things, more_things, as_values, struct_from, struct_of, field_of}
+use Rattle.weld_meaning.specs.Evaluation.{Env, eval, eval_all, found, leaf_thing, many_thing, one_thing, two_thing, three_thing, operated, truth_value, chosen, value_out}
 use Rattle.weld_blocks.specs.Numbers.{number_at, AreGiven, MayGive, AreNumbersOf, MayBeNumbers, IsChosen, IsName, Chooses}
+use Rattle.weld_blocks.specs.Deeds.{IsStructTree}
+use Rattle.weld_blocks.specs.Scope.{struct_at, IsBound, AreFieldsOf}
 use Rattle.weld_blocks.specs.declared.numbers.Numbers.{Numbers}
 use Rattle.weld_blocks.proofs.LeafLemmas.{may_map}
 
@@ -137,12 +140,60 @@ either_given (Some x) c d f w count k h = record {
 
 -- ---- a `let`
 
-pub let_numbers : (r : Option Numbers) (a : At) (b : Binder) (e f : ExprTree) (envs inner : ℕ → Env) (n : ExprTree) (c : Numbers) (count : ℕ) → n ≡ let_in a b e f → AreNumbersOf e envs c count
-    → ((j : ℕ) → inner j ≡ (b.sym.0, plain (number_at c j)) ∷ envs j) → MayBeNumbers f inner r count → MayBeNumbers n envs r count
-let_numbers None a b e f envs inner n c count is h k m = tt
-let_numbers (Some x) a b e f envs inner n c count is h k m = record {
+pub let_numbers : (r : Option Numbers) (a : At) (b : Binder) (e f : ExprTree) (envs inner : ℕ → Env) (n : ExprTree) (at : ℕ → Value) (count : ℕ) → n ≡ let_in a b e f → IsBound e envs at count
+    → ((j : ℕ) → inner j ≡ (b.sym.0, plain (at j)) ∷ envs j) → MayBeNumbers f inner r count → MayBeNumbers n envs r count
+let_numbers None a b e f envs inner n at count is h k m = tt
+let_numbers (Some x) a b e f envs inner n at count is h k m = record {
   long = m.long;
   each = λ j less.
-      ap (λ u. eval u (envs j)) is ∙ ap (λ o. and_then o (λ t. eval f ((b.sym.0, t) ∷ envs j))) (h.each j less)
+      ap (λ u. eval u (envs j)) is ∙ ap (λ o. and_then o (λ t. eval f ((b.sym.0, t) ∷ envs j))) (h j less)
       ∙ ap (eval f) (sym (k j)) ∙ m.each j less;
 }
+
+-- ---- what a `let` binds
+
+-- values among things
+abbrev plains : List Value → Things
+plains [] = no_things
+plains (v ∷ vs) = more_things (plain v) (plains vs)
+
+as_plains : (vs : List Value) → as_values (plains vs) ≡ done (values vs)
+as_plains [] = refl
+as_plains (v ∷ vs) = ap (map_out (and_value v)) (as_plains vs)
+
+parts_give : (es : List ExprTree) (envs : ℕ → Env) (cs : List Numbers) (count j : ℕ) → AreFieldsOf es envs cs count → j < count → eval_all (pack_exprs es) (envs j) ≡ done (plains (map (λ c. number_at c j) cs))
+parts_give [] envs [] count j h less = refl
+parts_give [] envs (c ∷ cs) count j h less = absurd h
+parts_give (e ∷ es) envs [] count j h less = absurd h
+parts_give (e ∷ es) envs (c ∷ cs) count j h less =
+    ap (λ o. and_then o (λ t. map_out (more_things t) (eval_all (pack_exprs es) (envs j)))) (h.0.each j less)
+    ∙ ap (map_out (more_things (plain (number_at c j)))) (parts_give es envs cs count j h.1 less)
+
+struct_gives : (a : At) (es : List ExprTree) (envs : ℕ → Env) (cs : List Numbers) (count j : ℕ) → AreFieldsOf es envs cs count → j < count → eval (many a make_struct (pack_exprs es)) (envs j) ≡ done (plain (struct_at cs j))
+struct_gives a es envs cs count j h less =
+    let vs = map (λ c. number_at c j) cs in
+    ap (λ o. and_then o (many_thing make_struct)) (parts_give es envs cs count j h less)
+    ∙ ap (λ o. done (struct_from (plains vs) o)) (as_plains vs)
+
+pub struct_bound : (a : At) (o : Many) (es : List ExprTree) (envs : ℕ → Env) (n : ExprTree) (cs : List Numbers) (count : ℕ) → n ≡ many a o (pack_exprs es) → IsStructTree n → AreFieldsOf es envs cs count → IsBound n envs (struct_at cs) count
+struct_bound a o es envs n cs count is form h j less = by o is (subst (λ m. IsStructTree m) is form)
+  where
+    by : (u : Many) → n ≡ many a u (pack_exprs es) → IsStructTree (many a u (pack_exprs es)) → eval n (envs j) ≡ done (plain (struct_at cs j))
+    by make_struct same k = ap (λ m. eval m (envs j)) same ∙ struct_gives a es envs cs count j h less
+    by make_vec same k = absurd k
+
+-- one part more
+field_more : (es : List ExprTree) (e : ExprTree) (envs : ℕ → Env) (cs : List Numbers) (c : Numbers) (count : ℕ) → AreFieldsOf es envs cs count → AreNumbersOf e envs c count → AreFieldsOf (es ++ e ∷ []) envs (cs ++ c ∷ []) count
+field_more [] e envs [] c count h k = (k, tt)
+field_more [] e envs (d ∷ cs) c count h k = absurd h
+field_more (f ∷ es) e envs [] c count h k = absurd h
+field_more (f ∷ es) e envs (d ∷ cs) c count h k = (h.0, field_more es e envs cs c count h.1 k)
+
+pub next_field : (es : List ExprTree) (i : ℕ) (e : ExprTree) (envs : ℕ → Env) (cs more : List Numbers) (c : Numbers) (count : ℕ) → i < length es → e ≡ get_or es i e → more ≡ cs ++ c ∷ [] → AreFieldsOf (take i es) envs cs count → AreNumbersOf e envs c count
+    → AreFieldsOf (take (i + 1) es) envs more count
+next_field es i e envs cs more c count less at is h k =
+    let taken : take (i + 1) es ≡ take i es ++ e ∷ [] = take_more es i e less ∙ ap (λ f. take i es ++ f ∷ []) (sym at) in
+    subst (λ (ds : List Numbers). AreFieldsOf (take (i + 1) es) envs ds count) (sym is) (subst (λ l. AreFieldsOf l envs (cs ++ c ∷ []) count) (sym taken) (field_more (take i es) e envs cs c count h k))
+
+pub all_fields : (es : List ExprTree) (i : ℕ) (envs : ℕ → Env) (cs : List Numbers) (count : ℕ) → i ≡ length es → AreFieldsOf (take i es) envs cs count → AreFieldsOf es envs cs count
+all_fields es i envs cs count is h = subst (λ l. AreFieldsOf l envs cs count) (take_all i es (omega arith)) h

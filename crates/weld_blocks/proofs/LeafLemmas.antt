@@ -1,14 +1,14 @@
 -- Legs, names and fields that are read.
-use Rattle.std.proofs.Common.{ℤ, pos, ◌≡◌, ℕ, ◌+◌, ◌<◌, ◌≤◌, ◌≢◌, ◌==◌, Bool, true, false, ◌∷◌, [], List, length, slice_get, get_or, map, zero, suc, Option, Some, None, IfSome, if◌then◌else◌, Bor, refl, sym, ap, ◌∙◌, arith}
+use Rattle.std.proofs.Common.{ℤ, pos, ◌≡◌, ℕ, ◌+◌, ◌<◌, ◌≤◌, ◌≢◌, ◌==◌, Bool, true, false, ◌∷◌, [], List, length, slice_get, get_or, map, zero, suc, Option, Some, None, IfSome, if◌then◌else◌, Bor, Vec, Global, refl, sym, ap, ◌∙◌, arith}
 use Rattle.std.proofs.lemmas.Bool.{eq-eqb, eqb-true}
 use Rattle.std.proofs.lemmas.Option.{get_or_from_slice_get}
 use Rattle.weld_data.specs.View.{view_column}
 use Rattle.weld_data.specs.declared.kind.Kind.{Kind}
-use Rattle.weld_data.specs.Value.{Value, number, struct, no_values}
+use Rattle.weld_data.specs.Value.{Value, number, struct, no_values, values}
 use Rattle.weld_data.specs.declared.value.Column.{Column}
 use Rattle.weld_builders.specs.Outcome.{done, and_then, map_out}
 use Rattle.weld_meaning.specs.Environment.{look_for}
-use Rattle.weld_meaning.specs.Thing.{Thing, plain, value_field, field_of}
+use Rattle.weld_meaning.specs.Thing.{Thing, plain, value_at, value_field, field_of}
 use Rattle.weld_meaning.specs.Evaluation.{Env, found, whole_number}
 use Rattle.weld_eval.specs.LegsView.{lists_of}
 use Rattle.weld_eval.specs.RowLists.{row_in, rows_in, is_one}
@@ -18,11 +18,13 @@ use Rattle.weld_eval.proofs.LegLists.{lists_and, lists_end}
 use Rattle.weld_eval.proofs.RowLists.{row_stands, field_value}
 use Rattle.weld_blocks.specs.Numbers.{count_of, number_at, AreSame, AreGiven, MayGive, MayGiveLeg}
 use Rattle.weld_blocks.specs.declared.numbers.Numbers.{Numbers}
+use Rattle.weld_blocks.specs.declared.scope.Bound.{Bound}
+use Rattle.weld_blocks.specs.declared.scope.Bound.TheVariants as bounds
 use Rattle.weld_blocks.specs.declared.scope.Rows.{Rows}
 use Rattle.weld_blocks.specs.declared.scope.Scope.{Scope}
 use Rattle.weld_blocks.specs.declared.scope.Scope.TheFolds.{fold-roll-Scope}
 use Rattle.weld_blocks.specs.declared.scope.Scope.TheVariants as scopes
-use Rattle.weld_blocks.specs.Scope.{scope_step, scope_env, row_env}
+use Rattle.weld_blocks.specs.Scope.{bound_at, struct_at, scope_step, scope_env, row_env}
 use Rattle.weld_eval.specs.FrameView.{env_of}
 use Rattle.weld_eval.specs.ThingView.{thing_of}
 use Rattle.weld_tree.specs.declared.sym.Sym.{Sym}
@@ -51,6 +53,21 @@ copy_given (Some d) c n e h = record {
   long = ap length h.1 ∙ e;
   each = λ j less. ap (λ (k : Kind). number k (get_or d.items.items j (pos 0))) h.0 ∙ ap (λ (xs : List ℤ). number c.kind (get_or xs j (pos 0))) h.1;
 }
+
+-- ---- what is bound
+
+pub number_bound : (r : Option Numbers) (b : Bound) (c : Numbers) (n : ℕ) → b ≡ bounds.Number c → MayGive (λ j v. v ≡ number_at c j) r n → MayGive (λ j v. v ≡ bound_at b j) r n
+number_bound r b c n is h = may_map (λ j v. v ≡ number_at c j) (λ j v. v ≡ bound_at b j) r n (λ j v q. q ∙ ap (λ (u : Bound). bound_at u j) (sym is)) h
+
+field_there : (cs : List Numbers) (k j : ℕ) (c : Numbers) → k < length cs → c ≡ get_or cs k c → value_at k (values (map (λ d. number_at d j) cs)) ≡ done (number_at c j)
+field_there [] k j c less e = absurd (omega arith)
+field_there (d ∷ cs) zero j c less e = ap (λ (x : Numbers). done (number_at x j)) (sym e)
+field_there (d ∷ cs) (suc k) j c less e = field_there cs k j c (omega arith) e
+
+pub field_bound : (r : Option Numbers) (b : Bound) (cs : Vec Numbers Global) (c : Numbers) (k n : ℕ) → b ≡ bounds.Fields cs → k < length cs.items → c ≡ get_or cs.items k c → MayGive (λ j v. v ≡ number_at c j) r n
+    → MayGive (λ j v. value_field k (bound_at b j) ≡ done v) r n
+field_bound r b cs c k n is less e h = may_map (λ j v. v ≡ number_at c j) (λ j v. value_field k (bound_at b j) ≡ done v) r n
+    (λ j v q. ap (λ (u : Bound). value_field k (bound_at u j)) is ∙ field_there cs.items k j c less e ∙ ap done (sym q)) h
 
 -- ---- rows of one leg
 
@@ -94,19 +111,27 @@ past s b t env d = by (s == b) refl
 
 -- ---- what a name stands for on rows
 
-pub scope_number : (sc : Scope) (b : Sym) (c : Bor Numbers) (r : Bor Scope) (j : ℕ) → sc ≡ scopes.Number b c r → scope_env sc j ≡ (b.0, plain (number_at c.now j)) ∷ scope_env r.now j
-scope_number sc b c r j e = ap (λ (s : Scope). scope_env s j) (e ∙ sym (scopes.rolls-Number b c r)) ∙ ap (λ (f : ℕ → Env). f j) (fold-roll-Scope (ℕ → Env) scope_step _)
+pub scope_let : (sc : Scope) (b : Sym) (c : Bor Bound) (r : Bor Scope) (j : ℕ) → sc ≡ scopes.Let b c r → scope_env sc j ≡ (b.0, plain (bound_at c.now j)) ∷ scope_env r.now j
+scope_let sc b c r j e = ap (λ (s : Scope). scope_env s j) (e ∙ sym (scopes.rolls-Let b c r)) ∙ ap (λ (f : ℕ → Env). f j) (fold-roll-Scope (ℕ → Env) scope_step _)
 
 pub scope_rows : (sc : Scope) (r : Bor Rows) (j : ℕ) → sc ≡ scopes.Rows r → scope_env sc j ≡ row_env r.now j
 scope_rows sc r j e = ap (λ (s : Scope). scope_env s j) (e ∙ sym (scopes.rolls-Rows r)) ∙ ap (λ (f : ℕ → Env). f j) (fold-roll-Scope (ℕ → Env) scope_step _)
 
-pub name_here : (r : Option Numbers) (sc : Scope) (b : Sym) (c : Bor Numbers) (p : Bor Scope) (s n : ℕ) → sc ≡ scopes.Number b c p → b.0 ≡ s → MayGive (λ j v. v ≡ number_at c.now j) r n → MayGive (λ j v. look_for s (scope_env sc j) ≡ Some (plain v)) r n
-name_here r sc b c p s n e same h = may_map (λ j v. v ≡ number_at c.now j) (λ j v. look_for s (scope_env sc j) ≡ Some (plain v)) r n
-    (λ j v q. ap (look_for s) (scope_number sc b c p j e) ∙ here s b.0 (plain (number_at c.now j)) (scope_env p.now j) same ∙ ap (λ u. Some (plain u)) (sym q)) h
+-- the newest name is this one
+pub let_here : (sc : Scope) (b : Sym) (c : Bor Bound) (p : Bor Scope) (s j : ℕ) → sc ≡ scopes.Let b c p → b.0 ≡ s → look_for s (scope_env sc j) ≡ Some (plain (bound_at c.now j))
+let_here sc b c p s j e same = ap (look_for s) (scope_let sc b c p j e) ∙ here s b.0 (plain (bound_at c.now j)) (scope_env p.now j) same
 
-pub name_below : (r : Option Numbers) (sc : Scope) (b : Sym) (c : Bor Numbers) (p : Bor Scope) (s n : ℕ) → sc ≡ scopes.Number b c p → b.0 ≢ s → MayGive (λ j v. look_for s (scope_env p.now j) ≡ Some (plain v)) r n → MayGive (λ j v. look_for s (scope_env sc j) ≡ Some (plain v)) r n
+-- the newest name is another one
+pub let_past : (sc : Scope) (b : Sym) (c : Bor Bound) (p : Bor Scope) (s j : ℕ) → sc ≡ scopes.Let b c p → b.0 ≢ s → look_for s (scope_env sc j) ≡ look_for s (scope_env p.now j)
+let_past sc b c p s j e other = ap (look_for s) (scope_let sc b c p j e) ∙ past s b.0 (plain (bound_at c.now j)) (scope_env p.now j) other
+
+pub name_here : (r : Option Numbers) (sc : Scope) (b : Sym) (c : Bor Bound) (p : Bor Scope) (s n : ℕ) → sc ≡ scopes.Let b c p → b.0 ≡ s → MayGive (λ j v. v ≡ bound_at c.now j) r n → MayGive (λ j v. look_for s (scope_env sc j) ≡ Some (plain v)) r n
+name_here r sc b c p s n e same h = may_map (λ j v. v ≡ bound_at c.now j) (λ j v. look_for s (scope_env sc j) ≡ Some (plain v)) r n
+    (λ j v q. let_here sc b c p s j e same ∙ ap (λ u. Some (plain u)) (sym q)) h
+
+pub name_below : (r : Option Numbers) (sc : Scope) (b : Sym) (c : Bor Bound) (p : Bor Scope) (s n : ℕ) → sc ≡ scopes.Let b c p → b.0 ≢ s → MayGive (λ j v. look_for s (scope_env p.now j) ≡ Some (plain v)) r n → MayGive (λ j v. look_for s (scope_env sc j) ≡ Some (plain v)) r n
 name_below r sc b c p s n e other h = may_map (λ j v. look_for s (scope_env p.now j) ≡ Some (plain v)) (λ j v. look_for s (scope_env sc j) ≡ Some (plain v)) r n
-    (λ j v q. ap (look_for s) (scope_number sc b c p j e) ∙ past s b.0 (plain (number_at c.now j)) (scope_env p.now j) other ∙ q) h
+    (λ j v q. let_past sc b c p s j e other ∙ q) h
 
 pub name_of_rows : (r : Option Numbers) (sc : Scope) (p : Bor Rows) (s n : ℕ) → sc ≡ scopes.Rows p → MayGive (λ j v. look_for s (row_env p.now j) ≡ Some (plain v)) r n → MayGive (λ j v. look_for s (scope_env sc j) ≡ Some (plain v)) r n
 name_of_rows r sc p s n e h = may_map (λ j v. look_for s (row_env p.now j) ≡ Some (plain v)) (λ j v. look_for s (scope_env sc j) ≡ Some (plain v)) r n (λ j v q. ap (look_for s) (scope_rows sc p j e) ∙ q) h
@@ -135,10 +160,15 @@ outside_given r env s n w e h = may_map (λ j v. v ≡ w) (λ j v. look_for s en
 
 -- ---- a field of a name
 
-pub field_below : (r : Option Numbers) (k : ℕ) (sc : Scope) (b : Sym) (c : Bor Numbers) (p : Bor Scope) (s n : ℕ) → sc ≡ scopes.Number b c p → b.0 ≢ s
+pub field_here : (r : Option Numbers) (k : ℕ) (sc : Scope) (b : Sym) (c : Bor Bound) (p : Bor Scope) (s n : ℕ) → sc ≡ scopes.Let b c p → b.0 ≡ s
+    → MayGive (λ j v. value_field k (bound_at c.now j) ≡ done v) r n → MayGive (λ j v. and_then (found (look_for s (scope_env sc j))) (field_of k) ≡ done (plain v)) r n
+field_here r k sc b c p s n e same h = may_map (λ j v. value_field k (bound_at c.now j) ≡ done v) (λ j v. and_then (found (look_for s (scope_env sc j))) (field_of k) ≡ done (plain v)) r n
+    (λ j v q. ap (λ o. and_then (found o) (field_of k)) (let_here sc b c p s j e same) ∙ ap (map_out plain) q) h
+
+pub field_below : (r : Option Numbers) (k : ℕ) (sc : Scope) (b : Sym) (c : Bor Bound) (p : Bor Scope) (s n : ℕ) → sc ≡ scopes.Let b c p → b.0 ≢ s
     → MayGive (λ j v. and_then (found (look_for s (scope_env p.now j))) (field_of k) ≡ done (plain v)) r n → MayGive (λ j v. and_then (found (look_for s (scope_env sc j))) (field_of k) ≡ done (plain v)) r n
 field_below r k sc b c p s n e other h = may_map (λ j v. and_then (found (look_for s (scope_env p.now j))) (field_of k) ≡ done (plain v)) (λ j v. and_then (found (look_for s (scope_env sc j))) (field_of k) ≡ done (plain v)) r n
-    (λ j v q. ap (λ o. and_then (found o) (field_of k)) (ap (look_for s) (scope_number sc b c p j e) ∙ past s b.0 (plain (number_at c.now j)) (scope_env p.now j) other) ∙ q) h
+    (λ j v q. ap (λ o. and_then (found o) (field_of k)) (let_past sc b c p s j e other) ∙ q) h
 
 pub field_of_rows : (r : Option Numbers) (k : ℕ) (sc : Scope) (p : Bor Rows) (s n : ℕ) → sc ≡ scopes.Rows p → p.now.row_name.0 ≡ s
     → MayGive (λ j v. value_field k (row_in (lists_of p.now.legs.now) (p.now.from + j)) ≡ done v) r n → MayGive (λ j v. and_then (found (look_for s (scope_env sc j))) (field_of k) ≡ done (plain v)) r n

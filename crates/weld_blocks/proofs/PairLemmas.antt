@@ -1,5 +1,5 @@
 -- Rows that are two numbers.
-use Rattle.std.proofs.Common.{◌≡◌, ◌≢◌, ℕ, ◌+◌, ◌++◌, ◌∷◌, [], List, slice_get, Option, Some, None, option_to_list, Bor, ap, ◌∙◌}
+use Rattle.std.proofs.Common.{◌≡◌, ◌≢◌, ℕ, ◌+◌, ◌++◌, ◌∷◌, [], List, length, get_or, slice_get, Option, Some, None, option_to_list, Bor, Vec, Global, sym, ap, ◌∙◌, arith}
 use Rattle.weld_data.specs.Value.{Value, struct, values}
 use Rattle.weld_tree.specs.ExprTree.{ExprTree}
 use Rattle.weld_tree.specs.declared.sym.Sym.{Sym}
@@ -12,14 +12,16 @@ use Rattle.weld_eval.specs.LegsView.{lists_of}
 use Rattle.weld_eval.specs.RowLists.{row_in}
 use Rattle.weld_blocks.specs.Numbers.{number_at, AreGiven, IsName}
 use Rattle.weld_blocks.specs.Deeds.{IsPairOf, MayBePair, MayBeItem}
-use Rattle.weld_blocks.specs.Scope.{scope_env}
+use Rattle.weld_blocks.specs.Scope.{bound_at, struct_at, scope_env}
 use Rattle.weld_blocks.specs.declared.deed.Deed.{Deed}
 use Rattle.weld_blocks.specs.declared.deed.Deed as deed
 use Rattle.weld_blocks.specs.declared.numbers.Numbers.{Numbers}
+use Rattle.weld_blocks.specs.declared.scope.Bound.{Bound}
+use Rattle.weld_blocks.specs.declared.scope.Bound.TheVariants as bounds
 use Rattle.weld_blocks.specs.declared.scope.Rows.{Rows}
 use Rattle.weld_blocks.specs.declared.scope.Scope.{Scope}
 use Rattle.weld_blocks.specs.declared.scope.Scope.TheVariants as scopes
-use Rattle.weld_blocks.proofs.LeafLemmas.{scope_number, past, scope_row_here}
+use Rattle.weld_blocks.proofs.LeafLemmas.{let_here, let_past, scope_row_here}
 use Rattle.weld_blocks.proofs.ColumnLemmas.{eval_name}
 
 pair_map : (P Q : ℕ → Value → Type 0) (d : Deed) (n : ℕ) → ((j : ℕ) (v : Value) → P j v → Q j v) → IsPairOf P d n → IsPairOf Q d n
@@ -33,10 +35,15 @@ may_map : (P Q : ℕ → Value → Type 0) (r : Option Deed) (n : ℕ) → ((j :
 may_map P Q (Some d) n f h = pair_map P Q d n f h
 may_map P Q None n f h = tt
 
-pub pair_below : (r : Option Deed) (sc : Scope) (b : Sym) (c : Bor Numbers) (p : Bor Scope) (s n : ℕ) → sc ≡ scopes.Number b c p → b.0 ≢ s
+pub pair_here : (r : Option Deed) (sc : Scope) (b : Sym) (c : Bor Bound) (p : Bor Scope) (s n : ℕ) → sc ≡ scopes.Let b c p → b.0 ≡ s
+    → MayBePair (λ j v. bound_at c.now j ≡ v) r n → MayBePair (λ j v. look_for s (scope_env sc j) ≡ Some (plain v)) r n
+pair_here r sc b c p s n e same h = may_map (λ j v. bound_at c.now j ≡ v) (λ j v. look_for s (scope_env sc j) ≡ Some (plain v)) r n
+    (λ j v q. let_here sc b c p s j e same ∙ ap (λ u. Some (plain u)) q) h
+
+pub pair_below : (r : Option Deed) (sc : Scope) (b : Sym) (c : Bor Bound) (p : Bor Scope) (s n : ℕ) → sc ≡ scopes.Let b c p → b.0 ≢ s
     → MayBePair (λ j v. look_for s (scope_env p.now j) ≡ Some (plain v)) r n → MayBePair (λ j v. look_for s (scope_env sc j) ≡ Some (plain v)) r n
 pair_below r sc b c p s n e other h = may_map (λ j v. look_for s (scope_env p.now j) ≡ Some (plain v)) (λ j v. look_for s (scope_env sc j) ≡ Some (plain v)) r n
-    (λ j v q. ap (look_for s) (scope_number sc b c p j e) ∙ past s b.0 (plain (number_at c.now j)) (scope_env p.now j) other ∙ q) h
+    (λ j v q. let_past sc b c p s j e other ∙ q) h
 
 pub pair_of_rows : (r : Option Deed) (sc : Scope) (p : Bor Rows) (s n : ℕ) → sc ≡ scopes.Rows p → p.now.row_name.0 ≡ s
     → MayBePair (λ j v. row_in (lists_of p.now.legs.now) (p.now.from + j) ≡ v) r n → MayBePair (λ j v. look_for s (scope_env sc j) ≡ Some (plain v)) r n
@@ -52,6 +59,23 @@ two_row ls l m i v w e q r =
 pub pair_given : (ls : List (List Value)) (l m : List Value) (c d : Numbers) (from n : ℕ) → ls ≡ l ∷ m ∷ [] → AreGiven (λ j v. slice_get l (from + j) ≡ Some v) c n → AreGiven (λ j v. slice_get m (from + j) ≡ Some v) d n
     → IsPairOf (λ j v. row_in ls (from + j) ≡ v) (deed.Pair c d) n
 pair_given ls l m c d from n e h k = (h.long, k.long, λ j less. two_row ls l m (from + j) (number_at c j) (number_at d j) e (h.each j less) (k.each j less))
+
+-- structs of two
+two_fields : (cs : List Numbers) (j : ℕ) (c d : Numbers) → length cs ≡ 2 → c ≡ get_or cs 0 c → d ≡ get_or cs 1 d → struct_at cs j ≡ pair (number_at c j) (number_at d j)
+two_fields [] j c d long e f = absurd (omega arith)
+two_fields (a ∷ []) j c d long e f = absurd (omega arith)
+two_fields (a ∷ b ∷ []) j c d long e f = ap (λ (x : Numbers). pair (number_at x j) (number_at b j)) (sym e) ∙ ap (λ (x : Numbers). pair (number_at c j) (number_at x j)) (sym f)
+two_fields (a ∷ b ∷ x ∷ cs) j c d long e f = absurd (omega arith)
+
+pub pair_bound : (b : Bound) (cs : Vec Numbers Global) (c d k m : Numbers) (n : ℕ) → b ≡ bounds.Fields cs → length cs.items ≡ 2 → c ≡ get_or cs.items 0 c → d ≡ get_or cs.items 1 d
+    → AreGiven (λ j v. v ≡ number_at c j) k n → AreGiven (λ j v. v ≡ number_at d j) m n → IsPairOf (λ j v. bound_at b j ≡ v) (deed.Pair k m) n
+pair_bound b cs c d k m n is long first second p q = (
+  p.long,
+  q.long,
+  λ j less.
+      ap (λ (u : Bound). bound_at u j) is ∙ two_fields cs.items j c d long first second
+      ∙ ap (λ x. pair x (number_at d j)) (sym (p.each j less)) ∙ ap (pair (number_at k j)) (sym (q.each j less)),
+)
 
 pub row_pair : (r : Option Deed) (e : ExprTree) (s : ℕ) (envs : ℕ → Env) (n : ℕ) → IsName e s → MayBePair (λ j v. look_for s (envs j) ≡ Some (plain v)) r n → MayBeItem e envs r n
 row_pair None e s envs n is h = tt

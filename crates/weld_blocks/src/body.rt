@@ -9,10 +9,10 @@ ghost use Rattle.weld_blocks.specs.Deeds.{IsDeed, MayBeDeed, MayBeItem, IsBefore
 ghost use Rattle.weld_eval_plain.specs.Nodes.{IsIf};
 ghost use Rattle.weld_blocks.specs.Scope.{scope_env};
 
-use crate::columns::{name_of, numbers};
+use crate::columns::{bound_of, name_of, numbers};
 use crate::deed::{Deed, Deeds};
 use crate::pairs::pair_named;
-use crate::scope::{Rows, Scope, of_rows, with_numbers};
+use crate::scope::{Rows, Scope, of_rows, with_bound};
 use std::alloc::Global;
 use weld_eval::frame::Frame;
 use weld_eval::legs::Legs;
@@ -105,7 +105,7 @@ fn item_of(item: &Expr, scope: &Scope, count: usize, alloc: Global) -> Option<De
     }
 }
 
-/// A struct of two numbers: written out, or the row of two legs.
+/// A struct of two numbers: written out, or a name for one.
 #[tactic(auto, using(crate::proofs::PairLemmas::row_pair))]
 fn pair_of(item: &Expr, scope: &Scope, count: usize, alloc: Global) -> Option<Deed>
     ensures { MayBeItem item.now (scope_env scope.now) result count }
@@ -216,7 +216,7 @@ fn before(first: Box<Deed>, rest: Deeds, alloc: Global) -> Option<Deeds>
     }
 }
 
-/// A `let` of numbers.
+/// A `let` of numbers or of a struct of such.
 #[cycle(bodies)]
 #[tactic(auto, using(crate::proofs::BodyLemmas::let_does))]
 fn of_let(e: &Expr, scope: &Scope, count: usize, alloc: Global) -> Option<Deed>
@@ -224,11 +224,11 @@ fn of_let(e: &Expr, scope: &Scope, count: usize, alloc: Global) -> Option<Deed>
 {
     match &e.form {
         Form::Let(binder, first, body) => {
-            let bound = match numbers(first, &*scope, count, alloc) {
+            let bound = match bound_of(first, &*scope, count, alloc) {
                 Some(bound) => bound,
                 None => return None,
             };
-            let inner = with_numbers(binder.sym, &bound, &*scope);
+            let inner = with_bound(binder.sym, &bound, &*scope);
             deed_of(body, &inner, count, alloc)
         }
         _ => None,

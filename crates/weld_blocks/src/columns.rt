@@ -8,7 +8,8 @@ ghost use Rattle.weld_data.specs.Value.{number};
 ghost use Rattle.weld_eval.specs.ShortView.{view_short};
 ghost use Rattle.weld_tree.specs.ExprView.{view_leaf, view_one};
 ghost use Rattle.weld_blocks.specs.Numbers.{number_at, MayGive, MayBeNumbers, IsChosen, IsName, Chooses};
-ghost use Rattle.weld_blocks.specs.Scope.{scope_env};
+ghost use Rattle.weld_blocks.specs.Deeds.{IsStructTree};
+ghost use Rattle.weld_blocks.specs.Scope.{scope_env, struct_at, IsBound, MayBeBound};
 
 use crate::arithmetic::{arithmetic, compared};
 use crate::choices::choose;
@@ -16,11 +17,11 @@ use crate::gather::gather;
 use crate::leaves::{constant, field_named, named};
 use crate::numbers::{Numbers, is_same};
 use crate::operations::{Altered, Operated, is_integer, takes};
-use crate::scope::{Scope, with_numbers};
+use crate::scope::{Bound, Scope, with_bound};
 use std::alloc::Global;
 use weld_data::{BinOp, Kind, Num, wrap};
 use weld_eval::short::Short;
-use weld_tree::{Expr, Form, LeafForm, OneForm, Sym, ThreeForm, TwoForm};
+use weld_tree::{Expr, Form, LeafForm, ManyForm, OneForm, Sym, ThreeForm, TwoForm};
 
 /// The numbers that an expression comes to on so many rows, where it is made of literals, names, fields of rows, operators,
 /// `if`, `select` and `let`, no row of it faults, also in arms that aren't chosen, and there is memory for them.
@@ -293,7 +294,7 @@ fn chosen(
     choose(condition, then, otherwise, count, alloc)
 }
 
-/// The numbers of a `let` of numbers.
+/// The numbers of a `let` of numbers or of a struct of such.
 #[cycle(columns)]
 #[tactic(auto, using(crate::proofs::ColumnLemmas::let_numbers))]
 fn of_let(e: &Expr, scope: &Scope, count: usize, alloc: Global) -> Option<Numbers>
@@ -301,13 +302,55 @@ fn of_let(e: &Expr, scope: &Scope, count: usize, alloc: Global) -> Option<Number
 {
     match &e.form {
         Form::Let(binder, first, body) => {
-            let bound = match numbers(first, &*scope, count, alloc) {
+            let bound = match bound_of(first, &*scope, count, alloc) {
                 Some(bound) => bound,
                 None => return None,
             };
-            let inner = with_numbers(binder.sym, &bound, &*scope);
+            let inner = with_bound(binder.sym, &bound, &*scope);
             numbers(body, &inner, count, alloc)
         }
         _ => None,
+    }
+}
+
+/// What a `let` binds: the numbers that an expression comes to, or of a struct those of each of its parts.
+#[cycle(columns)]
+pub(crate) fn bound_of(e: &Expr, scope: &Scope, count: usize, alloc: Global) -> Option<Bound>
+    ensures { MayBeBound e.now (scope_env scope.now) result count }
+{
+    match &e.form {
+        Form::Many(ManyForm::Struct, _) => match fields_of(e, scope, count, alloc) {
+            Some(columns) => Some(Bound::Fields(columns)),
+            None => None,
+        },
+        _ => match numbers(e, scope, count, alloc) {
+            Some(numbers) => Some(Bound::Number(numbers)),
+            None => None,
+        },
+    }
+}
+
+/// The numbers of each part of a struct.
+#[cycle(columns)]
+fn fields_of(e: &Expr, scope: &Scope, count: usize, alloc: Global) -> Option<Vec<Numbers>>
+    requires { IsStructTree e.now }
+    ensures { IfSome result (λ cs. IsBound e.now (scope_env scope.now) (struct_at cs.items) count) }
+{
+    match &e.form {
+        Form::Many(_, parts) => {
+            let mut columns = Vec::new(alloc);
+            for place in 0..parts.len() {
+                let column = match numbers(&parts.as_slice()[place], scope, count, alloc) {
+                    Some(column) => column,
+                    None => return None,
+                };
+                match columns.push(column) {
+                    Ok(()) => {}
+                    Err(_) => return None,
+                }
+            }
+            Some(columns)
+        }
+        _ => unreachable!(),
     }
 }

@@ -15,13 +15,13 @@ ghost use Rattle.weld_eval.specs.RowLists.{row_in, rows_in};
 ghost use Rattle.weld_eval.specs.ShortView.{view_short};
 ghost use Rattle.weld_eval.specs.ThingView.{thing_of};
 ghost use Rattle.weld_blocks.specs.Numbers.{MayGive, number_at as number_of_place, MayGiveLeg};
-ghost use Rattle.weld_blocks.specs.Scope.{scope_env, row_env};
+ghost use Rattle.weld_blocks.specs.Scope.{bound_at, scope_env, row_env};
 ghost use Rattle.weld_blocks.specs.Works.{AreCopied};
 
 use crate::gather::{Gives, gather};
 use crate::numbers::Numbers;
 use crate::operations::Counted;
-use crate::scope::{Rows, Scope};
+use crate::scope::{Bound, Rows, Scope};
 use std::alloc::Global;
 use weld_data::{Column, Kind, Val, Vals};
 use weld_eval::frame::Frame;
@@ -143,9 +143,9 @@ pub(crate) fn named(scope: &Scope, name: Sym, count: usize, alloc: Global) -> Op
     ensures { MayGive (λ place v. look_for name.0 (scope_env scope.now place) ≡ Some (plain v)) result count }
 {
     match scope {
-        Scope::Number(bound, numbers, rest) => {
-            if bound.0 == name.0 {
-                first_of(numbers, count, alloc)
+        Scope::Let(newest, bound, rest) => {
+            if newest.0 == name.0 {
+                numbers_bound(bound, count, alloc)
             } else {
                 named(rest, name, count, alloc)
             }
@@ -154,9 +154,38 @@ pub(crate) fn named(scope: &Scope, name: Sym, count: usize, alloc: Global) -> Op
     }
 }
 
+/// The numbers that are bound, where no structs are.
+#[tactic(auto, using(crate::proofs::LeafLemmas::number_bound))]
+fn numbers_bound(bound: &Bound, count: usize, alloc: Global) -> Option<Numbers>
+    ensures { MayGive (λ place v. v ≡ bound_at bound.now place) result count }
+{
+    match bound {
+        Bound::Number(numbers) => first_of(numbers, count, alloc),
+        Bound::Fields(_) => None,
+    }
+}
+
+/// The numbers of a field of the structs that are bound.
+#[tactic(auto, using(crate::proofs::LeafLemmas::field_bound))]
+fn field_of_bound(field: u32, bound: &Bound, count: usize, alloc: Global) -> Option<Numbers>
+    ensures { MayGive (λ place v. value_field field (bound_at bound.now place) ≡ done v) result count }
+{
+    match bound {
+        Bound::Number(_) => None,
+        Bound::Fields(columns) => {
+            let field = field as usize;
+            if field < columns.len() {
+                first_of(&columns[field], count, alloc)
+            } else {
+                None
+            }
+        }
+    }
+}
+
 /// The same numbers, where there are so many.
 #[tactic(auto, using(crate::proofs::LeafLemmas::copy_given))]
-fn first_of(numbers: &Numbers, count: usize, alloc: Global) -> Option<Numbers>
+pub(crate) fn first_of(numbers: &Numbers, count: usize, alloc: Global) -> Option<Numbers>
     ensures { MayGive (λ place v. v ≡ number_of_place numbers.now place) result count }
 {
     if numbers.len() == count {
@@ -300,8 +329,8 @@ fn argument<'a>(params: &'a Binders, values: &'a Vals, name: Sym) -> Option<&'a 
     None
 }
 
-/// The numbers in a field of what a name stands for, where it is the row of several legs.
-#[tactic(auto, using(crate::proofs::LeafLemmas::field_below, crate::proofs::LeafLemmas::field_of_rows))]
+/// The numbers in a field of what a name stands for, where it is the row of several legs or a struct of numbers that was bound.
+#[tactic(auto, using(crate::proofs::LeafLemmas::field_here, crate::proofs::LeafLemmas::field_below, crate::proofs::LeafLemmas::field_of_rows))]
 pub(crate) fn field_named(
     field: u32,
     scope: &Scope,
@@ -312,9 +341,9 @@ pub(crate) fn field_named(
     ensures { MayGive (λ place v. and_then (found (look_for name.0 (scope_env scope.now place))) (field_of_thing field) ≡ done (plain v)) result count }
 {
     match scope {
-        Scope::Number(bound, _, rest) => {
-            if bound.0 == name.0 {
-                None
+        Scope::Let(newest, bound, rest) => {
+            if newest.0 == name.0 {
+                field_of_bound(field, bound, count, alloc)
             } else {
                 field_named(field, rest, name, count, alloc)
             }

@@ -1,4 +1,4 @@
-//! The rows of two legs that are two numbers.
+//! Structs of two numbers that a name stands for.
 
 ghost use Rattle.std.specs.Prelude.{◌≡◌, ◌+◌, ◌∷◌, [], Some, IfSome};
 ghost use Rattle.weld_data.specs.View.{view_column};
@@ -7,11 +7,11 @@ ghost use Rattle.weld_meaning.specs.Thing.{plain};
 ghost use Rattle.weld_eval.specs.LegsView.{lists_of};
 ghost use Rattle.weld_eval.specs.RowLists.{row_in};
 ghost use Rattle.weld_blocks.specs.Deeds.{MayBePair};
-ghost use Rattle.weld_blocks.specs.Scope.{scope_env};
+ghost use Rattle.weld_blocks.specs.Scope.{bound_at, scope_env};
 
 use crate::deed::Deed;
-use crate::leaves::{elements_of, only_column};
-use crate::scope::Scope;
+use crate::leaves::{elements_of, first_of, only_column};
+use crate::scope::{Bound, Scope};
 use std::alloc::Global;
 use weld_data::Column;
 use weld_eval::legs::Legs;
@@ -31,15 +31,15 @@ fn two_columns<'a>(legs: &'a Legs<'a>) -> Option<(&'a Column, &'a Column)>
     }
 }
 
-/// The two numbers of which a name is a struct on so many rows, where it is the row of two legs.
-#[tactic(auto, using(crate::proofs::PairLemmas::pair_below, crate::proofs::PairLemmas::pair_of_rows))]
+/// The two numbers of which a name is a struct on so many rows, where it is the row of two legs or was bound to such a struct.
+#[tactic(auto, using(crate::proofs::PairLemmas::pair_here, crate::proofs::PairLemmas::pair_below, crate::proofs::PairLemmas::pair_of_rows))]
 pub(crate) fn pair_named(scope: &Scope, name: Sym, count: usize, alloc: Global) -> Option<Deed>
     ensures { MayBePair (λ place v. look_for name.0 (scope_env scope.now place) ≡ Some (plain v)) result count }
 {
     match scope {
-        Scope::Number(bound, _, rest) => {
-            if bound.0 == name.0 {
-                None
+        Scope::Let(newest, bound, rest) => {
+            if newest.0 == name.0 {
+                pair_of_bound(bound, count, alloc)
             } else {
                 pair_named(rest, name, count, alloc)
             }
@@ -49,6 +49,29 @@ pub(crate) fn pair_named(scope: &Scope, name: Sym, count: usize, alloc: Global) 
                 pair_of_row(rows.legs, rows.from, count, alloc)
             } else {
                 None
+            }
+        }
+    }
+}
+
+/// The two numbers of the structs that are bound.
+#[tactic(auto, using(crate::proofs::PairLemmas::pair_bound))]
+fn pair_of_bound(bound: &Bound, count: usize, alloc: Global) -> Option<Deed>
+    ensures { MayBePair (λ place v. bound_at bound.now place ≡ v) result count }
+{
+    match bound {
+        Bound::Number(_) => None,
+        Bound::Fields(columns) => {
+            if columns.len() != 2 {
+                return None;
+            }
+            let keys = match first_of(&columns[0], count, alloc) {
+                Some(keys) => keys,
+                None => return None,
+            };
+            match first_of(&columns[1], count, alloc) {
+                Some(numbers) => Some(Deed::Pair(keys, numbers)),
+                None => None,
             }
         }
     }

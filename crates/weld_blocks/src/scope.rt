@@ -2,8 +2,7 @@
 
 ghost use Rattle.std.specs.Prelude.{◌≡◌, ◌∷◌, ℕ};
 ghost use Rattle.weld_meaning.specs.Thing.{plain};
-ghost use Rattle.weld_blocks.specs.Numbers.{number_at};
-ghost use Rattle.weld_blocks.specs.Scope.{scope_env, row_env};
+ghost use Rattle.weld_blocks.specs.Scope.{bound_at, scope_env, row_env};
 
 use crate::numbers::Numbers;
 use weld_eval::frame::Frame;
@@ -24,11 +23,18 @@ pub struct Rows<'a> {
     pub from: usize,
 }
 
-/// The names of such rows, and of numbers that were bound since, the newest first.
+/// What a `let` binds: numbers, one for each row, or structs of numbers, the numbers of each field being together.
+#[derive(Drop)]
+pub enum Bound {
+    Number(Numbers),
+    Fields(Vec<Numbers>),
+}
+
+/// The names of such rows, and those that were bound since, the newest first.
 #[derive(Clone, Copy)]
 pub enum Scope<'a> {
     Rows(&'a Rows<'a>),
-    Number(Sym, &'a Numbers, &'a Scope<'a>),
+    Let(Sym, &'a Bound, &'a Scope<'a>),
 }
 
 /// The names of rows. It takes no memory.
@@ -38,9 +44,9 @@ pub(crate) fn of_rows<'a>(rows: &'a Rows<'a>) -> Scope<'a>
     Scope::Rows(rows)
 }
 
-/// The names with one more, which stands for numbers. It takes no memory.
-pub(crate) fn with_numbers<'a>(name: Sym, numbers: &'a Numbers, rest: &'a Scope<'a>) -> Scope<'a>
-    ensures { (place : ℕ) → scope_env result place ≡ (name.0, plain (number_at numbers.now place)) ∷ scope_env rest.now place }
+/// The names with one more. It takes no memory.
+pub(crate) fn with_bound<'a>(name: Sym, bound: &'a Bound, rest: &'a Scope<'a>) -> Scope<'a>
+    ensures { (place : ℕ) → scope_env result place ≡ (name.0, plain (bound_at bound.now place)) ∷ scope_env rest.now place }
 {
-    Scope::Number(name, numbers, rest)
+    Scope::Let(name, bound, rest)
 }

@@ -1,6 +1,6 @@
 //! Programs from tokens.
 ghost use Rattle.std.specs.Prelude.{IfOk, IfErr};
-ghost use Rattle.weld_reduce.specs.Programs.{IsRead};
+ghost use Rattle.weld_reduce.specs.Programs.{AreOfTheirClasses, IsRead};
 ghost use Rattle.weld_parse.specs.Unread.{WhyUnread};
 
 use std::alloc::Global;
@@ -23,8 +23,10 @@ pub enum Unread {
     Memory,
 }
 
-/// The program that tokens spell, with the first of its names that is refused (the Weld papers).
+/// The program that tokens spell, each of which has the class of its bytes, with the first of its names that is refused
+/// (the Weld papers).
 pub fn read_program(alloc: Global, tokens: &[Token]) -> Result<Read, Unread>
+    requires classes { AreOfTheirClasses tokens.now }
     ensures read { IfOk result (λ read. IsRead tokens.now read.params read.body.value read.misnamed) }
     ensures unread { IfErr result (λ why. WhyUnread tokens.now why) }
 {

@@ -13,6 +13,7 @@ use weld_programs::laws::{derived_or_broken, numbers_by_the_tree, spelled_progra
 use weld_reduce::Read;
 use weld_spell::laws::programs_are_derived;
 use weld_terminals::Token;
+use weld_tokens::laws::classes_of_tokens;
 use weld_tokens::{end_of, first_refusal, has_too_many_bytes, has_too_many_tokens, read_tokens};
 use weld_tree::{Code, Program, Refusal};
 
@@ -42,6 +43,7 @@ fn parse_tokens(alloc: Global, text: &[u8], tokens: &[Token]) -> Result<Program,
     derived_or_broken();
     programs_are_derived();
     numbers_by_the_tree();
+    classes_of_tokens();
     if has_too_many_tokens(tokens) {
         return Err(Refusal::Size(Code::M3));
     }

@@ -28,11 +28,11 @@ use Rattle.weld_accept.specs.Derived.{steps}
 use Rattle.weld_reduce.specs.Values.{Value, top_expr, top_type}
 use Rattle.weld_reduce.specs.States.{State, start}
 use Rattle.weld_reduce.specs.Runs.{run, Comes, ComesToType}
-use Rattle.weld_reduce.specs.Programs.{IsDerivedBy, IsRead}
+use Rattle.weld_reduce.specs.Programs.{AreOfTheirClasses, IsDerivedBy, IsRead}
 use Rattle.weld_reduce.specs.Ends.{IsEndOf, IsEndOfType}
 
 abbrev pub ProgramsSpell : Type 0
-ProgramsSpell = (tree : Tree Token) → IsOf (item (OfRule Program)) (seen tree) → number_out_of_range tree ≡ None → Comes (run (steps (item (OfRule Program)) tree) (yield tree) start) (program_of tree) (first_misnamed tree)
+ProgramsSpell = (tree : Tree Token) → IsOf (item (OfRule Program)) (seen tree) → number_out_of_range tree ≡ None → AreOfTheirClasses (yield tree) → Comes (run (steps (item (OfRule Program)) tree) (yield tree) start) (program_of tree) (first_misnamed tree)
 
 abbrev pub TypesSpell : Type 0
 TypesSpell = (tree : Tree Token) → IsOf (item (OfRule AnyType)) (seen tree) → ComesToType (run (steps (item (OfRule AnyType)) tree) (yield tree) start) (first_of (yield tree)) (type_of tree)
@@ -41,9 +41,9 @@ abbrev pub NumbersByTree : Type 0
 NumbersByTree = (tree : Tree Token) → IsOf (item (OfRule Program)) (seen tree) → first_number_out_of_range (yield tree) ≡ number_out_of_range tree
 
 -- the run of a derivation
-comes : ProgramsSpell → NumbersByTree → (ts : List Token) (ss : List Step) (d : IsDerivedBy Program ts ss) → first_number_out_of_range ts ≡ None → Comes (run ss ts start) (program_of d.tree) (first_misnamed d.tree)
-comes law numbers ts ss d ranged =
-    let here = law d.tree d.tree_of (sym (numbers d.tree d.tree_of) ∙ ap first_number_out_of_range d.tokens ∙ ranged) in
+comes : ProgramsSpell → NumbersByTree → (ts : List Token) (ss : List Step) (d : IsDerivedBy Program ts ss) → first_number_out_of_range ts ≡ None → AreOfTheirClasses ts → Comes (run ss ts start) (program_of d.tree) (first_misnamed d.tree)
+comes law numbers ts ss d ranged read =
+    let here = law d.tree d.tree_of (sym (numbers d.tree d.tree_of) ∙ ap first_number_out_of_range d.tokens ∙ ranged) (subst AreOfTheirClasses (sym d.tokens) read) in
     let Over : List Token → Type 0 = λ xs. Comes (run (steps (item (OfRule Program)) d.tree) xs start) (program_of d.tree) (first_misnamed d.tree) in
     let By : List Step → Type 0 = λ zs. Comes (run zs ts start) (program_of d.tree) (first_misnamed d.tree) in
     subst By d.is (subst Over d.tokens here)
@@ -62,9 +62,9 @@ none_some : {A : Type 0} (x : A) → None ≡ Some x → ⊥
 none_some x e = absurd (cc)
 
 -- where the code runs through from the start, it ends at the program
-pub ended : ProgramsSpell → NumbersByTree → (ts : List Token) (ss : List Step) → IsDerivedBy Program ts ss → first_number_out_of_range ts ≡ None → (old new : State) → old ≡ start → run ss ts old ≡ Some new → IsEndOf ts new
-ended law numbers ts ss d ranged old new first ran =
-    let c = comes law numbers ts ss d ranged in
+pub ended : ProgramsSpell → NumbersByTree → (ts : List Token) (ss : List Step) → IsDerivedBy Program ts ss → first_number_out_of_range ts ≡ None → AreOfTheirClasses ts → (old new : State) → old ≡ start → run ss ts old ≡ Some new → IsEndOf ts new
+ended law numbers ts ss d ranged read old new first ran =
+    let c = comes law numbers ts ss d ranged read in
     let same : c.state ≡ new = some_one c.state new (sym c.is ∙ ap (run ss ts) (sym first) ∙ ran) in
     record {
       tree = d.tree;
@@ -75,9 +75,9 @@ ended law numbers ts ss d ranged old new first ran =
       misnamed = ap (λ (s : State). s.misnamed) (sym same) ∙ c.refused;
     }
 
-pub fits : ProgramsSpell → NumbersByTree → (ts : List Token) (ss : List Step) → IsDerivedBy Program ts ss → first_number_out_of_range ts ≡ None → (old : State) → old ≡ start → run ss ts old ≡ None → ⊥
-fits law numbers ts ss d ranged old first ran =
-    let c = comes law numbers ts ss d ranged in
+pub fits : ProgramsSpell → NumbersByTree → (ts : List Token) (ss : List Step) → IsDerivedBy Program ts ss → first_number_out_of_range ts ≡ None → AreOfTheirClasses ts → (old : State) → old ≡ start → run ss ts old ≡ None → ⊥
+fits law numbers ts ss d ranged read old first ran =
+    let c = comes law numbers ts ss d ranged read in
     none_some c.state (sym ran ∙ ap (run ss ts) first ∙ c.is)
 
 pub ended_type : TypesSpell → (ts : List Token) (ss : List Step) → IsDerivedBy AnyType ts ss → (old new : State) → old ≡ start → run ss ts old ≡ Some new → IsEndOfType ts new

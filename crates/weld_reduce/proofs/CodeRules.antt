@@ -1,9 +1,12 @@
 -- The rules that bind no names.
-use Rattle.std.proofs.Common.{◌≡◌, refl, Option, Some, None, option_and_then, ap}
+use Rattle.std.proofs.Common.{◌≡◌, refl, ℕ, Bool, true, false, List, Option, Some, None, option_and_then, ap}
+use Rattle.weld_terminals.specs.declared.class.Class.{Class}
+use Rattle.weld_terminals.specs.declared.class.Class.TheVariants as classes
+use Rattle.weld_tokens.specs.Words.{class_of}
 use Rattle.weld_grammar.specs.declared.rule.Rule.{Rule}
 use Rattle.weld_grammar.specs.declared.rule.Rule.TheVariants as r
 use Rattle.weld_names.specs.Names.{Refused, or_else}
-use Rattle.weld_reduce.specs.Forms.{reduced}
+use Rattle.weld_reduce.specs.Forms.{reduced, is_field}
 use Rattle.weld_reduce.specs.States.{State, reduce, refuse, with_values}
 
 -- a rule, by what it makes of the stack
@@ -93,3 +96,15 @@ or_else-none (Some refused) = refl
 -- no refusal changes nothing
 pub refuse_none : (st : State) → refuse None st ≡ st
 refuse_none st = ap (λ m. record { values = st.values; binders = st.binders; scope = st.scope; next = st.next; misnamed = m; params = st.params }) (or_else-none st.misnamed)
+
+-- ---- fields
+
+pub field_is_told : (word : List ℕ) → class_of word ≡ Some classes.Field → is_field (class_of word) ≡ true
+field_is_told word e = ap is_field e
+
+pub no_field_is_told : (word : List ℕ) → (class_of word ≡ Some classes.Field → ⊥) → is_field (class_of word) ≡ false
+no_field_is_told word h = without (class_of word) h
+  where
+    without : (o : Option Class) → (o ≡ Some classes.Field → ⊥) → is_field o ≡ false
+    without (Some classes.Field) h = absurd (h refl)
+    without _ h = refl

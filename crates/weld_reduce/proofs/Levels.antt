@@ -118,7 +118,8 @@ fields (pair (node (pair d (pair (leaf k) end))) more) left st g =
     let before = push (token x.is) (push (expr left) st) in
     one_more
     (opened (row (x.does (push (expr left) st)) (row (plain {next = push (token k) before} (λ z. refl)) (ended end (push (token k) before) g.0.1.1)))
-    (λ z. λ i. Some (since z (push (expr (one (at (first_of (x.only i))) (field_form (field_value k.word)) left)) st))))
+    (λ z. ap (λ b. option_and_then (λ vs. Some (with_values (since z st) vs)) (option_and_then (λ n. Some (expr (one (at x.is.place) (field_form n) left) ∷ st.values)) (cond b (Some (field_value k.word)) None))) g.0.1.0.read
+    ∙ λ i. Some (since z (push (expr (one (at (first_of (x.only i))) (field_form (field_value k.word)) left)) st))))
     (fields more (one (node_at d) (field_form (field_value k.word)) left) st g.1)
 fields _ left st g = absurd (assumption)
 

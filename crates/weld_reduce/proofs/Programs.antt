@@ -16,6 +16,7 @@ use Rattle.weld_names.specs.Names.{Refused, or_else, reserved, misnamed, none, w
 use Rattle.weld_programs.specs.Ranges.{number_out_of_range}
 use Rattle.weld_reduce.specs.Values.{token, expr}
 use Rattle.weld_reduce.specs.States.{State, push, start, names_of}
+use Rattle.weld_reduce.specs.Programs.{AreOfTheirClasses}
 use Rattle.weld_reduce.specs.Runs.{run, Comes, ComesToType}
 use Rattle.weld_reduce.proofs.Does.{Does, since, opened, kept, first, later, row, no_more, one_more, leads, refuses, or_else-none}
 use Rattle.weld_reduce.proofs.Good.{Good, good, numberless}
@@ -102,9 +103,9 @@ done _ g = absurd (assumption)
 whole : {p : Part} {t : Tree Token} {st next : State} {m : Option Refused} → Does p t st m next → (z : Option Refused) → run (steps p t) (yield t) (since z st) ≡ Some (since (or_else z m) next)
 whole {p} {t} {st} {next} {m} d z = ap (λ k. run k (yield t) (since z st)) (sym (append-nil (steps p t))) ∙ ap (λ k. run (steps p t ++ []) k (since z st)) (sym (append-nil (yield t))) ∙ d.runs z [] []
 
-pub spelled : (t : Tree Token) → IsOf (item (OfRule r.Program)) (seen t) → number_out_of_range t ≡ None → Comes (run (steps (item (OfRule r.Program)) t) (yield t) start) (program_of t) (first_misnamed t)
-spelled t h e =
-    let d = done t (good false (item (OfRule r.Program)) t h e) in
+pub spelled : (t : Tree Token) → IsOf (item (OfRule r.Program)) (seen t) → number_out_of_range t ≡ None → AreOfTheirClasses (yield t) → Comes (run (steps (item (OfRule r.Program)) t) (yield t) start) (program_of t) (first_misnamed t)
+spelled t h e k =
+    let d = done t (good false (item (OfRule r.Program)) t h e k) in
     record { state = since (first_misnamed t) d.state; is = whole d.does None; values = d.values; params = d.params; refused = refl }
 
 pub spelled_type : (t : Tree Token) → IsOf (item (OfRule r.AnyType)) (seen t) → ComesToType (run (steps (item (OfRule r.AnyType)) t) (yield t) start) (first_of (yield t)) (type_of t)

@@ -1,6 +1,6 @@
 -- What lies on the stack behind a rule that binds no names, from what lay on it before (the Weld papers); none where it isn't of the
 -- rule's form, or where a number is out of its range.
-use Rattle.std.specs.Prelude.{Bool, true, false, if◌then◌else◌, Option, Some, None, option_and_then, List, [], ◌∷◌, ◌++◌}
+use Rattle.std.specs.Prelude.{ℕ, Bool, true, false, if◌then◌else◌, Option, Some, None, option_and_then, List, [], ◌∷◌, ◌++◌}
 use Rattle.weld_data.specs.declared.kind.Kind.{Kind}
 use Rattle.weld_data.specs.declared.kind.Kind.TheVariants as kinds
 use Rattle.weld_data.specs.declared.op.BinOp.{BinOp}
@@ -13,6 +13,7 @@ use Rattle.weld_terminals.specs.declared.symbol.Symbol.TheVariants as s
 use Rattle.weld_terminals.specs.declared.reserved.Reserved.TheVariants as w
 use Rattle.weld_terminals.specs.declared.token.Token.{Token}
 use Rattle.weld_tokens.specs.Literals.{is_in_range, literal_value, field_value}
+use Rattle.weld_tokens.specs.Words.{class_of}
 use Rattle.weld_tree.specs.declared.place.Place.{Place}
 use Rattle.weld_tree.specs.declared.known.Known.TheVariants.{Blank}
 use Rattle.weld_tree.specs.TypeTree.{BuildTree, scalar, vec, struct, dict, build, list, total, keyed, cells, groups, pack}
@@ -97,9 +98,18 @@ abbrev pub minus : List Value → Reduced
 minus (token k ∷ vs) = option_and_then (λ t. option_and_then (λ e. Some (expr e ∷ t.1)) (literal true t.0.place k)) (top_token vs)
 minus vs = call_one (λ t. neg) vs
 
+-- a field's class
+abbrev pub is_field : Option Class → Bool
+is_field (Some classes.Field) = true
+is_field _ = false
+
+-- the number of a field's token; none where the token is no field
+abbrev pub field_number : Token → Option ℕ
+field_number t = if is_field (class_of t.word) then Some (field_value t.word) else None
+
 -- `e . $k`
 abbrev pub field : List Value → Reduced
-field vs = option_and_then (λ k. option_and_then (λ d. option_and_then (λ e. Some (expr (one (at d.0.place) (field_form (field_value k.0.word)) e.0) ∷ e.1)) (top_expr d.1)) (top_token k.1)) (top_token vs)
+field vs = option_and_then (λ k. option_and_then (λ d. option_and_then (λ e. option_and_then (λ n. Some (expr (one (at d.0.place) (field_form n) e.0) ∷ e.1)) (field_number k.0)) (top_expr d.1)) (top_token k.1)) (top_token vs)
 
 -- one more expression of a list
 abbrev pub next_expr : List Value → Reduced

@@ -7,6 +7,7 @@ pub mod Views
 pub mod Operators
 pub mod Tops
 pub mod StateView
+pub mod Hiding
 pub mod Newest
 pub mod Ways
 pub mod Ends

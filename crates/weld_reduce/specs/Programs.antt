@@ -1,6 +1,8 @@
 -- Derivations over tokens, and what is read of those of a program.
-use Rattle.std.specs.Prelude.{◌≡◌, List, Option}
+use Rattle.std.specs.Prelude.{◌≡◌, List, Option, Some}
+use Rattle.std.specs.List.{AllByRecursion}
 use Rattle.weld_terminals.specs.declared.token.Token.{Token}
+use Rattle.weld_tokens.specs.Words.{class_of}
 use Rattle.weld_tree.specs.ExprTree.{ExprTree}
 use Rattle.weld_tree.specs.declared.binder.Binder.{Binder}
 use Rattle.weld_grammar.specs.declared.rule.Rule.{Rule}
@@ -28,3 +30,7 @@ pub record IsRead (ts : List Token) (params : List Binder) (body : ExprTree) (re
   pub tokens : yield tree ≡ ts
   pub program : program_of tree ≡ record { params = params; body = body }
   pub misnamed : first_misnamed tree ≡ refused
+
+-- each has the class of its bytes
+abbrev pub AreOfTheirClasses : List Token → Type 0
+AreOfTheirClasses ts = AllByRecursion (λ t. class_of t.word ≡ Some t.class) ts

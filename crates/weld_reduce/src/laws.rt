@@ -16,7 +16,7 @@ ghost use Rattle.weld_names.specs.Names.{first_misnamed};
 ghost use Rattle.weld_programs.specs.Ranges.{number_out_of_range};
 ghost use Rattle.weld_reduce.specs.States.{start};
 ghost use Rattle.weld_reduce.specs.Runs.{run, Comes, ComesToType};
-ghost use Rattle.weld_reduce.specs.Programs.{IsDerivedBy};
+ghost use Rattle.weld_reduce.specs.Programs.{AreOfTheirClasses, IsDerivedBy};
 
 /// A derivation of the classes of tokens is one of the tokens, by the same steps.
 pub fn derivations_are_over_tokens()
@@ -24,9 +24,9 @@ pub fn derivations_are_over_tokens()
 {}
 
 /// What the steps of a program's derivation come to is the program that its tree spells, with the first of its names that
-/// is refused, where no number is out of its range. What those of a type's come to is the type that its tree spells, at the
+/// is refused, where no number is out of its range and each token has the class of its bytes. What those of a type's come to is the type that its tree spells, at the
 /// place of its first token.
 pub fn derivations_spell()
-    ensures programs { (tree : Tree Token) → IsOf (item (OfRule Program)) (seen tree) → number_out_of_range tree ≡ None → Comes (run (steps (item (OfRule Program)) tree) (yield tree) start) (program_of tree) (first_misnamed tree) }
+    ensures programs { (tree : Tree Token) → IsOf (item (OfRule Program)) (seen tree) → number_out_of_range tree ≡ None → AreOfTheirClasses (yield tree) → Comes (run (steps (item (OfRule Program)) tree) (yield tree) start) (program_of tree) (first_misnamed tree) }
     ensures types { (tree : Tree Token) → IsOf (item (OfRule AnyType)) (seen tree) → ComesToType (run (steps (item (OfRule AnyType)) tree) (yield tree) start) (first_of (yield tree)) (type_of tree) }
 {}

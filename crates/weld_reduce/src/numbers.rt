@@ -1,8 +1,7 @@
 //! Numbers, and the fields of structs.
 ghost use Rattle.std.specs.Prelude.{◌≡◌, Some, None, IfOk, OnOk, IfErr};
 ghost use Rattle.weld_spell.specs.ProgramOf.{kind_of_class};
-ghost use Rattle.weld_tokens.specs.Literals.{field_value};
-ghost use Rattle.weld_reduce.specs.declared.stop.Stop.TheVariants.{Broken, Memory};
+ghost use Rattle.weld_reduce.specs.declared.stop.Stop.TheVariants.{Broken};
 ghost use Rattle.weld_reduce.specs.Forms as forms;
 
 use crate::calls::call_one;
@@ -71,14 +70,15 @@ pub fn minus(alloc: Global, values: &mut Values) -> Result<(), Stop>
     Ok(())
 }
 
-/// The number of a field. A token that was read has at most nine digits; for another there is no room.
+/// The number of a field's token.
+#[tactic(auto, using(crate::proofs::CodeRules::field_is_told, crate::proofs::CodeRules::no_field_is_told))]
 fn field_number(token: &Token) -> Result<u32, Stop>
-    ensures ok { IfOk result (λ n. n ≡ field_value token.now.word) }
-    ensures memory { IfErr result (λ stop. stop ≡ Memory) }
+    ensures ok { IfOk result (λ n. forms.field_number token.now ≡ Some n) }
+    ensures broken { IfErr result (λ _. forms.field_number token.now ≡ None) }
 {
     match class_of(token.word.as_slice()) {
         Some(Class::Field) => Ok(field_of(token.word.as_slice())),
-        _ => Err(Stop::Memory),
+        _ => Err(Stop::Broken),
     }
 }
 

@@ -1,12 +1,14 @@
 //! The binders that are open, and the names in scope.
-ghost use Rattle.std.specs.Prelude.{◌≡◌, ◌∷◌, [], Some, None, true, false, MatchOption, OnOk, IfSome, IfNone, reverse, map};
+ghost use Rattle.std.specs.Prelude.{◌≡◌, ◌∷◌, [], Some, None, true, false, if◌then◌else◌, MatchOption, OnOk, IfSome, IfNone, IsSome, ℕ, List, bytes_eq};
 ghost use Rattle.weld_names.specs.Names.{bears};
 ghost use Rattle.weld_spell.specs.ProgramOf.{number_in};
 ghost use Rattle.weld_reduce.specs.Views.{view_named, view_seen};
 ghost use Rattle.weld_reduce.specs.States.{names_of};
 ghost use Rattle.weld_reduce.specs.Newest.{newest};
+ghost use Rattle.weld_reduce.specs.Hiding.{number_at};
 
 use std::alloc::{AllocError, Global};
+use std::collections::HashMap;
 use std::marker::Model;
 use weld_terminals::Token;
 use weld_tree::Binder;
@@ -31,10 +33,18 @@ pub struct Open<'a> {
     items: Vec<Named<'a>>,
 }
 
+/// A name that is seen, and the number of the binder of the same name that it hides.
+#[derive(Clone, Copy, Drop)]
+struct Hiding<'a> {
+    seen: Seen<'a>,
+    hidden: Option<u32>,
+}
+
 /// The names in scope. Contracts see them as plain data, the newest first.
 #[derive(Drop)]
 pub struct Scope<'a> {
-    items: Vec<Seen<'a>>,
+    items: Vec<Hiding<'a>>,
+    newest: HashMap<&'a [u8], u32>,
 }
 
 impl<'a> Model for Open<'a> {
@@ -54,14 +64,16 @@ impl<'a> Model for Open<'a> {
 }
 
 impl<'a> Model for Scope<'a> {
-    ghost use Rattle.std.specs.Prelude.{List, reverse, map};
+    ghost use Rattle.std.specs.Prelude.{List, reverse};
     ghost use Rattle.weld_spell.specs.ProgramOf.{Bound};
 
     ghost Value = { List Bound };
 
-    ghost use Rattle.weld_reduce.specs.Views.{view_seen};
+    ghost use Rattle.weld_reduce.specs.Hiding.{bounds, IsScope};
 
-    ghost view = { λ s. reverse (map view_seen s.items.items) };
+    ghost view = { λ s. bounds (reverse s.items.items) };
+
+    ghost invariant = { λ s. IsScope s.newest (reverse s.items.items) };
 }
 
 impl<'a> Open<'a> {
@@ -105,22 +117,22 @@ impl<'a> Open<'a> {
     }
 }
 
-/// The number of the last binder of the name among these, if there is one.
-fn number_among(items: &[Seen], bytes: &[u8]) -> Option<u32>
-    ensures some { IfSome result (λ n. n ≡ number_in (reverse (map view_seen items.now)) bytes.now) }
-    ensures bound { IfSome result (λ _. bears (names_of (reverse (map view_seen items.now))) bytes.now ≡ true) }
-    ensures zero { IfNone result (number_in (reverse (map view_seen items.now)) bytes.now ≡ 0) }
-    ensures unbound { IfNone result (bears (names_of (reverse (map view_seen items.now))) bytes.now ≡ false) }
+/// The binder of the name that was hidden is the newest again, if there is one.
+fn uncover(newest: &mut HashMap<&[u8], u32>, bytes: &[u8], hidden: Option<u32>)
+    requires { IsSome (number_at newest.old bytes.now) }
+    ensures { (name : List ℕ) → number_at newest.new name
+        ≡ if bytes_eq bytes.now name then hidden else number_at newest.old name }
 {
-    let mut i = items.len();
-    while i > 0 {
-        i -= 1;
-        let seen = &items[i];
-        if seen.word.word.as_slice() == bytes {
-            return Some(seen.number);
+    match hidden {
+        None => {
+            newest.remove(bytes);
+        }
+        Some(number) => {
+            if let Some(newest) = newest.get_mut(bytes) {
+                *newest = number;
+            }
         }
     }
-    None
 }
 
 impl<'a> Scope<'a> {
@@ -130,6 +142,7 @@ impl<'a> Scope<'a> {
     {
         Scope {
             items: Vec::new(alloc),
+            newest: HashMap::new(alloc),
         }
     }
 
@@ -137,8 +150,16 @@ impl<'a> Scope<'a> {
     pub fn push(&mut self, seen: Seen<'a>) -> Result<(), AllocError>
         ensures { OnOk result (self.new ≡ view_seen seen.entry ∷ self.old) }
     {
-        self.items.push(seen)?;
-        Ok(())
+        let bytes = seen.word.word.as_slice();
+        let hidden = self.newest.get(bytes).copied();
+        self.items.push(Hiding { seen, hidden })?;
+        match self.newest.insert(bytes, seen.number) {
+            Ok(_) => Ok(()),
+            Err(_) => {
+                self.items.pop();
+                Err(AllocError)
+            }
+        }
     }
 
     /// The newest name isn't seen any more.
@@ -146,7 +167,13 @@ impl<'a> Scope<'a> {
         ensures { MatchOption result
             (self.old ≡ []) (λ seen. self.old ≡ view_seen seen ∷ self.new) }
     {
-        self.items.pop()
+        match self.items.pop() {
+            None => None,
+            Some(Hiding { seen, hidden }) => {
+                uncover(&mut self.newest, seen.word.word.as_slice(), hidden);
+                Some(seen)
+            }
+        }
     }
 
     /// The number of the newest binder of the name, if one is in scope.
@@ -156,6 +183,6 @@ impl<'a> Scope<'a> {
         ensures zero { IfNone result (number_in self.now bytes.now ≡ 0) }
         ensures unbound { IfNone result (bears (names_of self.now) bytes.now ≡ false) }
     {
-        number_among(self.items.as_slice(), bytes)
+        self.newest.get(bytes).copied()
     }
 }

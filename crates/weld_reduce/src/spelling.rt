@@ -2,7 +2,7 @@
 ghost use Rattle.std.specs.Prelude.{◌≡◌, None, IfOk};
 ghost use Rattle.weld_tokens.specs.Order.{first_number_out_of_range as out_of_range};
 ghost use Rattle.weld_grammar.specs.declared.rule.Rule.TheVariants as rules;
-ghost use Rattle.weld_reduce.specs.Programs.{IsDerivedBy, IsRead};
+ghost use Rattle.weld_reduce.specs.Programs.{AreOfTheirClasses, IsDerivedBy, IsRead};
 ghost use Rattle.weld_reduce.specs.Ends.{IsEndOf};
 ghost use Rattle.weld_reduce.specs.StateView.{view_state};
 
@@ -25,11 +25,12 @@ pub struct Read {
     pub misnamed: Option<(Code, Place)>,
 }
 
-/// The program of a derivation, by its steps and its tokens, of which each number is in its range. It fails only for want
-/// of memory.
+/// The program of a derivation, by its steps and its tokens, of which each number is in its range and each token has the
+/// class of its bytes. It fails only for want of memory.
 pub fn spell(alloc: Global, tokens: &[Token], steps: &[Step]) -> Result<Read, AllocError>
     requires derived { IsDerivedBy rules.Program tokens.now steps.now }
     requires ranged { out_of_range tokens.now ≡ None }
+    requires read { AreOfTheirClasses tokens.now }
     ensures { IfOk result (λ read. IsRead tokens.now read.params read.body.value read.misnamed) }
 {
     derivations_spell();

@@ -1,10 +1,10 @@
 use Rattle.std.proofs.Common.{◌≡◌, ◌+◌, ◌-◌, ◌<◌, List, length, drop, get_or, sym, ap, ◌∙◌, subst, arith}
-use Rattle.weld_tree.specs.ExprTree.{ExprTree, At, three, many, pack_exprs}
+use Rattle.weld_tree.specs.ExprTree.{ExprTree, At, three, many, let_in, pack_exprs}
 use Rattle.weld_tree.specs.ExprView.{view_form, view_three, view_many}
 use Rattle.weld_tree.specs.declared.expr.Form.{Form}
 use Rattle.weld_blocks.specs.Deeds.{AreDeeds}
-use Rattle.weld_blocks.specs.Scope.{scope_env}
-use Rattle.weld_blocks.proofs.BodyLemmas.{choice_of, more_fields, struct_of_fields}
+use Rattle.weld_blocks.specs.Scope.{bound_at, scope_env}
+use Rattle.weld_blocks.proofs.BodyLemmas.{choice_of, let_does, more_fields, struct_of_fields}
 use Rattle.weld_blocks.proofs.body.+bodies.Goals as goal
 
 pub of_choice-returns-in-Some-boxed_deed-2 : goal.of_choice-returns-in-Some-boxed_deed-2
@@ -14,6 +14,14 @@ of_choice-returns-in-Some-boxed_deed-2 t c =
     sym c.e.view_is ∙ ap (λ (f : Form). view_form f at) c.in-Three.is ∙ (λ i. three at (view_three c.in-Three.field-0) (sym c.deref.ensures i) (sym c.deref-in-Three.ensures i) (sym c.deref-in-Three-2.ensures i)) in
     choice_of at (view_three c.in-Three.field-0) c.deref.result.now c.deref-in-Three.result.now c.deref-in-Three-2.result.now (scope_env c.args.scope.now) c.args.e.now
     c.in-Some.truths c.in-Some-boxed_deed.then c.in-Some-boxed_deed-2.otherwise c.args.count is c.requires c.in-Some.ensures c.in-Some-boxed_deed.ensures c.in-Some-boxed_deed-2.ensures
+
+pub of_let-returns-in-Some : goal.of_let-returns-in-Some
+of_let-returns-in-Some t c =
+    let at : At = record { place = c.e.inside.place; ty = c.e.inside.ty } in
+    let is : c.args.e.now ≡ let_in at c.in-Let.binder c.deref.result.now c.deref-in-Let.result.now =
+    sym c.e.view_is ∙ ap (λ (f : Form). view_form f at) c.in-Let.is ∙ (λ i. let_in at c.in-Let.binder (sym c.deref.ensures i) (sym c.deref-in-Let.ensures i)) in
+    let_does c.deed_of.result at c.in-Let.binder c.deref.result.now c.deref-in-Let.result.now (scope_env c.args.scope.now) (scope_env c.with_bound-inner.result) c.args.e.now (bound_at c.in-Some.bound) c.args.count is
+    c.in-Some.ensures c.with_bound-inner.ensures c.deed_of.ensures
 
 pub of_struct-returns : goal.of_struct-returns
 of_struct-returns t c =
