@@ -1,3 +1,4 @@
+pub mod Chaining
 pub mod Falling
 pub mod Legs
 pub mod Once
