@@ -57,19 +57,22 @@ mutual
   chain_rewrites laws (loop a ls e b n x f) tidy =
       let was : ExprTree = loop a ls e b n x f in
       let now : ExprTree = loop a (legs_fused ls) e b n x f in
-      let w = below laws a ls e b n x f tidy in
+      let w : Rewrites now was = laws.through.at_loop a (legs_fused ls) ls e e b n x f f (legs_rewrite laws ls (laws.parts was tidy).0) (laws.itself e) (laws.itself f) in
       settled_by (λ d. Rewrites d was) now w (λ h. laws.in_turn (fused now) now was (laws.fuses now (laws.within now was w.within tidy) h) w)
   chain_rewrites laws (iterate a e b f) tidy = laws.itself (iterate a e b f)
-
-  -- before the rule is tried at the loop itself
-  below : ChainLaws → (a : At) (ls : LegTrees) (e : ExprTree) (b n x : Binder) (f : ExprTree) → IsTidy (loop a ls e b n x f) → Rewrites (loop a (legs_fused ls) e b n x f) (loop a ls e b n x f)
-  below laws a ls e b n x f tidy =
-      laws.through.at_loop a (legs_fused ls) ls e e b n x f f (legs_rewrite laws ls (laws.parts (loop a ls e b n x f) tidy).0) (laws.itself e) (laws.itself f)
 
   legs_rewrite : ChainLaws → (ls : LegTrees) → LegsHaveEach IsTidy ls → LegsRelate Rewrites (legs_fused ls) ls
   legs_rewrite laws no_legs tidy = tt
   legs_rewrite laws (more_legs (whole e) ls) tidy = (chain_rewrites laws e tidy.0, legs_rewrite laws ls tidy.1)
   legs_rewrite laws (more_legs (strided e f g h) ls) tidy = ((laws.itself e, laws.itself f, laws.itself g, laws.itself h), legs_rewrite laws ls tidy.1)
+
+-- before the rule is tried at a loop itself, it is tidy still
+below_tidy : ChainLaws → (a : At) (ls : LegTrees) (e : ExprTree) (b n x : Binder) (f : ExprTree) → IsTidy (loop a ls e b n x f) → IsTidy (loop a (legs_fused ls) e b n x f)
+below_tidy laws a ls e b n x f tidy =
+    let was : ExprTree = loop a ls e b n x f in
+    let now : ExprTree = loop a (legs_fused ls) e b n x f in
+    let w : Rewrites now was = laws.through.at_loop a (legs_fused ls) ls e e b n x f f (legs_rewrite laws ls (laws.parts was tidy).0) (laws.itself e) (laws.itself f) in
+    laws.within now was w.within tidy
 
 -- ---- what it makes is a producer where the loop was
 
@@ -83,10 +86,10 @@ spine_sunk ty s c i n x f ne spine =
     (λ a z v h unused k none. both_true (uses v c == 0) (is_spine c (sunk ty c i n x f h)) (zero_is (uses v c) (omega (arith, none))) (k (omega (arith, none))))
     (λ a d e g unused k l none. both_true (uses d c == 0) (is_spine c (sunk ty c i n x f e) && is_spine c (sunk ty c i n x f g)) (zero_is (uses d c) (omega (arith, none)))
     (both_true (is_spine c (sunk ty c i n x f e)) (is_spine c (sunk ty c i n x f g)) (k (omega (arith, none))) (l (omega (arith, none)))))
-    (λ a d v unused none. both_true (uses (leaf a (name i)) c == 0) ((uses v c == 0) && is_spine c f) number (both_true (uses v c == 0) (is_spine c f) (zero_is (uses v c) (omega (arith, none))) spine))
+    (λ a d v unused none. both_true (uses (leaf a (name i)) c == 0) ((uses v c == 0) && is_spine c f) (number a) (both_true (uses v c == 0) (is_spine c f) (zero_is (uses v c) (omega (arith, none))) spine))
   where
-    number : {a : At} → (uses (leaf a (name i)) c == 0) ≡ true
-    number = ap (λ b. (if b then 1 else 0) == 0) (ne_eqb c i (λ e. ne (sym e)))
+    number : (a : At) → (uses (leaf a (name i)) c == 0) ≡ true
+    number a = ap (λ b. (if b then 1 else 0) == 0) (ne_eqb c i (λ e. ne (sym e)))
 
 -- with as many merges as the other has
 merges_sunk : (ty : Known) (s c i : ℕ) (n x : Binder) (f : ExprTree) → merges f ≡ 1 → (g : ExprTree) → is_spine s g ≡ true → merges (sunk ty c i n x f g) ≡ merges g
@@ -167,7 +170,7 @@ filter_kept laws (many a o es) tidy h = let nothing : ⊥ = cc in absurd nothing
 filter_kept laws (let_in a b e f) tidy h = let nothing : ⊥ = cc in absurd nothing
 filter_kept laws (loop a ls e b n x f) tidy h =
     let now : ExprTree = loop a (legs_fused ls) e b n x f in
-    settled_by (λ d. is_filter d ≡ true) now h (λ c. filter_fused now c (laws.within now (loop a ls e b n x f) (below laws a ls e b n x f tidy).within tidy) h)
+    settled_by (λ d. is_filter d ≡ true) now h (λ c. filter_fused now c (below_tidy laws a ls e b n x f tidy) h)
 filter_kept laws (iterate a e b f) tidy h = let nothing : ⊥ = cc in absurd nothing
 
 -- ---- each loop but the first is fused
