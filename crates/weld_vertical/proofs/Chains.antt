@@ -20,7 +20,7 @@ use Rattle.weld_sinking.specs.Sinking.{starts_list, is_spine, merges, is_produce
 use Rattle.weld_sinking.proofs.Spine.{spine_by}
 use Rattle.weld_sinking.proofs.Recognised.{Numbered, consumer_by}
 use Rattle.weld_vertical.specs.Fusing.{loops_rule}
-use Rattle.weld_vertical.specs.Chains.{is_unnumbered, loop_before, IsChain, IsChainBody, chain_fused, leg_fused, legs_fused}
+use Rattle.weld_vertical.specs.Chains.{is_unnumbered, loop_before, IsChain, IsChainProgram, chain_fused, leg_fused, legs_fused}
 
 -- the laws that this rests on
 pub record ChainLaws : Type 0 where
@@ -197,7 +197,7 @@ shorter laws (suc k) e tidy chain =
     one_shorter laws k a m e b n x f (chain_fused q) q unnumbered (filter_kept laws q tidy_before makes) (shorter laws k q tidy_before rest))
     e chain.1 tidy chain.0 chain.2
 
-pub chain_shorter : ChainLaws → (k : ℕ) (e : ExprTree) → IsTidy e → IsChainBody k e → loops (chain_fused e) + k ≤ loops e
+pub chain_shorter : ChainLaws → (k : ℕ) (e : ExprTree) → IsTidy e → IsChainProgram k e → loops (chain_fused e) + k ≤ loops e
 chain_shorter laws k (leaf a l) tidy chain = absurd chain
 chain_shorter laws k (one a o e) tidy chain = shorter laws k e (laws.parts (one a o e) tidy) chain.1
 chain_shorter laws k (two a o e f) tidy chain = absurd chain

@@ -32,15 +32,15 @@ IsChain zero e = is_unnumbered e ≡ true
 IsChain (suc k) e = (is_unnumbered e ≡ true) × (is_consumer e ≡ true) × IsChain k (loop_before e)
 
 -- the `result` of such a loop, as the body of a program
-abbrev pub IsChainBody : ℕ → ExprTree → Type 0
-IsChainBody k (leaf a l) = ⊥
-IsChainBody k (one a o e) = (is_finish o ≡ true) × IsChain k e
-IsChainBody k (two a o e f) = ⊥
-IsChainBody k (three a o e f g) = ⊥
-IsChainBody k (many a o es) = ⊥
-IsChainBody k (let_in a b e f) = ⊥
-IsChainBody k (loop a ls e b n x f) = ⊥
-IsChainBody k (iterate a e b f) = ⊥
+abbrev pub IsChainProgram : ℕ → ExprTree → Type 0
+IsChainProgram k (leaf a l) = ⊥
+IsChainProgram k (one a o e) = (is_finish o ≡ true) × IsChain k e
+IsChainProgram k (two a o e f) = ⊥
+IsChainProgram k (three a o e f g) = ⊥
+IsChainProgram k (many a o es) = ⊥
+IsChainProgram k (let_in a b e f) = ⊥
+IsChainProgram k (loop a ls e b n x f) = ⊥
+IsChainProgram k (iterate a e b f) = ⊥
 
 -- ---- the one loop
 

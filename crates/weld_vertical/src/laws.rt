@@ -7,7 +7,7 @@ ghost use Rattle.weld_replacing.specs.Tidy.{IsTidy};
 ghost use Rattle.weld_replacing.specs.Rewriting.{Rewrites};
 ghost use Rattle.weld_rounds.specs.Rules.{Falls, IsSound};
 ghost use Rattle.weld_sweep.specs.Sweep.{IsStill};
-ghost use Rattle.weld_vertical.specs.Chains.{IsChainBody, chain_fused};
+ghost use Rattle.weld_vertical.specs.Chains.{IsChainProgram, chain_fused};
 ghost use Rattle.weld_vertical.specs.Fusing.{loops_rule, HasNoSuchLoop};
 
 use weld_pass::laws::rules_are_tests;
@@ -32,7 +32,7 @@ pub fn loops_may_be_fused()
 /// its row number, there are as many loops less.
 pub fn chains_are_one_loop()
     ensures rewrites { (e : ExprTree) → IsTidy e → Rewrites (chain_fused e) e }
-    ensures fewer { (k : ℕ) (e : ExprTree) → IsTidy e → IsChainBody k e
+    ensures fewer { (k : ℕ) (e : ExprTree) → IsTidy e → IsChainProgram k e
         → loops (chain_fused e) + k ≤ loops e }
 {
     loops_over_loops_are_one();

@@ -17,7 +17,7 @@ pub fuse_each_leg-fuse_leg-requires : goal.fuse_each_leg-fuse_leg-requires
 fuse_each_leg-fuse_leg-requires t c =
     let h : leg_nodes (view_leg (get_or c.loop-leg.legs c.loop-leg.leg-index c.leg-item.result)) ≤ legs_nodes (pack_legs (map view_leg c.args.legs.now)) =
     leg_falls _ c.loop-leg.leg-index c.loop-leg.legs c.args.legs.now c.leg-item.result c.loop-leg.invariant c.loop-leg-test.true in
-    λ κs lives. (omega (arith, h), lives)
+    (omega (arith, h), tt)
 
 pub fuse_each_leg-loop-leg-preserved : goal.fuse_each_leg-loop-leg-preserved
 fuse_each_leg-loop-leg-preserved t c =
