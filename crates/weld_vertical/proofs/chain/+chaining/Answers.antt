@@ -1,4 +1,4 @@
-use Rattle.std.proofs.Common.{◌∙◌, ◌≤◌, map, get_or, arith}
+use Rattle.std.proofs.Common.{◌≤◌, map, get_or, arith}
 use Rattle.weld_tree.specs.ExprTree.{pack_legs}
 use Rattle.weld_tree.specs.ExprFalls.{leg_nodes, legs_nodes}
 use Rattle.weld_tree.specs.ExprView.{view_leg}
