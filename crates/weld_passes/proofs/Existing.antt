@@ -1,5 +1,5 @@
 -- Each program has a normal form.
-use Rattle.std.proofs.Common.{◌≡◌, ◌↔◌, ℕ, zero, suc, ◌<◌, ◌≤◌, Bool, true, false, List, [], None, refl, sym, ◌∙◌, arith, Result, Ok, Err, IfOk}
+use Rattle.std.proofs.Common.{◌≡◌, ◌↔◌, ℕ, zero, suc, ◌<◌, ◌≤◌, Bool, true, false, List, [], None, refl, sym, ◌∙◌, arith}
 use Rattle.weld_tree.specs.ExprTree.{ExprTree}
 use Rattle.weld_tree.specs.TypeTree.{TypeTree}
 use Rattle.weld_tree.specs.Program.{ProgramTree, IsProgram, loops}
@@ -15,11 +15,12 @@ use Rattle.weld_check_types.proofs.Found.{WalkIsTyping, ProgramWalkIsTyping, Typ
 use Rattle.weld_unnoted.specs.Unnoted.{IsSameButNotes}
 use Rattle.weld_reads_back.specs.Texts.{TextSpells}
 use Rattle.weld_sweep.specs.Sweep.{RootRule, swept, swept_times, moves, IsStill}
-use Rattle.weld_replacing.specs.Tidy.{IsTidy}
-use Rattle.weld_replacing.specs.Rewriting.{Rewrites, RewritesProgram, SameMeaning}
+use Rattle.weld_replacing.specs.Rewriting.{RewritesProgram, SameMeaning}
 use Rattle.weld_rounds.specs.Weight.{weight}
 use Rattle.weld_pass.proofs.Spelled.{TextLaws, spelled_by}
-use Rattle.weld_passes.specs.Normal.{all_rules, IsNormal, IsOptimised, HasNormalForm, CanBeOptimised}
+use Rattle.weld_vertical.specs.Chains.{chain_fused}
+use Rattle.weld_passes.specs.Normal.{all_rules, optimised_body, IsNormal, IsOptimised, HasNormalForm, CanBeOptimised}
+use Rattle.weld_passes.proofs.Bodies.{BodyLaws, Rewritten, rewritten_body}
 
 -- the laws of rounds that this rests on, for one rule
 pub record RoundsKnown (r : RootRule) : Type 0 where
@@ -40,8 +41,7 @@ rounds_end r known (suc k) e l = step r known e (moves r e) refl (λ lt. rounds_
 pub record Known : Type 0 where
   pub rounds : RoundsKnown all_rules
   pub normal : (p : ProgramTree) → IsStill all_rules p.body → IsNormal p
-  pub rewrites : (n : ℕ) (e : ExprTree) → IsTidy e → Rewrites (swept_times n all_rules e) e
-  pub tidy : (p : ProgramTree) → IsProgram p.params p.body → IsTidy p.body
+  pub bodies : BodyLaws
   pub accepted : (q p : ProgramTree) → RewritesProgram q p → IsAccepted p → ProgramIsNoted p → IsAccepted q
   pub means : (q p : ProgramTree) → RewritesProgram q p → IsAccepted p → ProgramIsNoted p → SameMeaning q p
   pub programs : (q p : ProgramTree) → RewritesProgram q p → IsProgram p.params p.body → IsProgram q.params q.body
@@ -62,9 +62,11 @@ normal_of : Known → (m : ProgramTree) (t : TypeTree) → IsProgram m.params m.
 normal_of known m t made typed linear =
     let uses = (known.linear m).0 linear in
     let accepted : IsAccepted m = record { typed = (t, typed.has); keeps = uses.0; splits = uses.1 } in
-    let ends = rounds_end all_rules known.rounds (weight m.body) m.body (omega arith) in
-    let q : ProgramTree = record { params = m.params; body = swept_times ends.0 all_rules m.body } in
-    let rewritten : RewritesProgram q m = record { params = refl; body = known.rewrites ends.0 m.body (known.tidy m made) } in
+    let front = chain_fused m.body in
+    let ends = rounds_end all_rules known.rounds (weight front) front (omega arith) in
+    let q : ProgramTree = record { params = m.params; body = optimised_body ends.0 m.body } in
+    let w : Rewritten q m = rewritten_body known.bodies m.params m.body m.body q.body ends.0 made refl refl in
+    let rewritten : RewritesProgram q m = w.rewrites in
     record {
       normal = q;
       rewrites = rewritten;
@@ -74,6 +76,7 @@ normal_of known m t made typed linear =
         normal = known.normal q ends.1;
         means = known.means q m rewritten accepted typed.noted;
         loops = known.fewer q m rewritten;
+        chain = w.chain;
       };
     }
 
@@ -103,9 +106,3 @@ optimisable known p t made accepted typed =
     let linear : linear_refusal p ≡ None = (known.linear p).1 (accepted.keeps, accepted.splits) in
     let n = normal_of known m t (program_made p.params p.body made) (noted_typed known p t made typed) (known.noted m p (same_program p) ∙ linear) in
     record { noted = m; same = same_program p; normal = n.normal; optimised = n.optimised }
-
--- what a pass keeps, put together
-pub optimised_of : {E : Type 0} (p : ProgramTree) (r : Result ProgramTree E) → ((q : ProgramTree) → IsStill all_rules q.body → IsNormal q) → IfOk r (λ q. IsAccepted q) → IfOk r (λ q. q.params ≡ p.params)
-    → IfOk r (λ q. SameMeaning q p) → IfOk r (λ q. loops q.body ≤ loops p.body) → IfOk r (λ q. IsStill all_rules q.body) → IfOk r (λ q. IsOptimised q p)
-optimised_of p (Err e) normal a b c d s = tt
-optimised_of p (Ok q) normal a b c d s = record { params = b; accepted = a; normal = normal q s; means = c; loops = d }

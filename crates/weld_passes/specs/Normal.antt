@@ -1,42 +1,51 @@
 -- The normal form of programs, and what stands in a program's place when it is run or shown.
-use Rattle.std.specs.Prelude.{◌≡◌, ◌≤◌}
+use Rattle.std.specs.Prelude.{◌≡◌, ◌+◌, ◌≤◌, ℕ}
 use Rattle.weld_tree.specs.Blank.{AreSame}
+use Rattle.weld_tree.specs.ExprTree.{ExprTree}
 use Rattle.weld_tree.specs.Program.{ProgramTree, loops}
 use Rattle.weld_unnoted.specs.Unnoted.{IsSameButNotes}
 use Rattle.weld_print.specs.PrintText.{program_text}
 use Rattle.weld_reads_back.specs.Texts.{TextSpellsSoundly}
-use Rattle.weld_sweep.specs.Sweep.{RootRule}
+use Rattle.weld_sweep.specs.Sweep.{RootRule, swept_times}
 use Rattle.weld_pass.specs.Either.{either}
 use Rattle.weld_meaning.specs.Accepted.{IsAccepted}
 use Rattle.weld_replacing.specs.Rewriting.{SameMeaning}
 use Rattle.weld_inline.specs.Inlining.{HasNoSuchLet, lets_rule}
 use Rattle.weld_predicate.specs.Predicating.{HasNoGuard, guards_rule}
+use Rattle.weld_vertical.specs.Chains.{IsChainProgram, chain_fused}
 use Rattle.weld_vertical.specs.Fusing.{HasNoSuchLoop, loops_rule}
+use Rattle.weld_vertical_zip.specs.Zips.{HasNoMadeLeg, zips_rule}
 use Rattle.weld_horizontal.specs.Doubles.{HasNoDouble, doubles_rule}
 use Rattle.weld_joining.specs.Joining.{HasNoPair, beside_rule}
 
 -- the rules of all passes as one
 abbrev pub all_rules : RootRule
-all_rules = either lets_rule (either guards_rule (either loops_rule (either doubles_rule beside_rule)))
+all_rules = either lets_rule (either guards_rule (either loops_rule (either zips_rule (either doubles_rule beside_rule))))
+
+-- the body after so many sweeps with them, once its chain of loops was fused
+abbrev pub optimised_body : ℕ → ExprTree → ExprTree
+optimised_body n e = swept_times n all_rules (chain_fused e)
 
 -- nothing stands in the program that a pass would rewrite (the Weld papers, as far as this project goes): no `let` that can be
--- put in place, no guarded merge that can be merged always, no loop over what another loop makes row by row, no leg that stands
--- twice in one loop, and no two neighbouring lets of results of loops over one name
+-- put in place, no guarded merge that can be merged always, no loop over what another loop makes row by row, no such list on a leg
+-- of a `zip`, no leg that stands twice in one loop, and no two neighbouring lets of results of loops over one name
 pub record IsNormal (q : ProgramTree) : Type 0 where
   pub no_let : HasNoSuchLet q.body
   pub no_guard : HasNoGuard q.body
   pub no_loop_over_a_loop : HasNoSuchLoop q.body
+  pub no_made_leg : HasNoMadeLeg q.body
   pub no_leg_twice : HasNoDouble q.body
   pub no_loops_side_by_side : HasNoPair q.body
 
 -- the first program is accepted and in normal form; it means what the second means on all arguments that fit, faults included,
--- and has no more loops
+-- and has no more loops; and where the second is a chain of loops, as many less as follow the first loop of the chain
 pub record IsOptimised (q p : ProgramTree) : Type 0 where
   pub params : q.params ≡ p.params
   pub accepted : IsAccepted q
   pub normal : IsNormal q
   pub means : SameMeaning q p
   pub loops : loops q.body ≤ loops p.body
+  pub chain : (k : ℕ) → IsChainProgram k p.body → loops q.body + k ≤ loops p.body
 
 -- some optimised program may stand in the place of this one with its types noted, and its printed text reads back as it
 pub record HasNormalForm (p : ProgramTree) : Type 0 where

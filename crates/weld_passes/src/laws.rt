@@ -1,15 +1,19 @@
 //! Laws of the rules of all passes and of normal forms, each the contract of a function that does nothing.
 
-ghost use Rattle.std.specs.Prelude.{◌≡◌, ℕ, List, None};
+ghost use Rattle.std.specs.Prelude.{◌≡◌, ◌+◌, ◌≤◌, ℕ, List, None};
+ghost use Rattle.weld_tree.specs.ExprTree.{ExprTree};
 ghost use Rattle.weld_tree.specs.TypeTree.{TypeTree};
-ghost use Rattle.weld_tree.specs.Program.{ProgramTree, IsProgram};
+ghost use Rattle.weld_tree.specs.Program.{ProgramTree, IsProgram, loops};
 ghost use Rattle.weld_meaning.specs.Accepted.{IsAccepted};
 ghost use Rattle.weld_meaning.specs.LinearWalk.{linear_refusal};
 ghost use Rattle.weld_types.specs.Walk.{found, program_type};
 ghost use Rattle.weld_reads_back.specs.Texts.{TextSpells};
+ghost use Rattle.weld_replacing.specs.Tidy.{IsTidy};
+ghost use Rattle.weld_replacing.specs.Rewriting.{Rewrites};
 ghost use Rattle.weld_rounds.specs.Rules.{Falls, IsSound};
 ghost use Rattle.weld_sweep.specs.Sweep.{IsStill};
-ghost use Rattle.weld_passes.specs.Normal.{all_rules, IsNormal, HasNormalForm, CanBeOptimised};
+ghost use Rattle.weld_vertical.specs.Chains.{IsChainProgram};
+ghost use Rattle.weld_passes.specs.Normal.{all_rules, optimised_body, IsNormal, HasNormalForm, CanBeOptimised};
 
 use weld_horizontal::laws::legs_may_stand_once;
 use weld_inline::laws::lets_may_be_rewritten;
@@ -18,11 +22,12 @@ use weld_meaning::laws::{the_walk_is_linear_use, types_are_unique};
 use weld_pass::laws::rules_may_be_joined;
 use weld_predicate::laws::guards_may_be_rewritten;
 use weld_reads_back::laws::{printed_programs_read_back, texts_spell_the_spellable};
-use weld_replacing::laws::{rewritten_programs, tidiness_is_kept};
+use weld_replacing::laws::{rewriting_is_an_order, rewritten_programs, tidiness_is_kept};
 use weld_rounds::laws::{rounds_rewrite, sweeps_fall};
 use weld_types::laws::the_walk_is_typing;
 use weld_unnoted::laws::notes_play_no_part;
-use weld_vertical::laws::loops_may_be_fused;
+use weld_vertical::laws::{chains_are_one_loop, loops_may_be_fused};
+use weld_vertical_zip::laws::made_legs_may_be_spliced;
 
 /// The rules of all passes as one make lighter and are sound; and where none of them matches, a program is in
 /// normal form.
@@ -34,9 +39,24 @@ pub fn all_rules_may_be_tried()
     lets_may_be_rewritten();
     guards_may_be_rewritten();
     loops_may_be_fused();
+    made_legs_may_be_spliced();
     legs_may_stand_once();
     loops_may_be_joined();
     rules_may_be_joined();
+}
+
+/// A tidy body is rewritten by fusing its chain of loops and sweeping it with the rules then, as often as it may be;
+/// and where it is a chain of loops, each loop but the first is gone.
+pub fn bodies_are_rewritten()
+    ensures rewrites { (n : ℕ) (e : ExprTree) → IsTidy e → Rewrites (optimised_body n e) e }
+    ensures chain { (n k : ℕ) (e : ExprTree) → IsTidy e → IsChainProgram k e
+        → loops (optimised_body n e) + k ≤ loops e }
+{
+    all_rules_may_be_tried();
+    chains_are_one_loop();
+    rounds_rewrite();
+    rewriting_is_an_order();
+    tidiness_is_kept();
 }
 
 /// Each program that a text spells and no rule refuses has a normal form.
@@ -46,8 +66,8 @@ pub fn each_program_has_a_normal_form()
         → HasNormalForm p }
 {
     all_rules_may_be_tried();
+    bodies_are_rewritten();
     sweeps_fall();
-    rounds_rewrite();
     tidiness_is_kept();
     rewritten_programs();
     the_walk_is_typing();
@@ -63,8 +83,8 @@ pub fn each_accepted_program_can_be_optimised()
     ensures { (p : ProgramTree) (t : TypeTree) → IsProgram p.params p.body → IsAccepted p → program_type p ≡ found t → CanBeOptimised p }
 {
     all_rules_may_be_tried();
+    bodies_are_rewritten();
     sweeps_fall();
-    rounds_rewrite();
     tidiness_is_kept();
     rewritten_programs();
     the_walk_is_typing();

@@ -8,25 +8,32 @@ ghost use Rattle.weld_check_types.specs.Notes.{ProgramIsNoted};
 ghost use Rattle.weld_print.specs.PrintText.{program_text};
 ghost use Rattle.weld_reads_back.specs.Texts.{TextSpells, TextSpellsSoundly};
 ghost use Rattle.weld_replacing.specs.Within.{legs};
-ghost use Rattle.weld_passes.specs.Normal.{IsOptimised};
+ghost use Rattle.weld_sweep.specs.Sweep.{IsStill};
+ghost use Rattle.weld_passes.specs.Normal.{all_rules, optimised_body, IsOptimised};
 
-use crate::laws::all_rules_may_be_tried;
+use crate::laws::{all_rules_may_be_tried, bodies_are_rewritten};
 use std::alloc::{AllocError, Global};
 use weld_horizontal::Doubles;
 use weld_inline::Lets;
 use weld_joining::Beside;
 use weld_meaning::Accepted;
-use weld_pass::{Either, run_pass};
+use weld_pass::Either;
 use weld_predicate::Guards;
-use weld_vertical::Loops;
+use weld_reads_back::laws::{printed_programs_read_back, texts_spell_the_spellable};
+use weld_replacing::laws::{rewritten_programs, tidiness_is_kept};
+use weld_rounds::sweep_until_still;
+use weld_tree::{Expr, Program};
+use weld_vertical::{Loops, fuse_chain};
+use weld_vertical_zip::Zips;
 
 /// The program in normal form (the Weld papers, as far as this project goes): no `let` stands in it
 /// that can be put in place, no guarded merge that can be merged always, no loop over what another
-/// loop makes row by row, no leg that stands twice in one loop, and no two neighbouring lets of results
-/// of loops over one name. It means the same on all arguments that fit, faults included, and has no
-/// more legs and loops; and where some text spelled it, noted
-/// types apart, its printed text spells it. It asks for a program whose nodes have their types noted,
-/// as the checker leaves it. It fails for want of memory alone, and the program is spent then.
+/// loop makes row by row, no such list on a leg of a `zip`, no leg that stands twice in one loop, and no
+/// two neighbouring lets of results of loops over one name. It means the same on all arguments that
+/// fit, faults included, and has no more legs and loops; where it was a chain of loops, each but the
+/// first is gone; and where some text spelled it, noted types apart, its printed text spells it. It
+/// asks for a program whose nodes have their types noted, as the checker leaves it. It fails for want
+/// of memory alone, and the program is spent then.
 pub fn optimise(alloc: Global, p: Accepted) -> Result<Accepted, AllocError>
     requires { ProgramIsNoted p }
     ensures optimised { IfOk result (λ q. IsOptimised q p) }
@@ -37,13 +44,38 @@ pub fn optimise(alloc: Global, p: Accepted) -> Result<Accepted, AllocError>
     ensures legs { IfOk result (λ q. legs q.body ≤ legs p.body) }
 {
     all_rules_may_be_tried();
+    bodies_are_rewritten();
+    tidiness_is_kept();
+    rewritten_programs();
+    texts_spell_the_spellable();
+    printed_programs_read_back();
+    let Accepted { program } = p;
+    let Program { params, body } = program;
+    let mut body = body;
+    optimise_body(alloc, &mut body)?;
+    let program = Program { params, body };
+    Ok(Accepted { program })
+}
+
+/// Fuses the body's chain of loops, and then tries the rules of all passes at each node, in rounds, until
+/// none matches.
+fn optimise_body(alloc: Global, body: &mut Expr) -> Result<(), AllocError>
+    ensures optimised { IfOk result (λ _. (n : ℕ) × (body.new ≡ optimised_body n body.old)) }
+    ensures still { IfOk result (λ _. IsStill all_rules body.new) }
+{
+    all_rules_may_be_tried();
+    fuse_chain(alloc, body)?;
     let over_one = Either {
         first: &Doubles,
         second: &Beside,
     };
+    let of_legs = Either {
+        first: &Zips,
+        second: &over_one,
+    };
     let of_loops = Either {
         first: &Loops,
-        second: &over_one,
+        second: &of_legs,
     };
     let others = Either {
         first: &Guards,
@@ -53,5 +85,6 @@ pub fn optimise(alloc: Global, p: Accepted) -> Result<Accepted, AllocError>
         first: &Lets,
         second: &others,
     };
-    run_pass(alloc, &all, p)
+    sweep_until_still(alloc, &all, body)?;
+    Ok(())
 }

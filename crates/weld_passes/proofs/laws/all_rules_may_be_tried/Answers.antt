@@ -1,6 +1,7 @@
 use Rattle.weld_inline.specs.Inlining.{lets_rule}
 use Rattle.weld_predicate.specs.Predicating.{guards_rule}
 use Rattle.weld_vertical.specs.Fusing.{loops_rule}
+use Rattle.weld_vertical_zip.specs.Zips.{zips_rule}
 use Rattle.weld_horizontal.specs.Doubles.{doubles_rule}
 use Rattle.weld_joining.specs.Joining.{beside_rule}
 use Rattle.weld_sweep.specs.Sweep.{RootRule}
@@ -10,8 +11,11 @@ use Rattle.weld_passes.proofs.laws.all_rules_may_be_tried.Goals as goal
 abbrev over_one : RootRule
 over_one = either doubles_rule beside_rule
 
+abbrev of_legs : RootRule
+of_legs = either zips_rule over_one
+
 abbrev of_loops : RootRule
-of_loops = either loops_rule over_one
+of_loops = either loops_rule of_legs
 
 abbrev others : RootRule
 others = either guards_rule of_loops
@@ -21,27 +25,31 @@ returns-clause-falls c =
     let joined = c.rules_may_be_joined.ensures in
     joined.falls lets_rule others c.lets_may_be_rewritten.ensures.falls
     (joined.falls guards_rule of_loops c.guards_may_be_rewritten.ensures.falls
-    (joined.falls loops_rule over_one c.loops_may_be_fused.ensures.falls
-    (joined.falls doubles_rule beside_rule c.legs_may_stand_once.ensures.falls c.loops_may_be_joined.ensures.falls)))
+    (joined.falls loops_rule of_legs c.loops_may_be_fused.ensures.falls
+    (joined.falls zips_rule over_one c.made_legs_may_be_spliced.ensures.falls
+    (joined.falls doubles_rule beside_rule c.legs_may_stand_once.ensures.falls c.loops_may_be_joined.ensures.falls))))
 
 pub returns-clause-sound : goal.returns-clause-sound
 returns-clause-sound c =
     let joined = c.rules_may_be_joined.ensures in
     joined.sound lets_rule others c.lets_may_be_rewritten.ensures.sound
     (joined.sound guards_rule of_loops c.guards_may_be_rewritten.ensures.sound
-    (joined.sound loops_rule over_one c.loops_may_be_fused.ensures.sound
-    (joined.sound doubles_rule beside_rule c.legs_may_stand_once.ensures.sound c.loops_may_be_joined.ensures.sound)))
+    (joined.sound loops_rule of_legs c.loops_may_be_fused.ensures.sound
+    (joined.sound zips_rule over_one c.made_legs_may_be_spliced.ensures.sound
+    (joined.sound doubles_rule beside_rule c.legs_may_stand_once.ensures.sound c.loops_may_be_joined.ensures.sound))))
 
 pub returns-clause-normal : goal.returns-clause-normal
 returns-clause-normal c = λ p still.
     let joined = c.rules_may_be_joined.ensures in
     let but_lets = joined.second lets_rule others p.body still in
     let but_guards = joined.second guards_rule of_loops p.body but_lets in
-    let but_loops = joined.second loops_rule over_one p.body but_guards in
+    let but_loops = joined.second loops_rule of_legs p.body but_guards in
+    let but_legs = joined.second zips_rule over_one p.body but_loops in
     record {
       no_let = c.lets_may_be_rewritten.ensures.still p.body (joined.first lets_rule others p.body still);
       no_guard = c.guards_may_be_rewritten.ensures.still p.body (joined.first guards_rule of_loops p.body but_lets);
-      no_loop_over_a_loop = c.loops_may_be_fused.ensures.still p.body (joined.first loops_rule over_one p.body but_guards);
-      no_leg_twice = c.legs_may_stand_once.ensures.still p.body (joined.first doubles_rule beside_rule p.body but_loops);
-      no_loops_side_by_side = c.loops_may_be_joined.ensures.still p.body (joined.second doubles_rule beside_rule p.body but_loops);
+      no_loop_over_a_loop = c.loops_may_be_fused.ensures.still p.body (joined.first loops_rule of_legs p.body but_guards);
+      no_made_leg = c.made_legs_may_be_spliced.ensures.still p.body (joined.first zips_rule over_one p.body but_loops);
+      no_leg_twice = c.legs_may_stand_once.ensures.still p.body (joined.first doubles_rule beside_rule p.body but_legs);
+      no_loops_side_by_side = c.loops_may_be_joined.ensures.still p.body (joined.second doubles_rule beside_rule p.body but_legs);
     }

@@ -9,8 +9,7 @@ returns c =
     (record {
       rounds = record { lighter = λ e m. c.sweeps_fall.ensures.lighter all_rules e falls m; still = λ e m. c.sweeps_fall.ensures.still all_rules e m };
       normal = c.all_rules_may_be_tried.ensures.normal;
-      rewrites = λ n e tidy. c.rounds_rewrite.ensures all_rules n e c.all_rules_may_be_tried.ensures.sound tidy;
-      tidy = c.tidiness_is_kept.ensures.program;
+      bodies = record { tidy = c.tidiness_is_kept.ensures.program; rewrites = c.bodies_are_rewritten.ensures.rewrites; chain = c.bodies_are_rewritten.ensures.chain };
       accepted = c.rewritten_programs.ensures.accepted;
       means = c.rewritten_programs.ensures.same_meaning;
       programs = c.rewritten_programs.ensures.program;
