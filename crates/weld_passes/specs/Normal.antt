@@ -44,8 +44,8 @@ pub record IsOptimised (q p : ProgramTree) : Type 0 where
   pub accepted : IsAccepted q
   pub normal : IsNormal q
   pub means : SameMeaning q p
-  pub loops : loops q.body ≤ loops p.body
   pub chain : (k : ℕ) → IsChainProgram k p.body → loops q.body + k ≤ loops p.body
+  pub loops : loops q.body ≤ loops p.body
 
 -- some optimised program may stand in the place of this one with its types noted, and its printed text reads back as it
 pub record HasNormalForm (p : ProgramTree) : Type 0 where
