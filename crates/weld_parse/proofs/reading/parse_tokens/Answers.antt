@@ -24,3 +24,6 @@ returns-in-Err-OutOfRange-clause-refused c =
     let both = unread_range _ _ _ c.in-Err-OutOfRange.field-0-is c.in-Err-OutOfRange.ensures.unread in
     λ _. by_tree c.args.text.now c.args.tokens.now _ c.requires.fits c.requires.tokens_of
     (ranged_refused c.numbers_by_the_tree.ensures c.programs_are_derived.ensures.spelled c.args.tokens.now c.in-Err-OutOfRange.place (sym c.has_too_many_tokens.ensures ∙ c.if-has_too_many_tokens.false) both.0 both.1)
+
+pub read_program-requires : goal.read_program-requires
+read_program-requires c = record { classes = c.classes_of_tokens.ensures c.args.text.now c.args.tokens.now c.requires.tokens_of }
