@@ -1,8 +1,11 @@
+ghost use Rattle.weld_tokens.specs.Tokens.{AreTokens};
+
 use crate::written::put_expr;
 use std::alloc::Global;
 use std::test::Fail;
 use weld_parse::read_program;
 use weld_reduce::Read;
+use weld_terminals::Token;
 use weld_tokens::laws::classes_of_tokens;
 use weld_tokens::{has_too_many_bytes, read_tokens};
 use weld_tree::{Code, Place};
@@ -12,11 +15,19 @@ fn read(alloc: Global, text: &[u8]) -> Result<Read, Fail> {
     if has_too_many_bytes(text) || text.len() > 262_144 {
         return Err(Fail::from("the text is too long"));
     }
-    let Ok(tokens) = read_tokens(alloc, text) else {
-        return Err(Fail::from("the text has no tokens"));
-    };
+    match read_tokens(alloc, text) {
+        Ok(tokens) => read_of(alloc, text, tokens.as_slice()),
+        Err(_) => Err(Fail::from("the text has no tokens")),
+    }
+}
+
+/// Reads a text of these tokens.
+fn read_of(alloc: Global, text: &[u8], tokens: &[Token]) -> Result<Read, Fail>
+    requires { AreTokens text.now tokens.now }
+{
+    let _text = text;
     classes_of_tokens();
-    match read_program(alloc, tokens.as_slice()) {
+    match read_program(alloc, tokens) {
         Ok(read) => Ok(read),
         Err(_) => Err(Fail::from("the text is not read")),
     }

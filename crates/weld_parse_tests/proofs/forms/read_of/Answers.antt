@@ -1,0 +1,4 @@
+use Rattle.weld_parse_tests.proofs.forms.read_of.Goals as goal
+
+pub read_program-requires : goal.read_program-requires
+read_program-requires c = record { classes = c.classes_of_tokens.ensures c.args.text.now c.args.tokens.now c.requires }
