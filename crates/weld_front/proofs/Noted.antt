@@ -1,5 +1,5 @@
 -- A program with noted types is answered as the one that the text spells.
-use Rattle.std.proofs.Common.{◌≡◌, ℕ, ◌≤◌, suc, Bool, true, false, List, [], ◌∷◌, length, refl, sym, ap, subst, ◌∙◌}
+use Rattle.std.proofs.Common.{◌≡◌, ℕ, ◌+◌, ◌≤◌, suc, Bool, true, false, List, [], ◌∷◌, length, refl, sym, ap, subst, ◌∙◌}
 use Rattle.weld_data.specs.Value.{Value}
 use Rattle.weld_builders.specs.Outcome.{Outcome}
 use Rattle.weld_tree.specs.TypeTree.{TypeTree}
@@ -11,6 +11,7 @@ use Rattle.weld_job.specs.declared.job.Job.{Job}
 use Rattle.weld_meaning.specs.Meaning.{ArgumentsFit, meaning}
 use Rattle.weld_arguments.specs.Arguments.{Arguments, BlocksGive, DataGive, IsUnfit}
 use Rattle.weld_unnoted.specs.Unnoted.{IsSameButNotes}
+use Rattle.weld_vertical.specs.Chains.{IsChainProgram}
 use Rattle.weld_passes.specs.Normal.{IsOptimised}
 use Rattle.weld_share.specs.declared.note.RunNote.{RunNote}
 use Rattle.weld_words.specs.declared.options.Options.{Options}
@@ -25,6 +26,7 @@ pub record NotesKnown : Type 0 where
   pub same : (p q : ProgramTree) → IsSameButNotes p q → AreSame p q
   pub meant : (p q : ProgramTree) (vs : List Value) → AreSame p q → length vs ≡ length p.params → meaning p vs ≡ meaning q vs
   pub counts : (p q : ProgramTree) → AreSame p q → loops p.body ≡ loops q.body
+  pub chains : (p q : ProgramTree) → IsSameButNotes p q → (k : ℕ) → IsChainProgram k q.body → IsChainProgram k p.body
 
 blocks_length : (ps : List Binder) (blocks : List Block) (vs : List Value) → BlocksGive ps blocks vs → length vs ≡ length ps
 blocks_length [] [] [] h = refl
@@ -58,6 +60,7 @@ optimised_spelled known r p q h o =
       means = λ vs f.
           let fits : ArgumentsFit p.params vs = subst (λ (ps : List Binder). ArgumentsFit ps vs) (sym same) f in
           o.means vs fits ∙ known.meant p q vs (known.same p q h) (fit_length p.params vs fits);
+      chain = λ k is. subst (λ (n : ℕ). loops r.body + k ≤ n) (known.counts p q (known.same p q h)) (o.chain k (known.chains p q h k is));
       loops = subst (λ (n : ℕ). loops r.body ≤ n) (known.counts p q (known.same p q h)) o.loops;
     }
 

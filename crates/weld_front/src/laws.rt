@@ -7,7 +7,9 @@ ghost use Rattle.weld_front.specs.declared.status.Status.{Status};
 ghost use Rattle.weld_words.specs.declared.options.Options.{Options};
 
 use weld_meaning::laws::{meaning_looks_past_spelling, typed_programs_are_never_stuck};
-use weld_passes::laws::{each_accepted_program_can_be_optimised, each_program_has_a_normal_form};
+use weld_passes::laws::{
+    chains_look_past_notes, each_accepted_program_can_be_optimised, each_program_has_a_normal_form,
+};
 use weld_script::laws::scripts_declare;
 use weld_script_laws::laws::{each_text_is_read, one_script, read_scripts_are_scripts};
 use weld_session::laws::each_script_is_gathered;
@@ -53,6 +55,7 @@ pub fn each_job_has_an_answer()
     notes_play_no_part();
     meaning_looks_past_spelling();
     same_programs_have_same_counts();
+    chains_look_past_notes();
     each_text_is_read();
     read_scripts_are_scripts();
     scripts_declare();

@@ -18,6 +18,7 @@ use weld_data::{Stop, Val, Vals};
 use weld_job::Job;
 use weld_meaning::Accepted;
 use weld_meaning::laws::{meaning_looks_past_spelling, typed_programs_are_never_stuck};
+use weld_passes::laws::chains_look_past_notes;
 use weld_passes::optimise;
 use weld_plan::make_plan;
 use weld_ports::Gate;
@@ -133,6 +134,7 @@ pub(crate) fn answer_run<R: Threads + Sync, G: Gate>(
     notes_play_no_part();
     meaning_looks_past_spelling();
     same_programs_have_same_counts();
+    chains_look_past_notes();
     match accept_text(alloc, job.text.as_slice()) {
         Ok(checked) => run_job(rt, alloc, checked, job, asked, gate),
         Err(refusal) => refused(alloc, refusal),

@@ -23,6 +23,7 @@ use weld_meaning::Accepted;
 use weld_meaning::laws::{
     meaning_looks_past_spelling, the_walk_is_linear_use, typed_programs_are_never_stuck,
 };
+use weld_passes::laws::chains_look_past_notes;
 use weld_plan::make_plan;
 use weld_ports::Gate;
 use weld_read_script::read_script;
@@ -68,6 +69,7 @@ fn run_gathered<R: Threads + Sync, G: Gate>(
     notes_play_no_part();
     meaning_looks_past_spelling();
     same_programs_have_same_counts();
+    chains_look_past_notes();
     match note_types(alloc, &program) {
         Ok(Some(noted)) => run_program(rt, alloc, noted, inputs, asked, gate),
         Ok(None) => run_as_it_is(rt, alloc, &program, inputs, asked, gate),

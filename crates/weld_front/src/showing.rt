@@ -13,6 +13,7 @@ use weld_data::Text;
 use weld_job::Job;
 use weld_meaning::Accepted;
 use weld_meaning::laws::meaning_looks_past_spelling;
+use weld_passes::laws::chains_look_past_notes;
 use weld_passes::optimise;
 use weld_print::print;
 use weld_tree::laws::same_programs_have_same_counts;
@@ -51,6 +52,7 @@ pub(crate) fn answer_show(alloc: Global, job: &Job) -> Result<Answer, AllocError
     notes_play_no_part();
     meaning_looks_past_spelling();
     same_programs_have_same_counts();
+    chains_look_past_notes();
     match accept_text(alloc, job.text.as_slice()) {
         Ok(checked) => show(alloc, checked),
         Err(refusal) => refused(alloc, refusal),

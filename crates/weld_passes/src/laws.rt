@@ -6,6 +6,7 @@ ghost use Rattle.weld_tree.specs.TypeTree.{TypeTree};
 ghost use Rattle.weld_tree.specs.Program.{ProgramTree, IsProgram, loops};
 ghost use Rattle.weld_meaning.specs.Accepted.{IsAccepted};
 ghost use Rattle.weld_meaning.specs.LinearWalk.{linear_refusal};
+ghost use Rattle.weld_unnoted.specs.Unnoted.{IsSameButNotes};
 ghost use Rattle.weld_types.specs.Walk.{found, program_type};
 ghost use Rattle.weld_reads_back.specs.Texts.{TextSpells};
 ghost use Rattle.weld_replacing.specs.Tidy.{IsTidy};
@@ -92,3 +93,9 @@ pub fn each_accepted_program_can_be_optimised()
     the_walk_is_linear_use();
     notes_play_no_part();
 }
+
+/// The types that are noted at the nodes of a program play no part in whether it is a chain of loops.
+pub fn chains_look_past_notes()
+    ensures { (p q : ProgramTree) → IsSameButNotes p q → (k : ℕ) → IsChainProgram k q.body
+        → IsChainProgram k p.body }
+{}

@@ -9,6 +9,6 @@ returns-in-Err g c = run_refused c.args.asked.options c.args.job.now c.in-Err.re
 pub returns-in-Ok : goal.returns-in-Ok
 returns-in-Ok g c =
     run_answers c.args.asked.options c.args.job.now c.in-Ok.checked.program c.in-Ok.checked.ty c.run_job.result
-    (record { same = c.notes_play_no_part.ensures.same; meant = c.meaning_looks_past_spelling.ensures; counts = c.same_programs_have_same_counts.ensures.loops })
+    (record { same = c.notes_play_no_part.ensures.same; meant = c.meaning_looks_past_spelling.ensures; counts = c.same_programs_have_same_counts.ensures.loops; chains = c.chains_look_past_notes.ensures })
     (subst (λ (t : List ℕ). IsCheckedOf t c.in-Ok.checked.program c.in-Ok.checked.ty) c.as_slice.ensures c.in-Ok.ensures.accepted)
     c.run_job.ensures
