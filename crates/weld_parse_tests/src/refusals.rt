@@ -205,10 +205,11 @@ static LONG: [LongRow; 15] = [
         b"",
         Some(Refusal::At(Code::M4, Place { line: 1, column: 1 })),
     ),
+    // (as many as may be stand in `cases/deep`, where the program has a stack of its own)
     (
         b"x",
         b".$0",
-        8191,
+        1000,
         b"",
         Some(Refusal::At(Code::M4, Place { line: 1, column: 1 })),
     ),
