@@ -28,8 +28,8 @@ fn read_words(rt: &(impl Env + AllocGlobal)) -> Result<Vec<String>, AllocError> 
     Ok(words)
 }
 
-/// The bytes of stack that a job is given: the largest text within the limits, and each that is refused, is read, checked,
-/// optimised, run and let go in a part of it. Only what is used of it takes memory.
+/// The bytes of stack that a job is given: many times what the deepest jobs that were tried took. Only what is used of it takes
+/// memory.
 const STACK: usize = 256 << 20;
 
 /// The status of the job that the words and the standard input are.
