@@ -20,7 +20,7 @@ use Rattle.weld_joining.specs.Joining.{HasNoPair, beside_rule}
 
 -- the rules of all passes as one
 abbrev pub all_rules : RootRule
-all_rules = either lets_rule (either guards_rule (either loops_rule (either zips_rule (either doubles_rule beside_rule))))
+all_rules = either lets_rule (either guards_rule (either loops_rule (either doubles_rule (either zips_rule beside_rule))))
 
 -- the body after so many sweeps with them, once its chain of loops was fused
 abbrev pub optimised_body : ℕ → ExprTree → ExprTree

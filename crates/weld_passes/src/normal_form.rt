@@ -66,11 +66,11 @@ fn optimise_body(alloc: Global, body: &mut Expr) -> Result<(), AllocError>
     all_rules_may_be_tried();
     fuse_chain(alloc, body)?;
     let over_one = Either {
-        first: &Doubles,
+        first: &Zips,
         second: &Beside,
     };
     let of_legs = Either {
-        first: &Zips,
+        first: &Doubles,
         second: &over_one,
     };
     let of_loops = Either {

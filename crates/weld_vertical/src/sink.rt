@@ -1,6 +1,6 @@
 //! A consumer sunk into a producer's body.
 
-ghost use Rattle.std.specs.Prelude.{◌≡◌, ◌+◌, IfOk};
+ghost use Rattle.std.specs.Prelude.{◌≡◌, ◌+◌, true, false, IfOk};
 ghost use Rattle.weld_tree.specs.declared.known.Known.TheVariants.{Is};
 ghost use Rattle.weld_tree.specs.ExprTree.{At, leaf, let_in, name};
 ghost use Rattle.weld_tree.specs.ExprView.{view_form};
@@ -73,13 +73,30 @@ fn sink_in_arm(
     ensures second { IfOk result (λ _. second.new
         ≡ sunk ty.now builder.0 count.0 consumer.number consumer.row consumer.body.value second.old) }
 {
-    if merges(&*first) == 1 {
+    if has_the_merge(&*first, &*second) {
         sink(alloc, ty, builder, count, consumer, first)?;
         pass_on(alloc, ty, builder, second)
     } else {
         sink(alloc, ty, builder, count, consumer, second)?;
         pass_on(alloc, ty, builder, first)
     }
+}
+
+/// Whether the merge stands in the first of two arms. An arm that is a name has none: so what filters
+/// stand in one another are gone through once, and not once for each.
+#[tactic(auto, using(crate::proofs::Once::second_one))]
+fn has_the_merge(first: &Expr, second: &Expr) -> bool
+    requires { merges first.now + merges second.now ≡ 1 }
+    ensures first { result ≡ true → merges first.now ≡ 1 }
+    ensures second { result ≡ false → merges second.now ≡ 1 }
+{
+    if let Form::Leaf(_) = &second.form {
+        return true;
+    }
+    if let Form::Leaf(_) = &first.form {
+        return false;
+    }
+    merges(first) == 1
 }
 
 /// Where nothing is merged, the consumer's builder takes the place of the producer's.

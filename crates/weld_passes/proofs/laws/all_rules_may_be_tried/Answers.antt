@@ -9,10 +9,10 @@ use Rattle.weld_pass.specs.Either.{either}
 use Rattle.weld_passes.proofs.laws.all_rules_may_be_tried.Goals as goal
 
 abbrev over_one : RootRule
-over_one = either doubles_rule beside_rule
+over_one = either zips_rule beside_rule
 
 abbrev of_legs : RootRule
-of_legs = either zips_rule over_one
+of_legs = either doubles_rule over_one
 
 abbrev of_loops : RootRule
 of_loops = either loops_rule of_legs
@@ -26,8 +26,8 @@ returns-clause-falls c =
     joined.falls lets_rule others c.lets_may_be_rewritten.ensures.falls
     (joined.falls guards_rule of_loops c.guards_may_be_rewritten.ensures.falls
     (joined.falls loops_rule of_legs c.loops_may_be_fused.ensures.falls
-    (joined.falls zips_rule over_one c.made_legs_may_be_spliced.ensures.falls
-    (joined.falls doubles_rule beside_rule c.legs_may_stand_once.ensures.falls c.loops_may_be_joined.ensures.falls))))
+    (joined.falls doubles_rule over_one c.legs_may_stand_once.ensures.falls
+    (joined.falls zips_rule beside_rule c.made_legs_may_be_spliced.ensures.falls c.loops_may_be_joined.ensures.falls))))
 
 pub returns-clause-sound : goal.returns-clause-sound
 returns-clause-sound c =
@@ -35,8 +35,8 @@ returns-clause-sound c =
     joined.sound lets_rule others c.lets_may_be_rewritten.ensures.sound
     (joined.sound guards_rule of_loops c.guards_may_be_rewritten.ensures.sound
     (joined.sound loops_rule of_legs c.loops_may_be_fused.ensures.sound
-    (joined.sound zips_rule over_one c.made_legs_may_be_spliced.ensures.sound
-    (joined.sound doubles_rule beside_rule c.legs_may_stand_once.ensures.sound c.loops_may_be_joined.ensures.sound))))
+    (joined.sound doubles_rule over_one c.legs_may_stand_once.ensures.sound
+    (joined.sound zips_rule beside_rule c.made_legs_may_be_spliced.ensures.sound c.loops_may_be_joined.ensures.sound))))
 
 pub returns-clause-normal : goal.returns-clause-normal
 returns-clause-normal c = λ p still.
@@ -44,12 +44,12 @@ returns-clause-normal c = λ p still.
     let but_lets = joined.second lets_rule others p.body still in
     let but_guards = joined.second guards_rule of_loops p.body but_lets in
     let but_loops = joined.second loops_rule of_legs p.body but_guards in
-    let but_legs = joined.second zips_rule over_one p.body but_loops in
+    let but_doubles = joined.second doubles_rule over_one p.body but_loops in
     record {
       no_let = c.lets_may_be_rewritten.ensures.still p.body (joined.first lets_rule others p.body still);
       no_guard = c.guards_may_be_rewritten.ensures.still p.body (joined.first guards_rule of_loops p.body but_lets);
       no_loop_over_a_loop = c.loops_may_be_fused.ensures.still p.body (joined.first loops_rule of_legs p.body but_guards);
-      no_made_leg = c.made_legs_may_be_spliced.ensures.still p.body (joined.first zips_rule over_one p.body but_loops);
-      no_leg_twice = c.legs_may_stand_once.ensures.still p.body (joined.first doubles_rule beside_rule p.body but_legs);
-      no_loops_side_by_side = c.loops_may_be_joined.ensures.still p.body (joined.second doubles_rule beside_rule p.body but_legs);
+      no_made_leg = c.made_legs_may_be_spliced.ensures.still p.body (joined.first zips_rule beside_rule p.body but_doubles);
+      no_leg_twice = c.legs_may_stand_once.ensures.still p.body (joined.first doubles_rule over_one p.body but_loops);
+      no_loops_side_by_side = c.loops_may_be_joined.ensures.still p.body (joined.second zips_rule beside_rule p.body but_doubles);
     }
