@@ -47,7 +47,7 @@ pub fn run_program<R: Threads + Sync, G: Gate>(
         Ok(optimised) => optimised,
         Err(_) => return Err(Stop::Memory),
     };
-    let plan = match make_plan(alloc, &optimised) {
+    let plan = match make_plan(alloc, optimised.accepted()) {
         Ok(plan) => plan,
         Err(_) => return Err(Stop::Memory),
     };

@@ -26,7 +26,7 @@ fn shown_text(alloc: Global, program: Accepted) -> Result<Text, AllocError>
         → IsSameButNotes s program → IsShown program shown) }
 {
     let optimised = optimise(alloc, program)?;
-    let mut text = print(alloc, optimised.program())?;
+    let mut text = print(alloc, optimised.accepted().program())?;
     text.push(b'\n')?;
     Ok(text)
 }

@@ -1,2 +1,3 @@
 pub mod Either
+pub mod Passed
 pub mod Tested

@@ -2,6 +2,8 @@
 #![tactic(auto)]
 
 pub mod laws;
+mod normal;
 mod normal_form;
 
+pub use normal::Normal;
 pub use normal_form::optimise;

@@ -12,6 +12,7 @@ ghost use Rattle.weld_sweep.specs.Sweep.{IsStill};
 ghost use Rattle.weld_passes.specs.Normal.{all_rules, optimised_body, IsOptimised};
 
 use crate::laws::{all_rules_may_be_tried, bodies_are_rewritten};
+use crate::normal::Normal;
 use std::alloc::{AllocError, Global};
 use weld_horizontal::Doubles;
 use weld_inline::Lets;
@@ -34,7 +35,7 @@ use weld_vertical_zip::Zips;
 /// first is gone; and where some text spelled it, noted types apart, its printed text spells it. It
 /// asks for a program whose nodes have their types noted, as the checker leaves it. It fails for want
 /// of memory alone, and the program is spent then.
-pub fn optimise(alloc: Global, p: Accepted) -> Result<Accepted, AllocError>
+pub fn optimise(alloc: Global, p: Accepted) -> Result<Normal, AllocError>
     requires { ProgramIsNoted p }
     ensures optimised { IfOk result (λ q. IsOptimised q p) }
     ensures noted { IfOk result (λ q. ProgramIsNoted q) }
@@ -54,7 +55,8 @@ pub fn optimise(alloc: Global, p: Accepted) -> Result<Accepted, AllocError>
     let mut body = body;
     optimise_body(alloc, &mut body)?;
     let program = Program { params, body };
-    Ok(Accepted { program })
+    let program = Accepted { program };
+    Ok(Normal { program })
 }
 
 /// Fuses the body's chain of loops, and then tries the rules of all passes at each node, in rounds, until

@@ -50,7 +50,7 @@ pub fn predicated(alloc: Global, text: &[u8]) -> Result<Text, Refusal> {
 pub fn optimised(alloc: Global, text: &[u8]) -> Result<Text, Refusal> {
     let accepted = accept_text(alloc, text)?;
     match optimise(alloc, accepted) {
-        Ok(accepted) => printed(alloc, &accepted),
+        Ok(normal) => printed(alloc, normal.accepted()),
         Err(_) => Err(Refusal::Memory),
     }
 }

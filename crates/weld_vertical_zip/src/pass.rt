@@ -1,15 +1,8 @@
 //! The pass.
 
-ghost use Rattle.std.specs.Prelude.{◌≡◌, ◌≤◌, ℕ, List, IfOk};
-ghost use Rattle.weld_tree.specs.Blank.{AreSame};
-ghost use Rattle.weld_tree.specs.Program.{ProgramTree, loops};
-ghost use Rattle.weld_meaning.specs.Accepted.{IsAccepted};
-ghost use Rattle.weld_unnoted.specs.Unnoted.{IsSameButNotes};
+ghost use Rattle.std.specs.Prelude.{IfOk};
 ghost use Rattle.weld_check_types.specs.Notes.{ProgramIsNoted};
-ghost use Rattle.weld_print.specs.PrintText.{program_text};
-ghost use Rattle.weld_reads_back.specs.Texts.{TextSpells, TextSpellsSoundly};
-ghost use Rattle.weld_replacing.specs.Within.{legs};
-ghost use Rattle.weld_replacing.specs.Rewriting.{SameMeaning};
+ghost use Rattle.weld_pass.specs.Passed.{IsPassed};
 ghost use Rattle.weld_vertical_zip.specs.Zips.{HasNoMadeLeg};
 
 use crate::laws::made_legs_may_be_spliced;
@@ -26,15 +19,7 @@ use weld_pass::run_pass;
 /// noted, as the checker leaves it. It fails for want of memory alone, and the program is spent then.
 pub fn fuse_zipped(alloc: Global, p: Accepted) -> Result<Accepted, AllocError>
     requires { ProgramIsNoted p }
-    ensures accepted { IfOk result (λ q. IsAccepted q) }
-    ensures noted { IfOk result (λ q. ProgramIsNoted q) }
-    ensures params { IfOk result (λ q. q.params ≡ p.params) }
-    ensures same_meaning { IfOk result (λ q. SameMeaning q p) }
-    ensures spelled { IfOk result (λ q. (text : List ℕ) (s : ProgramTree)
-        → TextSpells text s → IsSameButNotes s p
-        → (r : ProgramTree) × TextSpellsSoundly (program_text q) r × AreSame q r) }
-    ensures legs { IfOk result (λ q. legs q.body ≤ legs p.body) }
-    ensures loops { IfOk result (λ q. loops q.body ≤ loops p.body) }
+    ensures passed { IfOk result (λ q. IsPassed q p) }
     ensures no_redex_of_its_own { IfOk result (λ q. HasNoMadeLeg q.body) }
 {
     made_legs_may_be_spliced();

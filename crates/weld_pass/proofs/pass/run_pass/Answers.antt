@@ -39,12 +39,14 @@ returns g c =
     c.rewritten_programs.ensures.program q c.args.p done (subst (λ (p : ProgramTree). IsProgram p.params p.body) (c.program.view_is ∙ c.p.view_is) c.program.invariant) in
     let accepted : IsAccepted c.args.p = subst IsAccepted c.p.view_is c.p.invariant in
     record {
-      accepted = c.rewritten_programs.ensures.accepted q c.args.p done accepted c.requires.noted;
-      noted = c.rewritten_programs.ensures.noted q c.args.p done accepted c.requires.noted;
-      params = done.params;
-      same_meaning = c.rewritten_programs.ensures.same_meaning q c.args.p done accepted c.requires.noted;
-      spelled = spelled_by (record { spellable = c.texts_spell_the_spellable.ensures; printed = c.printed_programs_read_back.ensures.made }) q c.args.p done made;
-      legs = c.rewritten_programs.ensures.legs q c.args.p done;
-      loops = c.rewritten_programs.ensures.loops q c.args.p done;
+      passed = record {
+        accepted = c.rewritten_programs.ensures.accepted q c.args.p done accepted c.requires.noted;
+        noted = c.rewritten_programs.ensures.noted q c.args.p done accepted c.requires.noted;
+        params = done.params;
+        same_meaning = c.rewritten_programs.ensures.same_meaning q c.args.p done accepted c.requires.noted;
+        spelled = spelled_by (record { spellable = c.texts_spell_the_spellable.ensures; printed = c.printed_programs_read_back.ensures.made }) q c.args.p done made;
+        no_more_legs = c.rewritten_programs.ensures.legs q c.args.p done;
+        no_more_loops = c.rewritten_programs.ensures.loops q c.args.p done;
+      };
       still = c.in_ok-sweep_until_still.ensures.still;
     }
