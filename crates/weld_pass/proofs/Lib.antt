@@ -1,4 +1,5 @@
 pub mod EachNodes
+pub mod Following
 pub mod Joined
 pub mod Passed
 pub mod Spelled

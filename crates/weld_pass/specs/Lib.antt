@@ -1,3 +1,4 @@
 pub mod Either
+pub mod Followed
 pub mod Passed
 pub mod Tested

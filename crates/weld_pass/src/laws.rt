@@ -1,12 +1,15 @@
 //! Laws of rules, each the contract of a function that does nothing.
 
-ghost use Rattle.std.specs.Prelude.{◌≡◌, Bool, false};
+ghost use Rattle.std.specs.Prelude.{◌≡◌, ℕ, Bool, false};
 ghost use Rattle.weld_tree.specs.ExprTree.{ExprTree};
 ghost use Rattle.weld_rounds.specs.Rules.{Falls, IsSound};
 ghost use Rattle.weld_sweep.specs.Nodes.{EachNode};
 ghost use Rattle.weld_sweep.specs.Sweep.{RootRule, IsStill};
 ghost use Rattle.weld_pass.specs.Either.{either};
+ghost use Rattle.weld_pass.specs.Followed.{followed};
 ghost use Rattle.weld_pass.specs.Tested.{tested, AnswersLighter, AnswersSoundly};
+
+use weld_replacing::laws::{rewriting_is_an_order, tidiness_is_kept};
 
 /// A rule that is a test and an answer makes lighter and is sound where its answers are, and where
 /// it is still, the test holds of no node.
@@ -27,3 +30,14 @@ pub fn rules_may_be_joined()
     ensures first { (r s : RootRule) (e : ExprTree) → IsStill (either r s) e → IsStill r e }
     ensures second { (r s : RootRule) (e : ExprTree) → IsStill (either r s) e → IsStill s e }
 {}
+
+/// A rule whose answer another settles makes lighter and is sound where both do and are, and where it is
+/// still, the first is.
+pub fn rules_may_follow()
+    ensures falls { (n : ℕ) (r s : RootRule) → Falls r → Falls s → Falls (followed n r s) }
+    ensures sound { (n : ℕ) (r s : RootRule) → IsSound r → IsSound s → IsSound (followed n r s) }
+    ensures still { (n : ℕ) (r s : RootRule) (e : ExprTree) → IsStill (followed n r s) e → IsStill r e }
+{
+    rewriting_is_an_order();
+    tidiness_is_kept();
+}

@@ -3,8 +3,10 @@
 #![tactic(auto)]
 
 mod either;
+mod followed;
 pub mod laws;
 mod pass;
 
 pub use either::Either;
+pub use followed::Followed;
 pub use pass::run_pass;

@@ -8,6 +8,7 @@ use Rattle.weld_print.specs.PrintText.{program_text}
 use Rattle.weld_reads_back.specs.Texts.{TextSpellsSoundly}
 use Rattle.weld_sweep.specs.Sweep.{RootRule, swept_times}
 use Rattle.weld_pass.specs.Either.{either}
+use Rattle.weld_pass.specs.Followed.{followed}
 use Rattle.weld_meaning.specs.Accepted.{IsAccepted}
 use Rattle.weld_replacing.specs.Rewriting.{SameMeaning}
 use Rattle.weld_inline.specs.Inlining.{HasNoSuchLet, lets_rule}
@@ -18,9 +19,13 @@ use Rattle.weld_vertical_zip.specs.Zips.{HasNoMadeLeg, zips_rule}
 use Rattle.weld_horizontal.specs.Doubles.{HasNoDouble, doubles_rule}
 use Rattle.weld_joining.specs.Joining.{HasNoPair, beside_rule}
 
+-- a list on a leg of a `zip` isn't made, and the legs that stand twice then go at once, up to so many
+abbrev pub spare_legs_rule : RootRule
+spare_legs_rule = followed 16 zips_rule doubles_rule
+
 -- the rules of all passes as one
 abbrev pub all_rules : RootRule
-all_rules = either lets_rule (either guards_rule (either loops_rule (either doubles_rule (either zips_rule beside_rule))))
+all_rules = either lets_rule (either guards_rule (either loops_rule (either doubles_rule (either spare_legs_rule beside_rule))))
 
 -- the body after so many sweeps with them, once its chain of loops was fused
 abbrev pub optimised_body : ℕ → ExprTree → ExprTree

@@ -20,7 +20,7 @@ use weld_horizontal::laws::legs_may_stand_once;
 use weld_inline::laws::lets_may_be_rewritten;
 use weld_joining::laws::loops_may_be_joined;
 use weld_meaning::laws::{the_walk_is_linear_use, types_are_unique};
-use weld_pass::laws::rules_may_be_joined;
+use weld_pass::laws::{rules_may_be_joined, rules_may_follow};
 use weld_predicate::laws::guards_may_be_rewritten;
 use weld_reads_back::laws::{printed_programs_read_back, texts_spell_the_spellable};
 use weld_replacing::laws::{rewriting_is_an_order, rewritten_programs, tidiness_is_kept};
@@ -44,6 +44,7 @@ pub fn all_rules_may_be_tried()
     legs_may_stand_once();
     loops_may_be_joined();
     rules_may_be_joined();
+    rules_may_follow();
 }
 
 /// A tidy body is rewritten by fusing its chain of loops and sweeping it with the rules then, as often as it may be;

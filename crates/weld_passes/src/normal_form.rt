@@ -18,7 +18,7 @@ use weld_horizontal::Doubles;
 use weld_inline::Lets;
 use weld_joining::Beside;
 use weld_meaning::Accepted;
-use weld_pass::Either;
+use weld_pass::{Either, Followed};
 use weld_predicate::Guards;
 use weld_reads_back::laws::{printed_programs_read_back, texts_spell_the_spellable};
 use weld_replacing::laws::{rewritten_programs, tidiness_is_kept};
@@ -67,8 +67,13 @@ fn optimise_body(alloc: Global, body: &mut Expr) -> Result<(), AllocError>
 {
     all_rules_may_be_tried();
     fuse_chain(alloc, body)?;
-    let over_one = Either {
+    let spare_legs = Followed {
         first: &Zips,
+        second: &Doubles,
+        times: 16,
+    };
+    let over_one = Either {
+        first: &spare_legs,
         second: &Beside,
     };
     let of_legs = Either {

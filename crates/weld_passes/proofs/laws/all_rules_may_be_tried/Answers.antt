@@ -6,10 +6,11 @@ use Rattle.weld_horizontal.specs.Doubles.{doubles_rule}
 use Rattle.weld_joining.specs.Joining.{beside_rule}
 use Rattle.weld_sweep.specs.Sweep.{RootRule}
 use Rattle.weld_pass.specs.Either.{either}
+use Rattle.weld_passes.specs.Normal.{spare_legs_rule}
 use Rattle.weld_passes.proofs.laws.all_rules_may_be_tried.Goals as goal
 
 abbrev over_one : RootRule
-over_one = either zips_rule beside_rule
+over_one = either spare_legs_rule beside_rule
 
 abbrev of_legs : RootRule
 of_legs = either doubles_rule over_one
@@ -27,7 +28,8 @@ returns-clause-falls c =
     (joined.falls guards_rule of_loops c.guards_may_be_rewritten.ensures.falls
     (joined.falls loops_rule of_legs c.loops_may_be_fused.ensures.falls
     (joined.falls doubles_rule over_one c.legs_may_stand_once.ensures.falls
-    (joined.falls zips_rule beside_rule c.made_legs_may_be_spliced.ensures.falls c.loops_may_be_joined.ensures.falls))))
+    (joined.falls spare_legs_rule beside_rule
+    (c.rules_may_follow.ensures.falls 16 zips_rule doubles_rule c.made_legs_may_be_spliced.ensures.falls c.legs_may_stand_once.ensures.falls) c.loops_may_be_joined.ensures.falls))))
 
 pub returns-clause-sound : goal.returns-clause-sound
 returns-clause-sound c =
@@ -36,7 +38,8 @@ returns-clause-sound c =
     (joined.sound guards_rule of_loops c.guards_may_be_rewritten.ensures.sound
     (joined.sound loops_rule of_legs c.loops_may_be_fused.ensures.sound
     (joined.sound doubles_rule over_one c.legs_may_stand_once.ensures.sound
-    (joined.sound zips_rule beside_rule c.made_legs_may_be_spliced.ensures.sound c.loops_may_be_joined.ensures.sound))))
+    (joined.sound spare_legs_rule beside_rule
+    (c.rules_may_follow.ensures.sound 16 zips_rule doubles_rule c.made_legs_may_be_spliced.ensures.sound c.legs_may_stand_once.ensures.sound) c.loops_may_be_joined.ensures.sound))))
 
 pub returns-clause-normal : goal.returns-clause-normal
 returns-clause-normal c = λ p still.
@@ -49,7 +52,8 @@ returns-clause-normal c = λ p still.
       no_let = c.lets_may_be_rewritten.ensures.still p.body (joined.first lets_rule others p.body still);
       no_guard = c.guards_may_be_rewritten.ensures.still p.body (joined.first guards_rule of_loops p.body but_lets);
       no_loop_over_a_loop = c.loops_may_be_fused.ensures.still p.body (joined.first loops_rule of_legs p.body but_guards);
-      no_made_leg = c.made_legs_may_be_spliced.ensures.still p.body (joined.first zips_rule beside_rule p.body but_doubles);
+      no_made_leg = c.made_legs_may_be_spliced.ensures.still p.body
+          (c.rules_may_follow.ensures.still 16 zips_rule doubles_rule p.body (joined.first spare_legs_rule beside_rule p.body but_doubles));
       no_leg_twice = c.legs_may_stand_once.ensures.still p.body (joined.first doubles_rule over_one p.body but_loops);
-      no_loops_side_by_side = c.loops_may_be_joined.ensures.still p.body (joined.second zips_rule beside_rule p.body but_doubles);
+      no_loops_side_by_side = c.loops_may_be_joined.ensures.still p.body (joined.second spare_legs_rule beside_rule p.body but_doubles);
     }
