@@ -1,4 +1,4 @@
-ghost use Rattle.std.specs.Prelude.{◌≡◌, IfOk, map};
+ghost use Rattle.std.specs.Prelude.{◌≡◌, ◌<◌, IfOk, map};
 ghost use Rattle.std.specs.String.{string_bytes};
 ghost use Rattle.weld_data.specs.View.{view_val};
 ghost use Rattle.weld_fits.specs.HasValue.{HasValue};
@@ -8,12 +8,13 @@ ghost use Rattle.weld_front.specs.Texts.{refusal_text, script_refusal_text, unfi
 use crate::report::push_report;
 use crate::status::Status;
 use std::alloc::{AllocError, Global};
+use std::thread::Threads;
 use weld_data::{Text, Val};
 use weld_print_type::print_ty;
 use weld_read_script::ScriptFault;
 use weld_share::RunNote;
 use weld_tree::{Code, Refusal, Ty};
-use weld_values::write_value;
+use weld_write_pieces::write_value;
 
 /// What is written, and the status that the program ends with.
 #[derive(Debug, Drop)]
@@ -98,32 +99,42 @@ pub(crate) fn unfit(alloc: Global, number: u64, code: Code) -> Result<Answer, Al
     ))
 }
 
-/// A value's text.
-fn shown(alloc: Global, value: &Val, ty: &Ty) -> Result<Text, AllocError>
-    requires { HasValue ty.now (view_val value.now) }
+/// A value's text, written by so many workers.
+fn shown(
+    rt: &(impl Threads + Sync),
+    alloc: Global,
+    value: &Val,
+    ty: &Ty,
+    workers: u32,
+) -> Result<Text, AllocError>
+    requires typed { HasValue ty.now (view_val value.now) }
+    requires some_worker { 0 < workers }
     ensures { IfOk result (λ text. text ≡ value_text ty.now (view_val value.now)) }
 {
-    let mut text = write_value(alloc, value, ty)?;
+    let mut text = write_value(rt, alloc, value, ty, workers)?;
     text.push(b'\n')?;
     Ok(text)
 }
 
 /// A program's value, with the report behind it where one is wanted: what a run counted, of a program that had
-/// so many loops.
+/// so many loops. The text is the same for all workers.
 pub(crate) fn done(
+    rt: &(impl Threads + Sync),
     alloc: Global,
     value: &Val,
     ty: &Ty,
+    workers: u32,
     report: bool,
     loops: u64,
     note: RunNote,
 ) -> Result<Answer, AllocError>
-    requires { HasValue ty.now (view_val value.now) }
+    requires typed { HasValue ty.now (view_val value.now) }
+    requires some_worker { 0 < workers }
     ensures status { IfOk result (λ answer. answer.status ≡ Status.Done) }
     ensures text { IfOk result (λ answer. IsTold report (λ lines. lines ≡ report_text loops note)
         (value_text ty.now (view_val value.now)) answer.text) }
 {
-    let mut text = shown(alloc, value, ty)?;
+    let mut text = shown(rt, alloc, value, ty, workers)?;
     if report {
         push_report(alloc, &mut text, loops, note)?;
     }

@@ -88,7 +88,19 @@ fn run_on<R: Threads + Sync, G: Gate>(
     typed_programs_are_never_stuck();
     let loops = count_loops(program.program());
     match run_program(rt, alloc, program, arguments, asked, gate) {
-        Ok((value, note)) => done(alloc, &value, ty, asked.options.report, loops, note),
+        Ok((value, note)) => {
+            let options = asked.options;
+            done(
+                rt,
+                alloc,
+                &value,
+                ty,
+                options.workers,
+                options.report,
+                loops,
+                note,
+            )
+        }
         Err(Stop::Fault) => fault(alloc),
         Err(Stop::Memory) => Err(AllocError),
     }

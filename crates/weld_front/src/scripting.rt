@@ -118,7 +118,19 @@ fn conclude_script<R: Threads + Sync, G: Gate>(
     } = gather(alloc, script, inputs)?;
     let loops = count_loops(program.program());
     match run_gathered(rt, alloc, program, &inputs, asked, gate) {
-        Ok((value, note)) => done(alloc, &value, &ty, asked.options.report, loops, note),
+        Ok((value, note)) => {
+            let options = asked.options;
+            done(
+                rt,
+                alloc,
+                &value,
+                &ty,
+                options.workers,
+                options.report,
+                loops,
+                note,
+            )
+        }
         Err(Stop::Fault) => fault(alloc),
         Err(Stop::Memory) => Err(AllocError),
     }

@@ -1,0 +1,31 @@
+use Rattle.std.proofs.Common.{◌≡◌, ◌∙◌, sym, ap, map, ℕ, Bool, pos}
+use Rattle.weld_data.specs.declared.kind.Kind.TheVariants as kinds
+use Rattle.weld_data.specs.Operation.{truth}
+use Rattle.weld_data.specs.Value.{number}
+use Rattle.weld_data.specs.View.{view_column}
+use Rattle.weld_write_pieces.proofs.Fields.{many_appended}
+use Rattle.weld_write_pieces.proofs.writing.append_column.Goals as goal
+
+pub returns-in-Bool : goal.returns-in-Bool
+returns-in-Bool g c =
+    let f = (λ (b : Bool). number kinds.Bool (truth b)) in
+    let view : map f c.as_slice.result.now ≡ view_column c.args.column.now = ap (map f) c.as_slice.ensures ∙ ap view_column (sym c.in-Bool.is) in
+    many_appended f (λ x h. h) c.as_slice.result.now (view_column c.args.column.now) c.args.out.now c.append_many.new.out c.append_many.result view c.append_many.ensures
+
+pub returns-in-U8 : goal.returns-in-U8
+returns-in-U8 g c =
+    let f = (λ (n : ℕ). number kinds.U8 (pos n)) in
+    let view : map f c.as_slice-in-U8.result.now ≡ view_column c.args.column.now = ap (map f) c.as_slice-in-U8.ensures ∙ ap view_column (sym c.in-U8.is) in
+    many_appended f (λ x h. h) c.as_slice-in-U8.result.now (view_column c.args.column.now) c.args.out.now c.append_many-in-U8.new.out c.append_many-in-U8.result view c.append_many-in-U8.ensures
+
+pub returns-in-I32 : goal.returns-in-I32
+returns-in-I32 g c =
+    let f = (number kinds.I32) in
+    let view : map f c.as_slice-in-I32.result.now ≡ view_column c.args.column.now = ap (map f) c.as_slice-in-I32.ensures ∙ ap view_column (sym c.in-I32.is) in
+    many_appended f (λ x h. h) c.as_slice-in-I32.result.now (view_column c.args.column.now) c.args.out.now c.append_many-in-I32.new.out c.append_many-in-I32.result view c.append_many-in-I32.ensures
+
+pub returns-in-I64 : goal.returns-in-I64
+returns-in-I64 g c =
+    let f = (number kinds.I64) in
+    let view : map f c.as_slice-in-I64.result.now ≡ view_column c.args.column.now = ap (map f) c.as_slice-in-I64.ensures ∙ ap view_column (sym c.in-I64.is) in
+    many_appended f (λ x h. h) c.as_slice-in-I64.result.now (view_column c.args.column.now) c.args.out.now c.append_many-in-I64.new.out c.append_many-in-I64.result view c.append_many-in-I64.ensures
