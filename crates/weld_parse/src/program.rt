@@ -1,5 +1,5 @@
 //! Programs from tokens.
-ghost use Rattle.std.specs.Prelude.{IfOk, IfErr};
+ghost use Rattle.std.specs.Prelude.{◌<◌, IfOk, IfErr, length};
 ghost use Rattle.weld_reduce.specs.Programs.{AreOfTheirClasses, IsRead};
 ghost use Rattle.weld_parse.specs.Unread.{WhyUnread};
 
@@ -24,9 +24,10 @@ pub enum Unread {
 }
 
 /// The program that tokens spell, each of which has the class of its bytes, with the first of its names that is refused
-/// (the Weld papers).
+/// (the Weld papers). There are fewer tokens than binders have numbers.
 pub fn read_program(alloc: Global, tokens: &[Token]) -> Result<Read, Unread>
     requires classes { AreOfTheirClasses tokens.now }
+    requires few { length tokens.now < 4294967296 }
     ensures read { IfOk result (λ read. IsRead tokens.now read.params read.body.value read.misnamed) }
     ensures unread { IfErr result (λ why. WhyUnread tokens.now why) }
 {

@@ -27,6 +27,9 @@ fn read_of(alloc: Global, text: &[u8], tokens: &[Token]) -> Result<Read, Fail>
 {
     let _text = text;
     classes_of_tokens();
+    if tokens.len() > 262_144 {
+        return Err(Fail::from("the text is too long"));
+    }
     match read_program(alloc, tokens) {
         Ok(read) => Ok(read),
         Err(_) => Err(Fail::from("the text is not read")),

@@ -8,6 +8,7 @@ pub mod TypeForms
 pub mod Levels
 pub mod Forms
 pub mod Binders
+pub mod Made
 pub mod Loops
 pub mod Building
 pub mod Expressions
@@ -16,3 +17,4 @@ pub mod CodeScope
 pub mod CodeWays
 pub mod CodeRules
 pub mod CodeEnds
+pub mod CodeNumbers

@@ -1,5 +1,6 @@
--- Types, kinds and the operators of builders have no names and no numbers in them.
+-- Types, kinds and the operators of builders have no names, no numbers and no `=` in them.
 use Rattle.std.proofs.Common.{◌≡◌, refl, ℕ, Bool, true, false, ◌&&◌, List, [], ◌∷◌, ap, ◌∙◌, Option, None}
+use Rattle.weld_terminals.specs.declared.symbol.Symbol.TheVariants.{Equals}
 use Rattle.weld_terminals.specs.declared.token.Token.{Token}
 use Rattle.weld_grammar.specs.declared.terminal.Terminal.{Terminal}
 use Rattle.weld_grammar.specs.declared.terminal.Terminal.TheVariants.{Sign, Fixed}
@@ -34,6 +35,7 @@ is_nameless r.IntKind = true
 is_nameless _ = false
 
 abbrev pub nameless_terminal : Terminal → Bool
+nameless_terminal (Sign Equals) = false
 nameless_terminal (Sign s) = true
 nameless_terminal (Fixed w) = true
 nameless_terminal _ = false
@@ -94,6 +96,7 @@ neither : (a b : Option Refused) → a ≡ None → b ≡ None → or_else a b �
 neither a b e f = ap (λ z. or_else z b) e ∙ f
 
 silent_token : (a : Terminal) (t : Token) (scope : List (List ℕ)) → nameless_terminal a ≡ true → misnamed_token a t scope ≡ None
+silent_token (Sign Equals) t scope e = absurd (cc)
 silent_token (Sign s) t scope e = refl
 silent_token (Fixed w) t scope e = refl
 silent_token _ t scope e = absurd (cc)

@@ -2,6 +2,7 @@ pub mod Values
 pub mod Forms
 pub mod States
 pub mod Runs
+pub mod Made
 pub mod Programs
 pub mod Views
 pub mod Operators

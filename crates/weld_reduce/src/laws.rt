@@ -1,5 +1,5 @@
 //! Laws of derivations. Each function's contract is the law.
-ghost use Rattle.std.specs.Prelude.{◌≡◌, None, List};
+ghost use Rattle.std.specs.Prelude.{◌≡◌, ◌≤◌, None, List, length};
 ghost use Rattle.weld_terminals.specs.declared.token.Token.{Token};
 ghost use Rattle.weld_grammar.specs.declared.rule.Rule.{Rule};
 ghost use Rattle.weld_grammar.specs.declared.rule.Rule.TheVariants.{Program, AnyType};
@@ -16,6 +16,7 @@ ghost use Rattle.weld_names.specs.Names.{first_misnamed};
 ghost use Rattle.weld_programs.specs.Ranges.{number_out_of_range};
 ghost use Rattle.weld_reduce.specs.States.{start};
 ghost use Rattle.weld_reduce.specs.Runs.{run, Comes, ComesToType};
+ghost use Rattle.weld_reduce.specs.Made.{binders_made};
 ghost use Rattle.weld_reduce.specs.Programs.{AreOfTheirClasses, IsDerivedBy};
 
 /// A derivation of the classes of tokens is one of the tokens, by the same steps.
@@ -29,4 +30,10 @@ pub fn derivations_are_over_tokens()
 pub fn derivations_spell()
     ensures programs { (tree : Tree Token) → IsOf (item (OfRule Program)) (seen tree) → number_out_of_range tree ≡ None → AreOfTheirClasses (yield tree) → Comes (run (steps (item (OfRule Program)) tree) (yield tree) start) (program_of tree) (first_misnamed tree) }
     ensures types { (tree : Tree Token) → IsOf (item (OfRule AnyType)) (seen tree) → ComesToType (run (steps (item (OfRule AnyType)) tree) (yield tree) start) (first_of (yield tree)) (type_of tree) }
+{}
+
+/// The steps of a derivation make no more binders than it has tokens. Those of a type's make none.
+pub fn binders_are_few()
+    ensures few { (r : Rule) (ts : List Token) (ss : List Step) → IsDerivedBy r ts ss → binders_made ss ≤ length ts }
+    ensures none { (ts : List Token) (ss : List Step) → IsDerivedBy AnyType ts ss → binders_made ss ≡ 0 }
 {}

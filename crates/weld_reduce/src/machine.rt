@@ -1,9 +1,10 @@
 //! The machine.
-ghost use Rattle.std.specs.Prelude.{◌≡◌, ◌∷◌, Some, None, IfOk, OnOk, IfErr, List, drop};
+ghost use Rattle.std.specs.Prelude.{◌≡◌, ◌∷◌, ◌+◌, ◌<◌, Some, None, IfOk, OnOk, IfErr, List, drop};
 ghost use Rattle.weld_accept.specs.declared.step.Step.{Step};
 ghost use Rattle.weld_reduce.specs.declared.stop.Stop.TheVariants.{Broken};
 ghost use Rattle.weld_reduce.specs.StateView.{view_state};
 ghost use Rattle.weld_reduce.specs.Runs.{run};
+ghost use Rattle.weld_reduce.specs.Made.{made_by, binders_made};
 
 use crate::rules::reduce;
 use crate::shift::shift;
@@ -14,6 +15,7 @@ use weld_accept::Step;
 use weld_terminals::Token;
 
 /// One step. It gives the number of the next token.
+#[tactic(auto, using(crate::proofs::CodeNumbers::behind_shift))]
 fn run_step<'a>(
     alloc: Global,
     tokens: &'a [Token],
@@ -21,9 +23,11 @@ fn run_step<'a>(
     step: Step,
     state: &mut State<'a>,
 ) -> Result<usize, Stop>
+    requires room { state.old.next + made_by step < 4294967296 }
     ensures ok { IfOk result
         (λ behind. (steps : List Step) → run (step ∷ steps) (drop next tokens.now) (view_state state.old)
         ≡ run steps (drop behind tokens.now) (view_state state.new)) }
+    ensures numbered { OnOk result (state.new.next ≡ state.old.next + made_by step) }
     ensures broken { IfErr result
         (λ stop. stop ≡ Broken → (steps : List Step) → run (step ∷ steps) (drop next tokens.now) (view_state state.old)
         ≡ None) }
@@ -43,13 +47,14 @@ fn run_step<'a>(
     }
 }
 
-/// The steps of a derivation over its tokens.
+/// The steps of a derivation over its tokens. No number passes what a binder may have.
 pub fn run_steps<'a>(
     alloc: Global,
     tokens: &'a [Token],
     steps: &[Step],
     state: &mut State<'a>,
 ) -> Result<(), Stop>
+    requires room { state.old.next + binders_made steps.now < 4294967296 }
     ensures ok { OnOk result
         (run steps.now tokens.now (view_state state.old) ≡ Some (view_state state.new)) }
     ensures broken { IfErr result

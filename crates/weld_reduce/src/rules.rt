@@ -1,11 +1,12 @@
 //! Rules that end.
-ghost use Rattle.std.specs.Prelude.{◌≡◌, Some, None, OnOk, IfErr};
+ghost use Rattle.std.specs.Prelude.{◌≡◌, ◌+◌, ◌<◌, Some, None, OnOk, IfErr};
 ghost use Rattle.weld_reduce.specs.declared.stop.Stop.TheVariants.{Broken};
 ghost use Rattle.weld_reduce.specs.Forms.{reduced};
 ghost use Rattle.weld_reduce.specs.Ways as ways;
 ghost use Rattle.weld_reduce.specs.Ways.{by_way};
 ghost use Rattle.weld_reduce.specs.StateView.{view_state};
 ghost use Rattle.weld_reduce.specs.States as states;
+ghost use Rattle.weld_reduce.specs.Made.{made_by_rule};
 
 use crate::binding::{reduce_for, reduce_iterate, reduce_let};
 use crate::builders::{builder_type, cells_builder, fresh_builder, total_builder};
@@ -76,6 +77,7 @@ fn reduce_stack(alloc: Global, rule: Rule, values: &mut Values) -> Result<(), St
 /// The rule ends.
 #[tactic(auto, using(crate::proofs::CodeRules::nameless))]
 pub fn reduce(alloc: Global, rule: Rule, state: &mut State) -> Result<(), Stop>
+    requires room { state.old.next + made_by_rule rule < 4294967296 }
     ensures ok { OnOk result
         (states.reduce rule (view_state state.old) ≡ Some (view_state state.new)) }
     ensures broken { IfErr result

@@ -1,5 +1,5 @@
 //! Tokens that are taken.
-ghost use Rattle.std.specs.Prelude.{◌≡◌, ◌∷◌, Some, None, OnOk, IfErr};
+ghost use Rattle.std.specs.Prelude.{◌≡◌, ◌∷◌, ◌+◌, ◌<◌, Some, None, OnOk, IfErr};
 ghost use Rattle.weld_tree.specs.ExprTree.{leaf as leaf_at};
 ghost use Rattle.weld_tree.specs.ExprView.{view_leaf};
 ghost use Rattle.weld_grammar.specs.declared.terminal.Terminal.TheVariants as terminals;
@@ -11,6 +11,7 @@ ghost use Rattle.weld_reduce.specs.Forms.{at};
 ghost use Rattle.weld_reduce.specs.StateView.{view_state};
 ghost use Rattle.weld_reduce.specs.States as states;
 ghost use Rattle.weld_reduce.specs.States.{names_of, refuse};
+ghost use Rattle.weld_reduce.specs.Made.{made_by_terminal};
 
 use crate::nodes::leaf;
 use crate::state::{State, name_let, see_let};
@@ -115,6 +116,7 @@ fn shift_fixed<'a>(
 
 /// A symbol; those that say no more than their rule aren't kept.
 fn shift_sign<'a>(symbol: Symbol, token: &'a Token, state: &mut State<'a>) -> Result<(), Stop>
+    requires room { state.old.next + made_by_terminal (terminals.Sign symbol) < 4294967296 }
     ensures ok { OnOk result
         (states.shift (terminals.Sign symbol) token.now (view_state state.old)
         ≡ Some (view_state state.new)) }
@@ -146,6 +148,7 @@ pub fn shift<'a>(
     token: &'a Token,
     state: &mut State<'a>,
 ) -> Result<(), Stop>
+    requires room { state.old.next + made_by_terminal terminal < 4294967296 }
     ensures ok { OnOk result
         (states.shift terminal token.now (view_state state.old) ≡ Some (view_state state.new)) }
     ensures broken { IfErr result

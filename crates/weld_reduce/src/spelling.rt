@@ -1,12 +1,12 @@
 //! The program that a derivation spells.
-ghost use Rattle.std.specs.Prelude.{◌≡◌, None, IfOk};
+ghost use Rattle.std.specs.Prelude.{◌≡◌, ◌<◌, None, IfOk, length};
 ghost use Rattle.weld_tokens.specs.Order.{first_number_out_of_range as out_of_range};
 ghost use Rattle.weld_grammar.specs.declared.rule.Rule.TheVariants as rules;
 ghost use Rattle.weld_reduce.specs.Programs.{AreOfTheirClasses, IsDerivedBy, IsRead};
 ghost use Rattle.weld_reduce.specs.Ends.{IsEndOf};
 ghost use Rattle.weld_reduce.specs.StateView.{view_state};
 
-use crate::laws::derivations_spell;
+use crate::laws::{binders_are_few, derivations_spell};
 use crate::machine::run_steps;
 use crate::state::State;
 use crate::stop::Stop;
@@ -26,14 +26,16 @@ pub struct Read {
 }
 
 /// The program of a derivation, by its steps and its tokens, of which each number is in its range and each token has the
-/// class of its bytes. It fails only for want of memory.
+/// class of its bytes; a text has fewer tokens than binders have numbers. It fails only for want of memory.
 pub fn spell(alloc: Global, tokens: &[Token], steps: &[Step]) -> Result<Read, AllocError>
     requires derived { IsDerivedBy rules.Program tokens.now steps.now }
     requires ranged { out_of_range tokens.now ≡ None }
     requires read { AreOfTheirClasses tokens.now }
+    requires few { length tokens.now < 4294967296 }
     ensures { IfOk result (λ read. IsRead tokens.now read.params read.body.value read.misnamed) }
 {
     derivations_spell();
+    binders_are_few();
     numbers_by_the_tree();
     let mut state = State::new(alloc);
     match run_steps(alloc, tokens, steps, &mut state) {

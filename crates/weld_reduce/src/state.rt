@@ -1,6 +1,6 @@
 //! What the machine has: its stack, the binders that are open, the names in scope, the number of the next binder, the
 //! first name refused, and the parameters.
-ghost use Rattle.std.specs.Prelude.{◌≡◌, ◌+◌, Some, None, IfOk, OnOk, IfErr};
+ghost use Rattle.std.specs.Prelude.{◌≡◌, ◌+◌, ◌<◌, Some, None, IfOk, OnOk, IfErr};
 ghost use Rattle.weld_reduce.specs.declared.stop.Stop.TheVariants.{Broken, Memory};
 ghost use Rattle.weld_reduce.specs.Views.{view_named};
 ghost use Rattle.weld_reduce.specs.StateView.{view_state};
@@ -77,29 +77,17 @@ fn named<'a>(number: u32, values: &mut Values<'a>) -> Result<Named<'a>, Stop>
     Ok(Named { binder, word })
 }
 
-/// The number behind this one. A text has fewer names than there are numbers.
-fn number_behind(number: u32) -> Result<u32, Stop>
-    ensures ok { IfOk result (λ next. next ≡ number + 1) }
-    ensures memory { IfErr result (λ stop. stop ≡ Memory) }
-{
-    if number == u32::MAX {
-        Err(Stop::Memory)
-    } else {
-        Ok(number + 1)
-    }
-}
-
 /// The binder of a `let`: it isn't seen in its value.
 pub fn name_let(state: &mut State) -> Result<(), Stop>
+    requires room { state.old.next + 1 < 4294967296 }
     ensures ok { OnOk result
         (states.name_let (view_state state.old) ≡ Some (view_state state.new)) }
     ensures broken { IfErr result
         (λ stop. stop ≡ Broken → states.name_let (view_state state.old) ≡ None) }
 {
-    let next = number_behind(state.next)?;
     let named = named(state.next, &mut state.values)?;
     state.binders.push(named)?;
-    state.next = next;
+    state.next += 1;
     Ok(())
 }
 
@@ -120,35 +108,35 @@ pub fn see_let(state: &mut State) -> Result<(), Stop>
 
 /// The binder of a lambda.
 pub fn bind(state: &mut State) -> Result<(), Stop>
+    requires room { state.old.next + 1 < 4294967296 }
     ensures ok { OnOk result (states.bind (view_state state.old) ≡ Some (view_state state.new)) }
     ensures broken { IfErr result
         (λ stop. stop ≡ Broken → states.bind (view_state state.old) ≡ None) }
 {
-    let next = number_behind(state.next)?;
     let named = named(state.next, &mut state.values)?;
     state.scope.push(Seen {
         word: named.word,
         number: state.next,
     })?;
     state.binders.push(named)?;
-    state.next = next;
+    state.next += 1;
     Ok(())
 }
 
 /// A parameter of the program.
 pub fn param(state: &mut State) -> Result<(), Stop>
+    requires room { state.old.next + 1 < 4294967296 }
     ensures ok { OnOk result (states.param (view_state state.old) ≡ Some (view_state state.new)) }
     ensures broken { IfErr result
         (λ stop. stop ≡ Broken → states.param (view_state state.old) ≡ None) }
 {
-    let next = number_behind(state.next)?;
     let named = named(state.next, &mut state.values)?;
     state.scope.push(Seen {
         word: named.word,
         number: state.next,
     })?;
     state.params.push(named.binder)?;
-    state.next = next;
+    state.next += 1;
     Ok(())
 }
 

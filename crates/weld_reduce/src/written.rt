@@ -7,7 +7,7 @@ ghost use Rattle.weld_reduce.specs.Programs.{IsDerivedBy};
 ghost use Rattle.weld_reduce.specs.Ends.{IsEndOfType};
 ghost use Rattle.weld_reduce.specs.StateView.{view_state};
 
-use crate::laws::{derivations_are_over_tokens, derivations_spell};
+use crate::laws::{binders_are_few, derivations_are_over_tokens, derivations_spell};
 use crate::machine::run_steps;
 use crate::state::State;
 use crate::stop::Stop;
@@ -43,6 +43,7 @@ fn spell_type(alloc: Global, tokens: &[Token], steps: &[Step]) -> Result<Box<Ty>
     ensures { IfOk result (λ ty. SpellsType tokens.now ty.value) }
 {
     derivations_spell();
+    binders_are_few();
     let mut state = State::new(alloc);
     match run_steps(alloc, tokens, steps, &mut state) {
         Ok(()) => Ok(whole_type(tokens, state)),

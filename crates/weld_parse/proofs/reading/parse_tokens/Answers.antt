@@ -1,5 +1,6 @@
-use Rattle.std.proofs.Common.{sym, ◌∙◌, ap}
+use Rattle.std.proofs.Common.{sym, ◌∙◌, ap, arith}
 use Rattle.weld_parse.specs.Findings.{place_at}
+use Rattle.weld_parse.proofs.Order.{few_tokens}
 use Rattle.weld_parse.proofs.Answering.{by_size, by_break, by_tree, ok_program, err_judged, ranged_refused, unread_broken, unread_range}
 use Rattle.weld_parse.proofs.reading.parse_tokens.Goals as goal
 
@@ -26,4 +27,7 @@ returns-in-Err-OutOfRange-clause-refused c =
     (ranged_refused c.numbers_by_the_tree.ensures c.programs_are_derived.ensures.spelled c.args.tokens.now c.in-Err-OutOfRange.place (sym c.has_too_many_tokens.ensures ∙ c.if-has_too_many_tokens.false) both.0 both.1)
 
 pub read_program-requires : goal.read_program-requires
-read_program-requires c = record { classes = c.classes_of_tokens.ensures c.args.text.now c.args.tokens.now c.requires.tokens_of }
+read_program-requires c = record {
+  classes = c.classes_of_tokens.ensures c.args.text.now c.args.tokens.now c.requires.tokens_of;
+  few = omega (arith, few_tokens c.args.tokens.now (sym c.has_too_many_tokens.ensures ∙ c.if-has_too_many_tokens.false));
+}
