@@ -2,11 +2,13 @@
 use Rattle.std.proofs.Common.{◌≡◌, inl, inr, sym, ◌∙◌, ℕ, zero, suc, ◌+◌, ◌<◌, ◌≤◌, Bool, false, List, [], ◌∷◌, ◌++◌, length, drop, get_or, refl, ap, subst, append_assoc, append-nil, add-one, arith}
 use Rattle.std.proofs.Math.Seq.{drop-cons}
 use Rattle.std.proofs.lemmas.List.{drop_all}
+use Rattle.std.proofs.lemmas.Option.{none-some, slice_get_within, get_or_from_slice_get}
+use Rattle.std.specs.Prelude.{Some, None, slice_get}
 use Rattle.weld_data.specs.Value.{Value}
 use Rattle.weld_tree.specs.declared.binder.Binder.{Binder}
 use Rattle.weld_tree.specs.declared.code.Code.{Code}
 use Rattle.weld_tree.specs.declared.code.Code.TheVariants as codes_of
-use Rattle.weld_job.specs.declared.block.Block.{Block}
+use Rattle.weld_job.specs.Job.{Block}
 use Rattle.weld_meaning.specs.Typing.{ParamFits, ParamsFit, noted_type}
 use Rattle.weld_arguments.specs.declared.stop.DataStop.{DataStop}
 use Rattle.weld_arguments.specs.declared.stop.DataStop.TheVariants.{Unfit, Memory}
@@ -55,6 +57,26 @@ pub param_at : (bs : List Binder) (i : ℕ) (b : Binder) → i < length bs → P
 param_at [] i b l h = absurd (omega arith)
 param_at (c ∷ bs) zero b l h = h.0
 param_at (c ∷ bs) (suc i) b l h = param_at bs i b (omega arith) h.1
+
+-- ---- blocks by their places
+
+-- the block at a place, and those after it
+pub block_at : (ks : List Block) (at : ℕ) (block : Block) → Some block ≡ slice_get ks at → drop at ks ≡ block ∷ drop (at + 1) ks
+block_at ks at block e =
+    drop-cons ks at block (slice_get_within ks at block (sym e))
+    ∙ ap (λ (x : Block). x ∷ drop (suc at) ks) (get_or_from_slice_get ks at block block (sym e))
+    ∙ ap (λ (n : ℕ). block ∷ drop n ks) (sym (add-one at))
+
+-- no block is left
+pub no_block_at : (ks : List Block) (at : ℕ) → None ≡ slice_get ks at → length (drop at ks) ≡ 0
+no_block_at [] at e = ap length (drop_all at [] (omega arith))
+no_block_at (k ∷ ks) zero e = absurd (none-some k e)
+no_block_at (k ∷ ks) (suc at) e = no_block_at ks at e
+
+-- what was given so far, where the block at the place is next
+pub next_at : (bs : List Binder) (ks : List Block) (i at : ℕ) (block : Block) (number : ℕ) (vs : List Value) → Some block ≡ slice_get ks at
+    → SoFar bs ks i (drop at ks) number vs → SoFar bs ks i (block ∷ drop (at + 1) ks) number vs
+next_at bs ks i at block number vs e s = subst (λ (ls : List Block). SoFar bs ks i ls number vs) (block_at ks at block e) s
 
 -- what blocks give where no stray bytes stand before them
 pub data_give : (stray : Bool) (bs : List Binder) (ks : List Block) (vs : List Value) → stray ≡ false → BlocksGive bs ks vs → DataGive stray bs ks vs

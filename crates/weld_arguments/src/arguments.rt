@@ -21,15 +21,15 @@ fn add_argument(
     rt: &(impl Threads + Sync),
     alloc: Global,
     param: &Binder,
-    block: &Block,
+    block: &Block<'_>,
     number: u64,
     workers: u32,
     arguments: &mut Vals,
 ) -> Result<(), DataStop>
     requires fits { ParamFits param.now.note }
     requires some_worker { 0 < workers }
-    ensures ok { OnOk result ((v : Value) × (arguments.new ≡ arguments.old ++ v ∷ []) × Gives block.now.form block.now.content (noted_type param.now.note) v) }
-    ensures unfit { IfErr result (Tells (λ (n : ℕ) (code : _). (n ≡ number) × Fails block.now.form block.now.content (noted_type param.now.note) code)) }
+    ensures ok { OnOk result ((v : Value) × (arguments.new ≡ arguments.old ++ v ∷ []) × Gives block.now.form block.now.content.now (noted_type param.now.note) v) }
+    ensures unfit { IfErr result (Tells (λ (n : ℕ) (code : _). (n ≡ number) × Fails block.now.form block.now.content.now (noted_type param.now.note) code)) }
 {
     well_formed_types_are_readable();
     let Some(ty) = &param.note else {
@@ -47,32 +47,32 @@ fn read_blocks(
     rt: &(impl Threads + Sync),
     alloc: Global,
     params: &[Binder],
-    blocks: &[Block],
+    job: &Job,
     workers: u32,
 ) -> Result<Vals, DataStop>
     requires fit { ParamsFit params.now }
     requires some_worker { 0 < workers }
-    ensures arguments { IfOk result (BlocksGive params.now blocks.now) }
-    ensures unfit { IfErr result (Tells (BlocksFail params.now blocks.now 1)) }
+    ensures arguments { IfOk result (BlocksGive params.now job.now.blocks) }
+    ensures unfit { IfErr result (Tells (BlocksFail params.now job.now.blocks 1)) }
 {
     let mut arguments = Vals::new(alloc);
-    let mut left = blocks;
+    let mut at = 0;
     let mut number = 1;
     for param in params {
-        let Some((block, more)) = left.split_first() else {
+        let Some(block) = job.block(at) else {
             return Err(DataStop::Unfit(number, Code::Missing));
         };
-        match add_argument(rt, alloc, param, block, number, workers, &mut arguments) {
+        match add_argument(rt, alloc, param, &block, number, workers, &mut arguments) {
             Ok(()) => {}
             Err(stop) => return Err(stop),
         }
-        left = more;
+        at += 1;
         number += 1;
     }
-    if left.is_empty() {
-        Ok(arguments)
-    } else {
+    if at < job.block_count() {
         Err(DataStop::Unfit(number, Code::Extra))
+    } else {
+        Ok(arguments)
     }
 }
 
@@ -98,9 +98,9 @@ pub fn read_arguments(
     ensures typed { IfOk result (ArgumentsFit params.now) }
     ensures unfit { IfErr result (Tells (IsUnfit params.now job.now)) }
 {
-    if job.stray {
+    if job.has_stray() {
         return Err(DataStop::Unfit(0, Code::Form));
     }
     arguments_have_their_types();
-    read_blocks(rt, alloc, params.as_slice(), job.blocks.as_slice(), workers)
+    read_blocks(rt, alloc, params.as_slice(), job, workers)
 }

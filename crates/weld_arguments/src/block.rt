@@ -74,21 +74,19 @@ fn read_records(alloc: Global, content: &[u8], ty: &Ty, number: u64) -> Result<V
 pub(crate) fn read_block(
     rt: &(impl Threads + Sync),
     alloc: Global,
-    block: &Block,
+    block: &Block<'_>,
     ty: &Ty,
     number: u64,
     workers: u32,
 ) -> Result<Val, DataStop>
     requires readable { IsReadable ty.now }
     requires some_worker { 0 < workers }
-    ensures value { IfOk result (λ v. Gives block.now.form block.now.content ty.now (view_val v)) }
-    ensures unfit { IfErr result (Tells (λ (n : ℕ) (code : _). (n ≡ number) × Fails block.now.form block.now.content ty.now code)) }
+    ensures value { IfOk result (λ v. Gives block.now.form block.now.content.now ty.now (view_val v)) }
+    ensures unfit { IfErr result (Tells (λ (n : ℕ) (code : _). (n ≡ number) × Fails block.now.form block.now.content.now ty.now code)) }
 {
     match block.form {
-        BlockForm::Value => {
-            read_content(rt, alloc, block.content.as_slice(), ty, number, workers)
-        }
-        BlockForm::Table => read_records(alloc, block.content.as_slice(), ty, number),
+        BlockForm::Value => read_content(rt, alloc, block.content, ty, number, workers),
+        BlockForm::Table => read_records(alloc, block.content, ty, number),
         BlockForm::Other => Err(DataStop::Unfit(number, Code::Form)),
     }
 }

@@ -4,7 +4,7 @@ ghost use Rattle.std.specs.Prelude.{◌≡◌, ◌⊎◌, ℕ, List};
 ghost use Rattle.weld_data.specs.Value.{Value};
 ghost use Rattle.weld_tree.specs.declared.binder.Binder.{Binder};
 ghost use Rattle.weld_tree.specs.declared.code.Code.{Code};
-ghost use Rattle.weld_job.specs.declared.job.Job.{Job};
+ghost use Rattle.weld_job.specs.Job.{Job};
 ghost use Rattle.weld_meaning.specs.Typing.{ParamsFit};
 ghost use Rattle.weld_meaning.specs.Meaning.{ArgumentsFit};
 ghost use Rattle.weld_arguments.specs.Arguments.{Arguments, IsUnfit};

@@ -1,13 +1,16 @@
 -- Lemmas on the lines of some bytes, and on what stands before the first line that passes a test.
-use Rattle.std.proofs.Common.{◌≡◌, ℕ, zero, suc, ◌+◌, ◌-◌, ◌<◌, ◌≤◌, Bool, true, false, not, cond, eqb, List, [], ◌∷◌, ◌++◌, length, take, drop, get_or, refl, sym, ap, subst, ◌∙◌, arith, append_assoc, append-nil, length-drop}
+use Rattle.std.proofs.Common.{◌≡◌, ℕ, zero, suc, ◌+◌, ◌-◌, ◌<◌, ◌≤◌, Bool, true, false, not, cond, eqb, List, [], ◌∷◌, ◌++◌, length, map, take, drop, get_or, refl, sym, ap, subst, ◌∙◌, arith, append_assoc, append-nil, length-drop}
 use Rattle.std.proofs.Math.Seq.{take-add}
-use Rattle.std.proofs.lemmas.List.{take-append-drop, drop-drop, drop_all, take_all, get_or-drop}
+use Rattle.std.proofs.lemmas.List.{drop-drop, drop_all, take_all, get_or-drop, map-append}
+use Rattle.std.proofs.lemmas.List.Elements.{All-push}
 use Rattle.std.proofs.lemmas.List.Sums.{take_while-cons}
 use Rattle.std.proofs.lemmas.Bool.{false_from_ne_true, eqb-true, eq-eqb}
-use Rattle.std.specs.List.{concat, before_first, position_or_len, onto_first, list_any}
-use Rattle.weld_job.specs.declared.block.Block.{Block}
+use Rattle.std.specs.List.{All, concat, before_first, position_or_len, onto_first, list_any}
+use Rattle.weld_job.specs.Job.{Block}
 use Rattle.weld_job.specs.declared.block.BlockForm.{BlockForm}
-use Rattle.weld_job.specs.declared.job.Job.{Job}
+use Rattle.weld_job.specs.declared.block.Extent.{Extent}
+use Rattle.weld_job.specs.Job.{Job}
+use Rattle.weld_job.specs.Extents.{block_at, job_in, LiesIn}
 use Rattle.weld_job.specs.Blocks.{lines, is_header, is_separator, is_stray, form_of, text_of, data_lines, blocks_of, job_of}
 
 -- ---- before and from the first that passes
@@ -138,47 +141,65 @@ blocks_of-from_first (l ∷ ls) =
     ap blocks_of (from_first-cons is_header l ls)
     ∙ past_header l ls (from_first is_header ls) (is_header l) refl (blocks_of-from_first ls)
 
+-- ---- the blocks by their places
+
+-- the block whose header stands at a place, and those after it
+pub first_at : (bytes rest after : List ℕ) (at n m : ℕ) (form : BlockForm)
+    → rest ≡ drop at bytes → after ≡ drop (at + n) bytes
+    → at < length bytes → get_or bytes at 0 ≡ 37 → 0 < n
+    → lines rest ≡ take n rest ∷ lines (drop n rest)
+    → form ≡ form_of (take n rest)
+    → take m after ≡ concat (before_first is_header (lines after))
+    → lines (drop m after) ≡ from_first is_header (lines after)
+    → (let e : Extent = record { form = form; from = at + n; to = at + n + m } in
+    blocks_of (lines (drop at bytes)) ≡ block_at bytes e ∷ blocks_of (lines (drop (at + n + m) bytes)))
+first_at bytes rest after at n m form r a there header some cut f content more =
+    let behind : drop n rest ≡ after = ap (drop n) r ∙ drop-drop n at bytes ∙ sym a in
+    let first : get_or rest 0 0 ≡ 37 = ap (λ (l : List ℕ). get_or l 0 0) r ∙ get_or-drop at bytes 0 0 ∙ ap (λ k. get_or bytes k 0) (omega arith) ∙ header in
+    let is : is_header (take n rest) ≡ true = is_header-take rest n (omega (arith, ap length r, length-drop at bytes)) some ∙ eq-eqb _ _ first in
+    let all : lines (drop at bytes) ≡ take n rest ∷ lines after = ap lines (sym r) ∙ cut ∙ ap (λ (l : List ℕ). take n rest ∷ lines l) behind in
+    let begins : blocks_of (take n rest ∷ lines after) ≡ record { form = form; content = take m after } ∷ blocks_of (lines after) = rw (is, f, content) refl in
+    let size : (at + n + m) - (at + n) ≡ m = omega arith in
+    let here : take m after ≡ take ((at + n + m) - (at + n)) (drop (at + n) bytes) = rw (size, a) refl in
+    let next : blocks_of (lines after) ≡ blocks_of (lines (drop (at + n + m) bytes)) =
+    sym (blocks_of-from_first (lines after)) ∙ sym (ap blocks_of more) ∙ ap (λ (l : List ℕ). blocks_of (lines l)) (ap (drop m) a ∙ drop-drop m (at + n) bytes) in
+    ap blocks_of all ∙ begins
+    ∙ ap (λ (t : List ℕ). record { form = form; content = t } ∷ blocks_of (lines after)) here
+    ∙ ap (λ (ks : List Block). record { form = form; content = take ((at + n + m) - (at + n)) (drop (at + n) bytes) } ∷ ks) next
+
 -- ---- the loop over the blocks
 
--- the rest begins with a header or is empty, and its blocks are those that are missing
-pub record Cut (bytes : List ℕ) (made : List Block) (rest : List ℕ) : Type 0 where
-  pub header : 0 < length rest → get_or rest 0 0 ≡ 37
-  pub blocks : made ++ blocks_of (lines rest) ≡ blocks_of (lines bytes)
+-- the blocks so far lie in the bytes, and those from the place on are what is missing of those from the start on
+pub record Found (bytes : List ℕ) (start : ℕ) (extents : List Extent) (at : ℕ) : Type 0 where
+  pub within : at ≤ length bytes
+  pub header : at < length bytes → get_or bytes at 0 ≡ 37
+  pub lie : All (LiesIn bytes) extents
+  pub blocks : map (block_at bytes) extents ++ blocks_of (lines (drop at bytes)) ≡ blocks_of (lines (drop start bytes))
 
--- the rest begins with the byte that was found
-pub at_first : (bytes : List ℕ) (n : ℕ) → (n < length bytes → get_or bytes n 0 ≡ 37) → 0 < length (drop n bytes) → get_or (drop n bytes) 0 0 ≡ 37
-at_first bytes n header there =
-    get_or-drop n bytes 0 0 ∙ ap (λ k. get_or bytes k 0) (omega arith) ∙ header (omega (arith, length-drop n bytes))
-
-pub Cut-start : (bytes : List ℕ) (n : ℕ) → (n < length bytes → get_or bytes n 0 ≡ 37) → lines (drop n bytes) ≡ from_first is_header (lines bytes)
-    → Cut bytes [] (drop n bytes)
-Cut-start bytes n header rest = record {
-  header = at_first bytes n header;
-  blocks = ap blocks_of rest ∙ blocks_of-from_first (lines bytes);
+pub Found-next : (bytes : List ℕ) (start : ℕ) (extents grown : List Extent) (at : ℕ) (e : Extent) → Found bytes start extents at
+    → LiesIn bytes e
+    → blocks_of (lines (drop at bytes)) ≡ block_at bytes e ∷ blocks_of (lines (drop e.to bytes))
+    → (e.to < length bytes → get_or bytes e.to 0 ≡ 37)
+    → grown ≡ extents ++ e ∷ []
+    → Found bytes start grown e.to
+Found-next bytes start extents grown at e old lies first header g = record {
+  within = lies.1;
+  header = header;
+  lie = subst (All (LiesIn bytes)) (sym g) (All-push (LiesIn bytes) extents e old.lie lies);
+  blocks =
+      ap (λ (es : List Extent). map (block_at bytes) es ++ blocks_of (lines (drop e.to bytes))) g
+      ∙ ap (λ (ks : List Block). ks ++ blocks_of (lines (drop e.to bytes))) (map-append (block_at bytes) extents (e ∷ []))
+      ∙ append_assoc (map (block_at bytes) extents) (block_at bytes e ∷ []) (blocks_of (lines (drop e.to bytes)))
+      ∙ ap (λ (ks : List Block). map (block_at bytes) extents ++ ks) (sym first)
+      ∙ old.blocks;
 }
 
-pub Cut-next : (bytes : List ℕ) (made : List Block) (rest after text more : List ℕ) (n : ℕ) (form : BlockForm) (grown : List Block)
-    → Cut bytes made rest → 0 < length rest → 0 < n
-    → lines rest ≡ take n rest ∷ lines after
-    → form ≡ form_of (take n rest)
-    → text ≡ concat (before_first is_header (lines after))
-    → grown ≡ made ++ record { form = form; content = text } ∷ []
-    → lines more ≡ from_first is_header (lines after)
-    → (0 < length more → get_or more 0 0 ≡ 37)
-    → Cut bytes grown more
-Cut-next bytes made rest after text more n form grown old there some cut f t g m header =
-    let first : Block = record { form = form; content = text } in
-    let is : is_header (take n rest) ≡ true = is_header-take rest n there some ∙ eq-eqb _ _ (old.header there) in
-    let begins : blocks_of (take n rest ∷ lines after) ≡ first ∷ blocks_of (lines after) = rw (is, f, t) refl in
-    record {
-      header = header;
-      blocks =
-          ap (λ (all : List Block). all ++ blocks_of (lines more)) g
-          ∙ append_assoc made (first ∷ []) (blocks_of (lines more))
-          ∙ ap (λ (tail : List Block). made ++ first ∷ tail) (ap blocks_of m ∙ blocks_of-from_first (lines after))
-          ∙ ap (λ (tail : List Block). made ++ tail) (sym begins ∙ sym (ap blocks_of cut))
-          ∙ old.blocks;
-    }
+pub Found-end : (bytes : List ℕ) (start : ℕ) (extents : List Extent) (at : ℕ) → Found bytes start extents at → length bytes ≤ at
+    → map (block_at bytes) extents ≡ blocks_of (lines (drop start bytes))
+Found-end bytes start extents at old over =
+    sym (append-nil (map (block_at bytes) extents))
+    ∙ ap (λ (l : List ℕ). map (block_at bytes) extents ++ blocks_of (lines l)) (sym (drop_all at bytes over))
+    ∙ old.blocks
 
 -- ---- the parts of a job
 
@@ -197,23 +218,21 @@ job_of-parts job text rest after front blocks stray t r d b f s =
     d ∙ ap (drop 1) r ∙ drop-drop 1 (position_or_len is_separator (lines job)) (lines job) in
     rw (t, b, s, f, e) refl
 
--- ---- cutting in the job's own memory
-
--- what is left after a place is the end of the bytes, as long as it is
-pub suffix_by : (bytes rest : List ℕ) (n size : ℕ) → size ≡ length bytes → n ≤ length bytes → rest ≡ drop n bytes → drop (size - length rest) bytes ≡ rest
-suffix_by bytes rest n size all within is =
-    let e : size - length rest ≡ n = omega (arith, ap length is, length-drop n bytes) in
-    ap (λ k. drop k bytes) e ∙ sym is
-
--- the front is the whole where nothing follows it
-pub front_whole : (after : List ℕ) (n : ℕ) → drop n after ≡ [] → take n after ≡ after
-front_whole after n none = sym (append-nil (take n after)) ∙ ap (λ (t : List ℕ). take n after ++ t) (sym none) ∙ take-append-drop n after
-
--- where nothing is left the blocks are made
-pub Cut-end : (bytes : List ℕ) (made : List Block) (rest : List ℕ) → rest ≡ [] → Cut bytes made rest → made ≡ blocks_of (lines bytes)
-Cut-end bytes made rest none cut = sym (append-nil made) ∙ ap (λ (t : List ℕ). made ++ blocks_of (lines t)) (sym none) ∙ cut.blocks
-
--- bytes of no length are none
-pub none_by_length : (bytes : List ℕ) → length bytes ≡ 0 → bytes ≡ []
-none_by_length [] h = refl
-none_by_length (b ∷ bs) h = absurd (omega arith)
+-- the same by the places of the parts, where the slices from these places on go by other names
+pub job_of-places : (job bytes rest after : List ℕ) (text n front : ℕ) (extents : List Extent) (stray : Bool) → bytes ≡ job
+    → rest ≡ drop text bytes → after ≡ drop (text + n) bytes → n ≤ length rest
+    → take text bytes ≡ text_of bytes
+    → lines (drop text bytes) ≡ from_first is_separator (lines bytes)
+    → (0 < length rest → lines rest ≡ take n rest ∷ lines (drop n rest))
+    → take front after ≡ concat (before_first is_header (lines after))
+    → lines (drop front after) ≡ from_first is_header (lines after)
+    → stray ≡ list_any is_stray (take front after)
+    → map (block_at bytes) extents ≡ blocks_of (lines (drop (text + n + front) bytes))
+    → job_in job text extents stray ≡ job_of job
+job_of-places job bytes rest after text n front extents stray same r a fits t s first c m st b =
+    let behind : drop n rest ≡ after = ap (drop n) r ∙ drop-drop n text bytes ∙ sym a in
+    let blocks : map (block_at bytes) extents ≡ blocks_of (lines after) =
+    b ∙ ap (λ (l : List ℕ). blocks_of (lines l)) (sym (ap (drop front) a ∙ drop-drop front (text + n) bytes)) ∙ ap blocks_of m ∙ blocks_of-from_first (lines after) in
+    subst (λ (l : List ℕ). job_in l text extents stray ≡ job_of l) same
+    (job_of-parts bytes (take text bytes) rest after (take front after) (map (block_at bytes) extents) stray t (ap lines r ∙ s)
+    (ap lines (sym behind) ∙ lines_after rest n fits first) blocks c st)

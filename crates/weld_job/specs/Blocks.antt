@@ -3,8 +3,8 @@ use Rattle.std.specs.Prelude.{ℕ, ◌==◌, Bool, false, not, ◌&&◌, ◌||�
 use Rattle.std.specs.List.{concat, before_first, after_first, onto_first, starts_with, list_all, list_any}
 use Rattle.weld_job.specs.declared.block.BlockForm.{BlockForm}
 use Rattle.weld_job.specs.declared.block.BlockForm.TheVariants.{Value, Table, Other}
-use Rattle.weld_job.specs.declared.block.Block.{Block}
-use Rattle.weld_job.specs.declared.job.Job.{Job}
+use Rattle.weld_job.specs.Job.{Block}
+use Rattle.weld_job.specs.Job.{Job}
 
 -- a space, a tab, a CR or an LF
 abbrev pub is_space : ℕ → Bool

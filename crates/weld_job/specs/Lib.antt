@@ -1,3 +1,5 @@
 pub mod Blocks
+pub mod Extents
+pub mod Job
 pub mod Reading
 pub mod Whole

@@ -1,7 +1,7 @@
 -- What reading a job does to the bytes that a source has left. By this project's profile.
 use Rattle.std.specs.Prelude.{◌≡◌, ℕ, ◌≤◌, List, Option, length}
 use Rattle.std.specs.Io.KnownBytes.{Consumes}
-use Rattle.weld_job.specs.declared.job.Job.{Job}
+use Rattle.weld_job.specs.Job.{Job}
 use Rattle.weld_job.specs.Blocks.{job_of}
 
 -- the greatest number of bytes that a job may have

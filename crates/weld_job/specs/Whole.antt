@@ -1,7 +1,7 @@
 -- A job put together again from its parts. By this project's profile.
 use Rattle.std.specs.Prelude.{ℕ, List, [], ◌∷◌, ◌++◌, take, drop}
 use Rattle.std.specs.List.{concat, before_first, position_or_len, filter}
-use Rattle.weld_job.specs.declared.block.Block.{Block}
+use Rattle.weld_job.specs.Job.{Block}
 use Rattle.weld_job.specs.Blocks.{lines, is_separator, is_header, data_lines, job_of}
 
 -- the line that parts the text from the data, where there is one

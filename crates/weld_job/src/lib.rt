@@ -8,7 +8,7 @@ mod lines;
 pub mod read;
 pub mod split;
 
-pub use block::{Block, BlockForm, Blocks};
+pub use block::{Block, BlockForm};
 pub use job::{Job, JobFault};
 pub use read::{JOB_LIMIT, read_job};
 pub use split::split_blocks;

@@ -1,98 +1,77 @@
-ghost use Rattle.std.specs.Prelude.{◌≡◌, ◌<◌, ◌≤◌, slice_index, length, drop, IfOk};
+ghost use Rattle.std.specs.Prelude.{◌≡◌, ◌<◌, ◌≤◌, ◌∷◌, slice_index, length, drop, map, IfOk};
+ghost use Rattle.std.specs.List.{All};
 ghost use Rattle.weld_job.specs.Blocks.{lines, blocks_of, job_of};
+ghost use Rattle.weld_job.specs.Extents.{block_at, LiesIn};
 
-use super::block::{Block, Blocks};
+use super::block::Extent;
 use super::job::Job;
 use super::lines::{content_len, form_of, has_stray, line_len, text_len};
 use std::alloc::{AllocError, Global};
-use weld_data::Text;
 
-/// Cuts a job's bytes: the text before the first line that is `%%`, and the blocks of the data after it.
-/// The whole job is text where no such line stands. It fails for want of memory alone.
+/// Cuts a job's bytes, of which it makes a copy: the text before the first line that is `%%`, and the blocks
+/// of the data after it. The whole job is text where no such line stands. It fails for want of memory alone.
 pub fn split_blocks(alloc: Global, job: &[u8]) -> Result<Job, AllocError>
     ensures { IfOk result (λ parts. parts ≡ job_of job.now) }
 {
-    let (text, rest) = job.split_at(text_len(job));
-    let (_, data) = rest.split_at(line_len(rest));
-    let (front, _) = data.split_at(content_len(data));
-    Ok(Job {
-        text: Text::copy_of(alloc, text)?,
-        blocks: cut_blocks(alloc, data)?,
-        stray: has_stray(front),
-    })
+    cut_job(alloc, Vec::from_slice(alloc, job)?)
 }
 
-/// What follows so many bytes, in the memory of all of them.
-fn without_front(bytes: Vec<u8>, count: usize) -> Vec<u8>
-    requires { count ≤ length bytes.items }
-    ensures { result.items ≡ drop count bytes.items }
-{
-    let mut bytes = bytes;
-    let rest = bytes.len() - count;
-    bytes.copy_within(count.., 0);
-    bytes.truncate(rest);
-    bytes
-}
-
-/// The blocks of a job's data.
-fn cut_blocks(alloc: Global, bytes: &[u8]) -> Result<Blocks, AllocError>
-    ensures { IfOk result (λ blocks. blocks ≡ blocks_of (lines bytes.now)) }
-{
-    let mut blocks = Blocks::new(alloc);
-    let (_, mut rest) = bytes.split_at(content_len(bytes));
-    while !rest.is_empty() {
-        let (header, data) = rest.split_at(line_len(rest));
-        let (content, more) = data.split_at(content_len(data));
-        blocks.push(Block {
-            form: form_of(header),
-            content: Text::copy_of(alloc, content)?,
-        })?;
-        rest = more;
-    }
-    Ok(blocks)
-}
-
-/// Cuts a job's bytes, as `split_blocks` does. The last block keeps their memory, so that a large block is
-/// no second copy of the job.
+/// Cuts a job's bytes, as `split_blocks` does. The job keeps them; they aren't copied.
 pub(crate) fn cut_job(alloc: Global, job: Vec<u8>) -> Result<Job, AllocError>
     ensures { IfOk result (λ parts. parts ≡ job_of job.items) }
 {
-    let (text, rest) = job.split_at(text_len(&job));
-    let (_, data) = rest.split_at(line_len(rest));
-    let (front, blocks) = data.split_at(content_len(data));
-    let text = Text::copy_of(alloc, text)?;
-    let stray = has_stray(front);
-    let start = job.len() - blocks.len();
+    let bytes = job.as_slice();
+    let text = text_len(bytes);
+    let rest = &bytes[text..];
+    let data = text + line_len(rest);
+    let after = &bytes[data..];
+    let front = content_len(after);
+    let stray = has_stray(&after[..front]);
+    let extents = cut_blocks(alloc, bytes, data + front)?;
     Ok(Job {
-        text,
-        blocks: cut_whole(alloc, job, start)?,
+        bytes: job,
+        text_len: text,
+        extents,
         stray,
     })
 }
 
-/// The blocks of a job's data from a header on, or from the end. The last block keeps the memory of all.
-fn cut_whole(alloc: Global, bytes: Vec<u8>, start: usize) -> Result<Blocks, AllocError>
-    requires within { start ≤ length bytes.items }
-    requires header { start < length bytes.items → slice_index bytes.items start ≡ 37 }
-    ensures { IfOk result (λ blocks. blocks ≡ blocks_of (lines (drop start bytes.items))) }
+/// Where the first block stands, whose header is there.
+fn first_block(bytes: &[u8], at: usize) -> Extent
+    requires within { at < length bytes.now }
+    requires header { slice_index bytes.now at ≡ 37 }
+    ensures lies { LiesIn bytes.now result }
+    ensures behind { at < result.to }
+    ensures first { blocks_of (lines (drop at bytes.now))
+        ≡ block_at bytes.now result ∷ blocks_of (lines (drop result.to bytes.now)) }
+    ensures next { result.to < length bytes.now → slice_index bytes.now result.to ≡ 37 }
 {
-    let mut made = Blocks::new(alloc);
+    let rest = &bytes[at..];
+    let line = line_len(rest);
+    let from = at + line;
+    let after = &bytes[from..];
+    let to = from + content_len(after);
+    Extent {
+        form: form_of(&rest[..line]),
+        from,
+        to,
+    }
+}
+
+/// Where the blocks stand, from a header on or from the end.
+fn cut_blocks(alloc: Global, bytes: &[u8], start: usize) -> Result<Vec<Extent>, AllocError>
+    requires within { start ≤ length bytes.now }
+    requires header { start < length bytes.now → slice_index bytes.now start ≡ 37 }
+    ensures lie { IfOk result (λ extents. All (LiesIn bytes.now) extents.items) }
+    ensures blocks { IfOk result (λ extents. map (block_at bytes.now) extents.items
+        ≡ blocks_of (lines (drop start bytes.now))) }
+{
+    let mut extents = Vec::new(alloc);
     let mut at = start;
     while at < bytes.len() {
-        let (_, rest) = bytes.split_at(at);
-        let (header, data) = rest.split_at(line_len(rest));
-        let (content, more) = data.split_at(content_len(data));
-        let form = form_of(header);
-        if more.is_empty() {
-            let from = bytes.len() - content.len();
-            let content = Text::from_vec(without_front(bytes, from));
-            made.push(Block { form, content })?;
-            return Ok(made);
-        }
-        let next = bytes.len() - more.len();
-        let content = Text::copy_of(alloc, content)?;
-        made.push(Block { form, content })?;
-        at = next;
+        let extent = first_block(bytes, at);
+        extents.push(extent)?;
+        at = extent.to;
     }
-    Ok(made)
+    Ok(extents)
 }

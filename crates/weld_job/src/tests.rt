@@ -67,17 +67,22 @@ static ROWS: [Row; 13] = [
     (b"%%\n1\n", b"", &[], true),
 ];
 
-/// Whether blocks are of these forms, with these contents.
-fn are_blocks(blocks: &[Block], expected: &[(BlockForm, &[u8])]) -> bool {
-    if blocks.len() != expected.len() {
-        return false;
+/// Whether the block is of that form, with that content.
+fn is_block(block: Option<Block<'_>>, want: &(BlockForm, &[u8])) -> bool {
+    match block {
+        Some(block) => block.form == want.0 && block.content == want.1,
+        None => false,
     }
-    for (block, want) in blocks.iter().zip(expected) {
-        if block.form != want.0 || block.content.as_slice() != want.1 {
+}
+
+/// Whether the job's blocks are of these forms, with these contents.
+fn are_blocks(job: &Job, expected: &[(BlockForm, &[u8])]) -> bool {
+    for (index, want) in expected.iter().enumerate() {
+        if !is_block(job.block(index), want) {
             return false;
         }
     }
-    true
+    job.block_count() == expected.len() && job.block(expected.len()).is_none()
 }
 
 #[test]
@@ -85,9 +90,9 @@ fn jobs_are_cut_at_their_lines(rt: HostRuntime) -> Result<(), Fail> {
     let alloc = rt.alloc();
     for row in &ROWS {
         let job = split_blocks(alloc, row.0)?;
-        assert_eq!(rt; job.text.as_slice(), row.1);
-        assert!(rt; are_blocks(job.blocks.as_slice(), row.2));
-        assert_eq!(rt; job.stray, row.3);
+        assert_eq!(rt; job.text(), row.1);
+        assert!(rt; are_blocks(&job, row.2));
+        assert_eq!(rt; job.has_stray(), row.3);
         parts_are_the_job(row.0);
     }
     Ok(())
@@ -115,9 +120,9 @@ fn a_job_is_read_to_its_end(rt: HostRuntime) -> Result<(), Fail> {
         let Ok(job) = read_job(alloc, &mut source) else {
             return Err(Fail::from("a job was refused"));
         };
-        assert_eq!(rt; job.text.as_slice(), b"|v: i64| v\n".as_slice());
-        assert!(rt; are_blocks(job.blocks.as_slice(), &FIVE_BLOCKS));
-        assert_eq!(rt; (source.left().len(), job.blocks.is_empty()), (0, false));
+        assert_eq!(rt; job.text(), b"|v: i64| v\n".as_slice());
+        assert!(rt; are_blocks(&job, &FIVE_BLOCKS));
+        assert_eq!(rt; source.left().len(), 0);
     }
     Ok(())
 }
