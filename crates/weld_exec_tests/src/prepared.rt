@@ -64,7 +64,7 @@ pub fn prepare(rt: &(impl Threads + Sync), alloc: Global, job: &str) -> Result<P
     ensures fit { IfOk result (λ r. ArgumentsFit r.checked.accepted.params r.arguments) }
 {
     let job = split_blocks(alloc, job.as_bytes())?;
-    let checked = check(alloc, job.text.as_slice())?;
+    let checked = check(alloc, job.text())?;
     match read_arguments(rt, alloc, &checked.accepted.program.params, &job, 2) {
         Ok(arguments) => Ok(Prepared { checked, arguments }),
         Err(_) => Err(Fail::from("the data don't fit")),

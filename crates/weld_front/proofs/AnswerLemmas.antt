@@ -10,7 +10,7 @@ use Rattle.std.proofs.lemmas.Bool.{le-ltb, lt-ltb}
 use Rattle.std.specs.Io.KnownBytes.{IsAtEnd}
 use Rattle.weld_job.specs.Blocks.{job_of}
 use Rattle.weld_job.specs.Reading.{job_limit, TakesJust}
-use Rattle.weld_job.specs.declared.job.Job.{Job}
+use Rattle.weld_job.specs.Job.{Job}
 use Rattle.weld_tree.specs.TypeTree.{TypeTree}
 use Rattle.weld_tree.specs.Program.{ProgramTree}
 use Rattle.weld_tree.specs.declared.refusal.Refusal.{Refusal}

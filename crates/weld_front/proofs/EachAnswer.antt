@@ -18,7 +18,7 @@ use Rattle.weld_meaning.specs.Accepted.{IsAccepted}
 use Rattle.weld_meaning.specs.Typing.{ParamsFit, ProgramHas}
 use Rattle.weld_meaning.specs.Meaning.{GivesOrFaults, ArgumentsFit, meaning}
 use Rattle.weld_job.specs.Blocks.{job_of}
-use Rattle.weld_job.specs.declared.job.Job.{Job}
+use Rattle.weld_job.specs.Job.{Job}
 use Rattle.weld_parse.specs.Parses.{Parses, IsRefused}
 use Rattle.weld_arguments.specs.Arguments.{Arguments, IsUnfit}
 use Rattle.weld_script.specs.declared.made.Declared.{Declared}

@@ -6,8 +6,8 @@ use Rattle.weld_tree.specs.TypeTree.{TypeTree}
 use Rattle.weld_tree.specs.Program.{ProgramTree, loops}
 use Rattle.weld_tree.specs.Blank.{AreSame}
 use Rattle.weld_tree.specs.declared.binder.Binder.{Binder}
-use Rattle.weld_job.specs.declared.block.Block.{Block}
-use Rattle.weld_job.specs.declared.job.Job.{Job}
+use Rattle.weld_job.specs.Job.{Block}
+use Rattle.weld_job.specs.Job.{Job}
 use Rattle.weld_meaning.specs.Meaning.{ArgumentsFit, meaning}
 use Rattle.weld_arguments.specs.Arguments.{Arguments, BlocksGive, DataGive, IsUnfit}
 use Rattle.weld_unnoted.specs.Unnoted.{IsSameButNotes}

@@ -13,7 +13,7 @@ use Rattle.weld_types.specs.Walk.{found, refusal_of, program_type, typing_refusa
 use Rattle.weld_meaning.specs.LinearWalk.{linear_refusal}
 use Rattle.weld_meaning.specs.Meaning.{meaning}
 use Rattle.weld_job.specs.Blocks.{job_of}
-use Rattle.weld_job.specs.declared.job.Job.{Job}
+use Rattle.weld_job.specs.Job.{Job}
 use Rattle.weld_parse.specs.Parses.{Parses, IsRefused}
 use Rattle.weld_arguments.specs.Arguments.{Arguments, IsUnfit}
 use Rattle.weld_front.specs.Accepting.{Accepts, Says, IsIllTyped, IsNotLinear, Refuses}

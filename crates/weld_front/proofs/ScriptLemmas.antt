@@ -4,7 +4,7 @@ use Rattle.weld_data.specs.Value.{Value}
 use Rattle.weld_builders.specs.Outcome.{done, fault}
 use Rattle.weld_tree.specs.TypeTree.{TypeTree}
 use Rattle.weld_tree.specs.Program.{ProgramTree, loops}
-use Rattle.weld_job.specs.declared.job.Job.{Job}
+use Rattle.weld_job.specs.Job.{Job}
 use Rattle.weld_meaning.specs.Meaning.{ArgumentsFit, meaning}
 use Rattle.weld_unnoted.specs.Unnoted.{IsSameButNotes}
 use Rattle.weld_check_types.specs.Notes.{ProgramIsNoted}

@@ -12,7 +12,7 @@ use Rattle.weld_tree.specs.declared.refusal.Refusal.{Refusal}
 use Rattle.weld_tree.specs.declared.refusal.Refusal.TheVariants.{Size}
 use Rattle.weld_job.specs.Blocks.{job_of}
 use Rattle.weld_job.specs.Reading.{job_limit, TakesJust}
-use Rattle.weld_job.specs.declared.job.Job.{Job}
+use Rattle.weld_job.specs.Job.{Job}
 use Rattle.weld_arguments.specs.Arguments.{Arguments, IsUnfit}
 use Rattle.weld_meaning.specs.Meaning.{meaning}
 use Rattle.weld_print.specs.PrintText.{program_text}

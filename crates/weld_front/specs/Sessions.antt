@@ -5,7 +5,7 @@ use Rattle.weld_tree.specs.Program.{ProgramTree}
 use Rattle.weld_tree.specs.declared.code.Code.{Code}
 use Rattle.weld_tree.specs.declared.place.Place.{Place}
 use Rattle.weld_types.specs.Walk.{program_type, refused}
-use Rattle.weld_job.specs.declared.job.Job.{Job}
+use Rattle.weld_job.specs.Job.{Job}
 use Rattle.weld_passes.specs.Normal.{IsOptimised}
 use Rattle.weld_share.specs.Counts.{IsNote}
 use Rattle.weld_share.specs.declared.note.RunNote.{RunNote}

@@ -22,7 +22,7 @@ use weld_words::Command;
 fn answer_check(alloc: Global, job: &Job) -> Result<Answer, AllocError>
     ensures { IfOk result (λ answer. CheckAnswers job.now answer.status answer.text) }
 {
-    match accept_text(alloc, job.text.as_slice()) {
+    match accept_text(alloc, job.text()) {
         Ok(checked) => told(alloc, &checked.ty),
         Err(refusal) => refused(alloc, refusal),
     }

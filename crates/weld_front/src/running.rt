@@ -147,7 +147,7 @@ pub(crate) fn answer_run<R: Threads + Sync, G: Gate>(
     meaning_looks_past_spelling();
     same_programs_have_same_counts();
     chains_look_past_notes();
-    match accept_text(alloc, job.text.as_slice()) {
+    match accept_text(alloc, job.text()) {
         Ok(checked) => run_job(rt, alloc, checked, job, asked, gate),
         Err(refusal) => refused(alloc, refusal),
     }

@@ -164,7 +164,7 @@ pub(crate) fn answer_session<R: Threads + Sync, G: Gate>(
 ) -> Result<Answer, AllocError>
     ensures { IfOk result (λ answer. SessionAnswers asked.options job.now answer.status answer.text) }
 {
-    match read_script(alloc, job.text.as_slice()) {
+    match read_script(alloc, job.text()) {
         Ok(script) => answer_script(rt, alloc, &script, job, asked, gate),
         Err(fault) => script_refused(alloc, fault),
     }

@@ -53,7 +53,7 @@ pub(crate) fn answer_show(alloc: Global, job: &Job) -> Result<Answer, AllocError
     meaning_looks_past_spelling();
     same_programs_have_same_counts();
     chains_look_past_notes();
-    match accept_text(alloc, job.text.as_slice()) {
+    match accept_text(alloc, job.text()) {
         Ok(checked) => show(alloc, checked),
         Err(refusal) => refused(alloc, refusal),
     }

@@ -1,11 +1,13 @@
 -- Blocks are matched with declarations one by one.
-use Rattle.std.proofs.Common.{◌≡◌, inl, inr, sym, ◌∙◌, ℕ, suc, ◌+◌, ◌<◌, ◌≤◌, Bool, false, List, [], ◌∷◌, ◌++◌, length, drop, get_or, refl, ap, subst, append_assoc, append-nil, add-one, arith}
+use Rattle.std.proofs.Common.{◌≡◌, inl, inr, sym, ◌∙◌, ℕ, zero, suc, ◌+◌, ◌<◌, ◌≤◌, Bool, false, List, [], ◌∷◌, ◌++◌, length, drop, get_or, refl, ap, subst, append_assoc, append-nil, add-one, arith}
 use Rattle.std.proofs.Math.Seq.{drop-cons}
 use Rattle.std.proofs.lemmas.List.{drop_all}
+use Rattle.std.proofs.lemmas.Option.{none-some, slice_get_within, get_or_from_slice_get}
+use Rattle.std.specs.Prelude.{Some, None, slice_get}
 use Rattle.weld_data.specs.Value.{Value}
 use Rattle.weld_tree.specs.declared.code.Code.{Code}
 use Rattle.weld_tree.specs.declared.code.Code.TheVariants as codes_of
-use Rattle.weld_job.specs.declared.block.Block.{Block}
+use Rattle.weld_job.specs.Job.{Block}
 use Rattle.weld_arguments.specs.declared.stop.DataStop.{DataStop}
 use Rattle.weld_arguments.specs.declared.stop.DataStop.TheVariants.{Unfit, Memory}
 use Rattle.weld_arguments.specs.Arguments.{Tells}
@@ -86,6 +88,26 @@ all_given ms ks i number (k ∷ left) vs l s e = absurd (omega arith)
 pub one_too_many : (ms : List Made) (ks : List Block) (i number : ℕ) (left : List Block) (vs : List Value) → length ms ≤ i → SoFar ms ks i left number vs → 0 < length left → BlocksFail (declared_of ms) ks 1 number codes_of.Extra
 one_too_many ms ks i number [] vs l s h = absurd (omega arith)
 one_too_many ms ks i number (k ∷ left) vs l s h = s.failed number codes_of.Extra (subst (λ (cs : List Declared). BlocksFail cs (k ∷ left) number number codes_of.Extra) (sym (nothing_left ms i l)) (refl, refl))
+
+-- ---- blocks by their places
+
+-- the block at a place, and those after it
+pub block_at : (ks : List Block) (at : ℕ) (block : Block) → Some block ≡ slice_get ks at → drop at ks ≡ block ∷ drop (at + 1) ks
+block_at ks at block e =
+    drop-cons ks at block (slice_get_within ks at block (sym e))
+    ∙ ap (λ (x : Block). x ∷ drop (suc at) ks) (get_or_from_slice_get ks at block block (sym e))
+    ∙ ap (λ (n : ℕ). block ∷ drop n ks) (sym (add-one at))
+
+-- no block is left
+pub no_block_at : (ks : List Block) (at : ℕ) → None ≡ slice_get ks at → length (drop at ks) ≡ 0
+no_block_at [] at e = ap length (drop_all at [] (omega arith))
+no_block_at (k ∷ ks) zero e = absurd (none-some k e)
+no_block_at (k ∷ ks) (suc at) e = no_block_at ks at e
+
+-- what was given so far, where the block at the place is next
+pub next_at : (ms : List Made) (ks : List Block) (i at : ℕ) (block : Block) (number : ℕ) (vs : List Value) → Some block ≡ slice_get ks at
+    → SoFar ms ks i (drop at ks) number vs → SoFar ms ks i (block ∷ drop (at + 1) ks) number vs
+next_at ms ks i at block number vs e s = subst (λ (ls : List Block). SoFar ms ks i ls number vs) (block_at ks at block e) s
 
 -- what blocks give where no stray bytes stand before them
 pub data_give : (stray : Bool) (ds : List Declared) (ks : List Block) (vs : List Value) → stray ≡ false → BlocksGive ds ks vs → DataGive stray ds ks vs

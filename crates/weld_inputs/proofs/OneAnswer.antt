@@ -5,8 +5,8 @@ use Rattle.weld_tree.specs.TypeTree.{TypeTree}
 use Rattle.weld_tree.specs.Types.{IsWellFormed, IsBuilderFree}
 use Rattle.weld_tree.specs.declared.code.Code.{Code}
 use Rattle.weld_tree.specs.declared.code.Code.TheVariants as codes_of
-use Rattle.weld_job.specs.declared.job.Job.{Job}
-use Rattle.weld_job.specs.declared.block.Block.{Block}
+use Rattle.weld_job.specs.Job.{Job}
+use Rattle.weld_job.specs.Job.{Block}
 use Rattle.weld_job.specs.declared.block.BlockForm.{BlockForm}
 use Rattle.weld_job.specs.declared.block.BlockForm.TheVariants as forms
 use Rattle.weld_fits.specs.HasValue.{HasValue}

@@ -26,20 +26,20 @@ use weld_values::laws::well_formed_types_are_readable;
 fn read_input(
     rt: &(impl Threads + Sync),
     alloc: Global,
-    block: &Block,
+    block: &Block<'_>,
     ty: &Ty,
     number: u64,
     workers: u32,
 ) -> Result<Val, DataStop>
     requires readable { IsReadable ty.now }
     requires some_worker { 0 < workers }
-    ensures value { IfOk result (λ v. Gives block.now.form block.now.content (Input ty.now) (view_val v)) }
-    ensures unfit { IfErr result (Tells (λ (n : ℕ) (code : _). (n ≡ number) × Fails block.now.form block.now.content (Input ty.now) code)) }
+    ensures value { IfOk result (λ v. Gives block.now.form block.now.content.now (Input ty.now) (view_val v)) }
+    ensures unfit { IfErr result (Tells (λ (n : ℕ) (code : _). (n ≡ number) × Fails block.now.form block.now.content.now (Input ty.now) code)) }
 {
     if block.form != BlockForm::Value {
         return Err(DataStop::Unfit(number, Code::Form));
     }
-    match read_value(rt, alloc, block.content.as_slice(), ty, workers) {
+    match read_value(rt, alloc, block.content, ty, workers) {
         Ok(value) => Ok(value),
         Err(DataFault::Syntax) => Err(DataStop::Unfit(number, Code::Syntax)),
         Err(DataFault::Range) => Err(DataStop::Unfit(number, Code::Range)),
@@ -83,14 +83,14 @@ fn named(alloc: Global, names: &Names, cells: &Tys) -> Result<Wanted, AllocError
 /// The columns of these names that the block's records give, where it is a table.
 fn read_columns(
     alloc: Global,
-    block: &Block,
+    block: &Block<'_>,
     names: &Names,
     cells: &Tys,
     number: u64,
 ) -> Result<Val, DataStop>
     requires { IsTable names.now cells.now }
-    ensures value { IfOk result (λ v. Gives block.now.form block.now.content (Table names.now cells.now) (view_val v)) }
-    ensures unfit { IfErr result (Tells (λ (n : ℕ) (code : _). (n ≡ number) × Fails block.now.form block.now.content (Table names.now cells.now) code)) }
+    ensures value { IfOk result (λ v. Gives block.now.form block.now.content.now (Table names.now cells.now) (view_val v)) }
+    ensures unfit { IfErr result (Tells (λ (n : ℕ) (code : _). (n ≡ number) × Fails block.now.form block.now.content.now (Table names.now cells.now) code)) }
 {
     if block.form != BlockForm::Table {
         return Err(DataStop::Unfit(number, Code::Form));
@@ -98,7 +98,7 @@ fn read_columns(
     let Ok(wanted) = named(alloc, names, cells) else {
         return Err(DataStop::Memory);
     };
-    match read_table(alloc, block.content.as_slice(), &wanted) {
+    match read_table(alloc, block.content, &wanted) {
         Ok(value) => Ok(value),
         Err(fault) => Err(told(fault, number)),
     }
@@ -108,15 +108,15 @@ fn read_columns(
 pub(crate) fn read_block(
     rt: &(impl Threads + Sync),
     alloc: Global,
-    block: &Block,
+    block: &Block<'_>,
     declared: &Declared,
     number: u64,
     workers: u32,
 ) -> Result<Val, DataStop>
     requires may { IsDeclared declared.now }
     requires some_worker { 0 < workers }
-    ensures value { IfOk result (λ v. Gives block.now.form block.now.content declared.now (view_val v)) }
-    ensures unfit { IfErr result (Tells (λ (n : ℕ) (code : _). (n ≡ number) × Fails block.now.form block.now.content declared.now code)) }
+    ensures value { IfOk result (λ v. Gives block.now.form block.now.content.now declared.now (view_val v)) }
+    ensures unfit { IfErr result (Tells (λ (n : ℕ) (code : _). (n ≡ number) × Fails block.now.form block.now.content.now declared.now code)) }
 {
     well_formed_types_are_readable();
     match declared {

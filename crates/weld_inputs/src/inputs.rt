@@ -22,15 +22,15 @@ fn add_input(
     rt: &(impl Threads + Sync),
     alloc: Global,
     declared: &Declared,
-    block: &Block,
+    block: &Block<'_>,
     number: u64,
     workers: u32,
     inputs: &mut Vals,
 ) -> Result<(), DataStop>
     requires may { IsDeclared declared.now }
     requires some_worker { 0 < workers }
-    ensures ok { OnOk result ((v : Value) × (inputs.new ≡ inputs.old ++ v ∷ []) × Gives block.now.form block.now.content declared.now v) }
-    ensures unfit { IfErr result (Tells (λ (n : ℕ) (code : _). (n ≡ number) × Fails block.now.form block.now.content declared.now code)) }
+    ensures ok { OnOk result ((v : Value) × (inputs.new ≡ inputs.old ++ v ∷ []) × Gives block.now.form block.now.content.now declared.now v) }
+    ensures unfit { IfErr result (Tells (λ (n : ℕ) (code : _). (n ≡ number) × Fails block.now.form block.now.content.now declared.now code)) }
 {
     let value = read_block(rt, alloc, block, declared, number, workers)?;
     match inputs.push(value) {
@@ -44,35 +44,35 @@ fn read_blocks(
     rt: &(impl Threads + Sync),
     alloc: Global,
     made: &[Made],
-    blocks: &[Block],
+    job: &Job,
     workers: u32,
 ) -> Result<Vals, DataStop>
     requires may { AreDeclared (declared_of made.now) }
     requires some_worker { 0 < workers }
-    ensures inputs { IfOk result (BlocksGive (declared_of made.now) blocks.now) }
-    ensures unfit { IfErr result (Tells (BlocksFail (declared_of made.now) blocks.now 1)) }
+    ensures inputs { IfOk result (BlocksGive (declared_of made.now) job.now.blocks) }
+    ensures unfit { IfErr result (Tells (BlocksFail (declared_of made.now) job.now.blocks 1)) }
 {
     let mut inputs = Vals::new(alloc);
-    let mut left = blocks;
+    let mut at = 0;
     let mut number = 1;
     for object in made {
         let Made::Declared(declared) = object else {
             continue;
         };
-        let Some((block, more)) = left.split_first() else {
+        let Some(block) = job.block(at) else {
             return Err(DataStop::Unfit(number, Code::Missing));
         };
-        match add_input(rt, alloc, declared, block, number, workers, &mut inputs) {
+        match add_input(rt, alloc, declared, &block, number, workers, &mut inputs) {
             Ok(()) => {}
             Err(stop) => return Err(stop),
         }
-        left = more;
+        at += 1;
         number += 1;
     }
-    if left.is_empty() {
-        Ok(inputs)
-    } else {
+    if at < job.block_count() {
         Err(DataStop::Unfit(number, Code::Extra))
+    } else {
+        Ok(inputs)
     }
 }
 
@@ -100,14 +100,8 @@ pub fn read_inputs(
     scripts_declare();
     inputs_have_their_types();
     script.keeps_its_rules();
-    if job.stray {
+    if job.has_stray() {
         return Err(DataStop::Unfit(0, Code::Form));
     }
-    read_blocks(
-        rt,
-        alloc,
-        script.made.as_slice(),
-        job.blocks.as_slice(),
-        workers,
-    )
+    read_blocks(rt, alloc, script.made.as_slice(), job, workers)
 }

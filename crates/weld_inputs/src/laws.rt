@@ -4,7 +4,7 @@ ghost use Rattle.std.specs.Prelude.{◌≡◌, ◌⊎◌, ℕ, List};
 ghost use Rattle.std.specs.List.{All};
 ghost use Rattle.weld_data.specs.Value.{Value};
 ghost use Rattle.weld_tree.specs.declared.code.Code.{Code};
-ghost use Rattle.weld_job.specs.declared.job.Job.{Job};
+ghost use Rattle.weld_job.specs.Job.{Job};
 ghost use Rattle.weld_script.specs.declared.made.Declared.{Declared};
 ghost use Rattle.weld_script.specs.Script.{AreDeclared, AreInputs};
 ghost use Rattle.weld_inputs.specs.Inputs.{Inputs, IsUnfit};

@@ -142,7 +142,7 @@ key_plain (dict_of k v) p = absurd p
 key_plain (build b) p = absurd p
 
 mutual
-  plain_readable : (t : TypeTree) → IsPlain t → IsReadable t
+  pub plain_readable : (t : TypeTree) → IsPlain t → IsReadable t
   plain_readable (scalar k) p = tt
   plain_readable (vec t) p = plain_readable t p
   plain_readable (struct_of ts) p = plain_all_readable ts p

@@ -25,5 +25,6 @@ pub mod Ascending
 pub mod Settling
 pub mod Runs
 pub mod Cuts
+pub mod Carried
 pub mod Pieces
 pub mod CutBack

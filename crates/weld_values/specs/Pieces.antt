@@ -1,5 +1,6 @@
--- Lists of scalars whose text is cut at commas.
-use Rattle.std.specs.Prelude.{◌≡◌, ◌++◌, ℕ, List, [], ◌∷◌, Some, None}
+-- Lists whose text is cut at commas.
+use Rattle.std.specs.Prelude.{◌≡◌, ◌++◌, ℕ, Bool, true, false, List, [], ◌∷◌, Some, None}
+use Rattle.weld_tree.specs.TypeTree.{TypeTree, TypeTrees, scalar, vec, struct as struct_of, dict as dict_of, build, no_types, more_types}
 use Rattle.weld_values.specs.Tokens.{after_blanks, byte_at}
 use Rattle.weld_values.specs.Grammar.{Part, Listed}
 
@@ -13,3 +14,23 @@ pub record InBrackets (text body : List ℕ) : Type 0 where
   pub opens : byte_at 91 text ≡ Some (body ++ 93 ∷ back)
   pub holds : byte_at 93 (body ++ 93 ∷ back) ≡ None
   pub ends : after_blanks back ≡ []
+
+abbrev pub is_scalar : TypeTree → Bool
+is_scalar (scalar k) = true
+is_scalar (vec t) = false
+is_scalar (struct_of ts) = false
+is_scalar (dict_of k v) = false
+is_scalar (build b) = false
+
+abbrev mutual
+  -- a scalar, or a struct of such types
+  pub IsFlat : TypeTree → Type 0
+  IsFlat (scalar k) = Unit {0}
+  IsFlat (vec t) = ⊥
+  IsFlat (struct_of ts) = AreFlat ts
+  IsFlat (dict_of k v) = ⊥
+  IsFlat (build b) = ⊥
+
+  pub AreFlat : TypeTrees → Type 0
+  AreFlat no_types = Unit {0}
+  AreFlat (more_types t ts) = IsFlat t × AreFlat ts

@@ -220,7 +220,7 @@ fn read_some<'a>(
 
 /// Appends the value of the type at the front of the text, and answers what follows it.
 #[cycle(read)]
-fn read_into<'a>(
+pub(crate) fn read_into<'a>(
     ty: &Ty,
     items: &mut Vals,
     alloc: Global,
