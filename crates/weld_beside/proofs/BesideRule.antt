@@ -1,27 +1,23 @@
--- Two lets of the results of loops over one name may be rewritten to one loop and the results of its fields.
+-- Two lets of loops over one name, or of their results, may be rewritten to one loop and the results of its fields.
 use Rattle.std.proofs.Common.{◌≡◌, ◌≢◌, ◌⊎◌, inl, inr, ℕ, ◌∷◌, Some, refl, sym, ap, ◌∙◌, subst}
 use Rattle.weld_tree.specs.TypeTree.{TypeTree}
 use Rattle.weld_tree.specs.ExprTree.{At, ExprTree}
-use Rattle.weld_meaning.specs.Environment.{look_for}
-use Rattle.weld_meaning.specs.Origin.{origin}
-use Rattle.weld_meaning.proofs.FreeNames.{origin_free}
 use Rattle.weld_meaning.proofs.PartsGood.{KeyLaws}
 use Rattle.weld_replacing.specs.Tidy.{IsTidy}
 use Rattle.weld_replacing.specs.Replacing.{MayReplace}
 use Rattle.weld_replacing.specs.Rewriting.{Rewrites}
 use Rattle.weld_replacing.proofs.Nodes.{may_in_turn}
 use Rattle.weld_beside.specs.Beside.{Half, two_lets, MayJoin, with_results, side_by_side}
-use Rattle.weld_beside.proofs.Placing.{behind_lets, rest_same, known, placed, taken}
+use Rattle.weld_beside.proofs.Placing.{behind_lets, same_from, known}
+use Rattle.weld_beside.proofs.Splitting.{placed, taken}
 use Rattle.weld_beside.proofs.Coming.{comes_to}
 use Rattle.weld_beside.proofs.Renaming.{renamed_rewrites}
 use Rattle.weld_beside.proofs.Counting.{within}
-use Rattle.weld_meaning.specs.Origin.{Origin, value, made, struct, more_origins, no_origins}
 
 lets_replace : KeyLaws → (a m : At) (s : ℕ) (row : TypeTree) (h k : Half) (rest : ExprTree) (may : MayJoin row h k) (tidy : IsTidy (two_lets a m s h k rest))
     → MayReplace (with_results a m s h k (behind_lets a.place row h k) rest) (two_lets a m s h k rest)
 lets_replace laws a m s row h k rest may tidy = record {
-  same_origin = λ g. sym (origin_free rest ((k.bound.sym.0, value) ∷ (h.bound.sym.0, value) ∷ g) ((k.bound.sym.0, value) ∷ (h.bound.sym.0, value) ∷ (k.number.sym.0, struct (more_origins made (more_origins made no_origins))) ∷ g)
-      (rest_same a m s row h k rest may tidy value value (struct (more_origins made (more_origins made no_origins))) g));
+  same_origin = λ g. same_from a m s row h k rest may tidy g;
   same_chain = λ c e. let wrong : ⊥ = cc in absurd wrong;
   placed = placed a m s row h k rest may tidy;
   taken = λ types g t p. taken a m s row h k rest may tidy types g t (known a m s row h k rest may tidy types g t p);

@@ -1,5 +1,5 @@
 -- Two small loops over one name, by which the definitions are checked.
-use Rattle.std.proofs.Common.{◌≡◌, ℕ, None, refl}
+use Rattle.std.proofs.Common.{◌≡◌, ℕ, Some, None, refl}
 use Rattle.weld_data.specs.declared.kind.Kind.TheVariants.{I64}
 use Rattle.weld_data.specs.declared.op.MergeOp.TheVariants.{Add, Max}
 use Rattle.weld_tree.specs.declared.binder.Binder.{Binder}
@@ -28,11 +28,11 @@ number = scalar I64
 abbrev first : Half
 first = record {
   bound = binder 1;
-  result_at = node;
+  result_at = Some node;
   loop_at = node;
   leg_at = node;
-  start_at = node;
-  starts = total number Add;
+  start = leaf node (fresh (total number Add));
+  starts = build (total number Add);
   builder = binder 2;
   number = binder 3;
   row = binder 4;
@@ -43,11 +43,11 @@ first = record {
 abbrev second : Half
 second = record {
   bound = binder 5;
-  result_at = node;
+  result_at = Some node;
   loop_at = node;
   leg_at = node;
-  start_at = node;
-  starts = total number Max;
+  start = leaf node (fresh (total number Max));
+  starts = build (total number Max);
   builder = binder 6;
   number = binder 7;
   row = binder 8;

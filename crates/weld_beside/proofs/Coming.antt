@@ -2,7 +2,7 @@
 use Rattle.std.proofs.Common.{◌≡◌, ◌≢◌, ℕ, ◌==◌, if◌then◌else◌, [], ◌∷◌, List, Some, None, refl, ap, sym, subst, ◌∙◌}
 use Rattle.weld_data.specs.Value.{Value, values}
 use Rattle.weld_fits.specs.HasValue.{HasValue, AllAre}
-use Rattle.weld_tree.specs.TypeTree.{TypeTree, vec, build}
+use Rattle.weld_tree.specs.TypeTree.{TypeTree, vec}
 use Rattle.weld_tree.specs.Types.{IsWellFormed}
 use Rattle.weld_tree.specs.ExprTree.{At, ExprTree, leaf, whole, name}
 use Rattle.weld_builders.specs.Outcome.{Outcome, done, fault, stuck, and_then, map_out}
@@ -12,20 +12,21 @@ use Rattle.weld_meaning.specs.Thing.{Thing, plain, Things, no_things, more_thing
 use Rattle.weld_meaning.specs.ThingType.{HasThing, EnvFits}
 use Rattle.weld_meaning.specs.Typing.{Types, AreFormed, place_type, HasType, body_types}
 use Rattle.weld_meaning.specs.Origin.{Origin}
-use Rattle.weld_meaning.specs.Evaluation.{Env, Row, found, elements_of, value_out, whole_number, with_row, rows_of, number_from, run, finished, started_builder, eval, eval_leg}
+use Rattle.weld_meaning.specs.Evaluation.{Env, Row, found, elements_of, value_out, whole_number, with_row, rows_of, number_from, run, eval, eval_leg}
 use Rattle.weld_meaning.proofs.Good.{Good, then_good}
 use Rattle.weld_meaning.proofs.Names.{eval_free}
 use Rattle.weld_meaning.proofs.FreeNames.{type_free}
-use Rattle.weld_meaning.proofs.WellFormed.{formed_body}
-use Rattle.weld_meaning.proofs.PartsGood.{KeyLaws, fresh_good}
+use Rattle.weld_meaning.proofs.WellFormed.{type_formed, formed_body}
+use Rattle.weld_meaning.proofs.PartsGood.{KeyLaws}
 use Rattle.weld_meaning.proofs.NeverStuck.{Of, never_stuck, fits_body, run_good}
 use Rattle.weld_replacing.specs.Tidy.{IsTidy}
 use Rattle.weld_replacing.proofs.Rows.{leg_good, rows_have}
-use Rattle.weld_beside.specs.Beside.{Half, half_value, two_lets, MayJoin, bare}
+use Rattle.weld_beside.specs.Beside.{finish_at, Half, half_loop, half_value, two_lets, MayJoin, bare}
+use Rattle.weld_beside.proofs.Finishing.{FinishHas, closing, finish_eval, results_pair}
 use Rattle.weld_beside.proofs.Looking.{skip, there, over}
-use Rattle.weld_beside.proofs.Runs.{pair, both, runs_pair, made_pair, loops_pair, results_pair}
+use Rattle.weld_beside.proofs.Runs.{pair, both, runs_pair, made_pair, loops_pair}
 use Rattle.weld_beside.proofs.Numbers.{n1_apart, i2_there, s_n1, x1_unnamed, i1_unnamed}
-use Rattle.weld_beside.proofs.Placing.{Known, before, after, both_lets, first_let, second_let, second, one_loop, starts, results, look_pair, look_number, look_row, first_same, rest_same}
+use Rattle.weld_beside.proofs.Placing.{Known, before, after, both_lets, first_let, second_let, second, one_loop, starts, results, first_part, second_part, second_start_typed, start_same, look_pair, look_number, look_row, first_same, rest_same}
 
 -- what a loop over one leg comes to
 abbrev over_rows : Outcome (List Value) → Outcome Thing → (Row → Thing → Outcome Thing) → Outcome Thing
@@ -57,10 +58,10 @@ module _ (a m : At) (s : ℕ) (row : TypeTree) (h k : Half) (rest : ExprTree) (m
   b1 = h.builder.sym.0
 
   abbrev IsFirst : Thing → Type 0
-  IsFirst y = HasThing y (build h.starts)
+  IsFirst y = HasThing y h.starts
 
   abbrev IsSecond : Thing → Type 0
-  IsSecond y = HasThing y (build k.starts)
+  IsSecond y = HasThing y k.starts
 
   abbrev first_step : Row → Thing → Outcome Thing
   first_step r y = eval h.body (with_row h.builder h.number h.row y (plain (whole_number r.0)) (plain r.1) env)
@@ -75,27 +76,36 @@ module _ (a m : At) (s : ℕ) (row : TypeTree) (h k : Half) (rest : ExprTree) (m
   both_step r y = eval lets (with_row (bare k.row) h.number h.row y (plain (whole_number r.0)) (plain r.1) env)
 
   abbrev first_start : Outcome Thing
-  first_start = started_builder h.starts None
+  first_start = eval h.start env
 
   abbrev second_start : Outcome Thing
-  second_start = started_builder k.starts None
+  second_start = eval k.start env
 
   -- ---- none is stuck
 
+  second_begins : HasType k.start types k.starts
+  second_begins = second_start_typed a m s row h k rest may tidy types g t w
+
+  first_formed : IsWellFormed h.starts
+  first_formed = type_formed h.start types h.starts w.first.start.typed formed
+
+  second_formed : IsWellFormed k.starts
+  second_formed = type_formed k.start types k.starts second_begins formed
+
   first_start_good : Good IsFirst first_start
-  first_start_good = fresh_good h.starts w.first.fresh_build w.first.formed_build
+  first_start_good = never_stuck laws h.start types h.starts env w.first.start.typed formed fit
 
   second_start_good : Good IsSecond second_start
-  second_start_good = fresh_good k.starts w.second.fresh_build w.second.formed_build
+  second_start_good = never_stuck laws k.start types k.starts env second_begins formed fit
 
   row_formed : IsWellFormed row
   row_formed = (formed.formed s (vec row) w.look).0
 
   first_good : (r : Row) (y : Thing) → HasValue row r.1 → IsFirst y → Good IsFirst (first_step r y)
   first_good r y hv hy =
-      never_stuck laws h.body (body_types h.builder h.number h.row (build h.starts) row types) (build h.starts) (with_row h.builder h.number h.row y (plain (whole_number r.0)) (plain r.1) env)
-      w.first.body.typed (formed_body h.builder h.number h.row (build h.starts) row types w.first.formed_build row_formed formed)
-      (fits_body types env h.builder h.number h.row (build h.starts) row y r.1 r.0 hy hv fit)
+      never_stuck laws h.body (body_types h.builder h.number h.row h.starts row types) h.starts (with_row h.builder h.number h.row y (plain (whole_number r.0)) (plain r.1) env)
+      w.first.body.typed (formed_body h.builder h.number h.row h.starts row types first_formed row_formed formed)
+      (fits_body types env h.builder h.number h.row h.starts row y r.1 r.0 hy hv fit)
 
   -- the second body doesn't name the first result
   second_apart : {A : Type 0} (r n c v : A) (g : Named A) → AgreeOn (IsFree k.body) ((x2, r) ∷ (i2, n) ∷ (b2, c) ∷ (n1, v) ∷ g) ((x2, r) ∷ (i2, n) ∷ (b2, c) ∷ g)
@@ -114,11 +124,11 @@ module _ (a m : At) (s : ℕ) (row : TypeTree) (h k : Half) (rest : ExprTree) (m
 
   second_good : (r : Row) (y : Thing) → HasValue row r.1 → IsSecond y → Good IsSecond (second_step r y)
   second_good r y hv hy =
-      never_stuck laws k.body (body_types k.builder k.number k.row (build k.starts) row types) (build k.starts) (with_row k.builder k.number k.row y (plain (whole_number r.0)) (plain r.1) env)
-      (type_free k.body ((x2, row) ∷ (i2, place_type) ∷ (b2, build k.starts) ∷ (n1, w.first_type) ∷ types) ((x2, row) ∷ (i2, place_type) ∷ (b2, build k.starts) ∷ types) (build k.starts)
-      (second_apart row place_type (build k.starts) w.first_type types) w.second.body.typed)
-      (formed_body k.builder k.number k.row (build k.starts) row types w.second.formed_build row_formed formed)
-      (fits_body types env k.builder k.number k.row (build k.starts) row y r.1 r.0 hy hv fit)
+      never_stuck laws k.body (body_types k.builder k.number k.row k.starts row types) k.starts (with_row k.builder k.number k.row y (plain (whole_number r.0)) (plain r.1) env)
+      (type_free k.body ((x2, row) ∷ (i2, place_type) ∷ (b2, k.starts) ∷ (n1, w.first_type) ∷ types) ((x2, row) ∷ (i2, place_type) ∷ (b2, k.starts) ∷ types) k.starts
+      (second_apart row place_type k.starts w.first_type types) w.second.body.typed)
+      (formed_body k.builder k.number k.row k.starts row types second_formed row_formed formed)
+      (fits_body types env k.builder k.number k.row k.starts row y r.1 r.0 hy hv fit)
 
   -- ---- one row
 
@@ -137,7 +147,7 @@ module _ (a m : At) (s : ℕ) (row : TypeTree) (h k : Half) (rest : ExprTree) (m
       ∙ ap (λ o. and_then (found o) (λ v. eval k.body ((x2, v) ∷ (i2, number) ∷ (b2, z) ∷ inside))) (look_row a m s row h k rest may tidy item number (pair y z) z number env)
       ∙ eval_free k.body ((x2, item) ∷ (i2, number) ∷ (b2, z) ∷ inside) ((x2, item) ∷ (i2, number) ∷ (b2, z) ∷ env) (second_inside item number z (pair y z) env) in
       (λ i. and_then (and_then (one_is i) (λ x. map_out (more_things x) (and_then (two_is i) (λ u. map_out (more_things u) (done no_things))))) (λ xs. done (struct_of xs)))
-      ∙ made_pair h.starts k.starts (first_step r y) (second_step r z) (first_good r y hv hy) (second_good r z hv hz)
+      ∙ made_pair h.starts k.starts (first_step r y) (second_step r z) first_formed w.first.builds (first_good r y hv hy) (second_good r z hv hz)
 
   -- ---- all rows
 
@@ -157,11 +167,11 @@ module _ (a m : At) (s : ℕ) (row : TypeTree) (h k : Half) (rest : ExprTree) (m
   both_starts = starts a m s row h k rest may tidy types g t w
 
   loop_pair : (xs : List Value) → AllAre (HasValue row) (values xs) → and_then (eval both_starts env) (λ y. run (number_from 0 xs) y both_step) ≡ both (first_run xs) (second_run xs)
-  loop_pair xs w =
-      ap (λ o. and_then o (λ y. run (number_from 0 xs) y both_step)) (made_pair h.starts k.starts first_start second_start first_start_good second_start_good)
+  loop_pair xs v =
+      ap (λ o. and_then o (λ y. run (number_from 0 xs) y both_step)) (made_pair h.starts k.starts first_start second_start first_formed w.first.builds first_start_good second_start_good)
       ∙ loops_pair IsFirst IsSecond first_start second_start (λ y. run (number_from 0 xs) y first_step) (λ y. run (number_from 0 xs) y second_step) (λ y. run (number_from 0 xs) y both_step) first_start_good second_start_good
-      (λ y q. run_good row IsFirst first_step first_good (number_from 0 xs) y (rows_have row 0 xs w) q)
-      (λ y z p q. runs_pair row IsFirst IsSecond first_step second_step both_step first_good second_good step_pair (number_from 0 xs) y z (rows_have row 0 xs w) p q)
+      (λ y q. run_good row IsFirst first_step first_good (number_from 0 xs) y (rows_have row 0 xs v) q)
+      (λ y z p q. runs_pair row IsFirst IsSecond first_step second_step both_step first_good second_good step_pair (number_from 0 xs) y z (rows_have row 0 xs v) p q)
 
   -- ---- what follows
 
@@ -172,15 +182,28 @@ module _ (a m : At) (s : ℕ) (row : TypeTree) (h k : Half) (rest : ExprTree) (m
   then_results = results a m s row h k rest may tidy types g t w
 
   abbrev plain_results : Thing → Outcome Thing
-  plain_results y = and_then (and_then (and_then (done y) (field_of 0)) finished) (λ v. and_then (and_then (and_then (done y) (field_of 1)) finished) (λ u. rest_of v u))
+  plain_results y =
+      and_then (and_then (and_then (done y) (field_of 0)) (λ x. closing h.result_at x))
+      (λ v. and_then (and_then (and_then (done y) (field_of 1)) (λ x. closing k.result_at x)) (λ u. rest_of v u))
+
+  abbrev field_zero : ExprTree
+  field_zero = first_part a m s row h k rest may tidy types g t w
+
+  abbrev field_one : ExprTree
+  field_one = second_part a m s row h k rest may tidy types g t w
 
   results_step : (y : Thing) → eval then_results ((i2, y) ∷ env) ≡ plain_results y
-  results_step y =
-      ap (λ o. and_then (and_then (and_then (found o) (field_of 0)) finished) (λ v. and_then (and_then (and_then (found (look_for i2 ((n1, v) ∷ (i2, y) ∷ env))) (field_of 1)) finished) (λ u. eval rest ((n2, u) ∷ (n1, v) ∷ (i2, y) ∷ env)))) (there i2 y env)
-      ∙ (λ i. and_then (and_then (field_of 0 y) finished) (λ v. and_then (and_then (and_then (found (look v i)) (field_of 1)) finished) (λ u. last v u i)))
+  results_step y = λ i. and_then (first i) (λ v. and_then (then_second v i) (λ u. last v u i))
     where
+      first : eval (finish_at h.result_at field_zero) ((i2, y) ∷ env) ≡ and_then (and_then (done y) (field_of 0)) (λ x. closing h.result_at x)
+      first = finish_eval h.result_at field_zero ((i2, y) ∷ env) ∙ ap (λ o. and_then (and_then (found o) (field_of 0)) (λ x. closing h.result_at x)) (there i2 y env)
+
       look : (v : Thing) → look_for i2 ((n1, v) ∷ (i2, y) ∷ env) ≡ Some y
       look v = skip i2 n1 v ((i2, y) ∷ env) (λ e. n1_apart a m s h k rest tidy i2 (i2_there a m s h k rest tidy) (sym e)) ∙ there i2 y env
+
+      then_second : (v : Thing) → eval (finish_at k.result_at field_one) ((n1, v) ∷ (i2, y) ∷ env) ≡ and_then (and_then (done y) (field_of 1)) (λ x. closing k.result_at x)
+      then_second v =
+          finish_eval k.result_at field_one ((n1, v) ∷ (i2, y) ∷ env) ∙ ap (λ o. and_then (and_then (found o) (field_of 1)) (λ x. closing k.result_at x)) (look v)
 
       last : (v u : Thing) → eval rest ((n2, u) ∷ (n1, v) ∷ (i2, y) ∷ env) ≡ rest_of v u
       last v u = sym (eval_free rest ((n2, u) ∷ (n1, v) ∷ env) ((n2, u) ∷ (n1, v) ∷ (i2, y) ∷ env) (rest_same a m s row h k rest may tidy v u y env))
@@ -190,11 +213,16 @@ module _ (a m : At) (s : ℕ) (row : TypeTree) (h k : Half) (rest : ExprTree) (m
   abbrev leg_out : Outcome (List Value)
   leg_out = eval_leg (whole (leaf h.leg_at (name s))) env
 
-  later_loop : (v : Thing) → eval (half_value s k) ((n1, v) ∷ env) ≡ and_then (over_rows leg_out second_start second_step) finished
-  later_loop v = λ i. and_then (over_rows (and_then (value_out (found (leg i))) elements_of) second_start (λ r y. step r y i)) finished
+  later_loop : (v : Thing) → eval (half_value s k) ((n1, v) ∷ env) ≡ and_then (over_rows leg_out second_start second_step) (λ x. closing k.result_at x)
+  later_loop v =
+      finish_eval k.result_at (half_loop s k) ((n1, v) ∷ env)
+      ∙ (λ i. and_then (over_rows (and_then (value_out (found (leg i))) elements_of) (begin i) (λ r y. step r y i)) (λ x. closing k.result_at x))
     where
       leg : look_for s ((n1, v) ∷ env) ≡ look_for s env
       leg = skip s n1 v env (s_n1 a m s h k rest tidy)
+
+      begin : eval k.start ((n1, v) ∷ env) ≡ second_start
+      begin = eval_free k.start ((n1, v) ∷ env) env (start_same a m s row h k rest may tidy v env)
 
       step : (r : Row) (y : Thing) → eval k.body (with_row k.builder k.number k.row y (plain (whole_number r.0)) (plain r.1) ((n1, v) ∷ env)) ≡ second_step r y
       step r y =
@@ -202,10 +230,12 @@ module _ (a m : At) (s : ℕ) (row : TypeTree) (h k : Half) (rest : ExprTree) (m
           (second_apart (plain r.1) (plain (whole_number r.0)) y v env)
 
   abbrev before_out : Outcome (List Value) → Outcome Thing
-  before_out o = and_then (and_then (over_rows o first_start first_step) finished) (λ v. and_then (and_then (over_rows o second_start second_step) finished) (λ u. rest_of v u))
+  before_out o =
+      and_then (and_then (over_rows o first_start first_step) (λ x. closing h.result_at x))
+      (λ v. and_then (and_then (over_rows o second_start second_step) (λ x. closing k.result_at x)) (λ u. rest_of v u))
 
   before_is : eval (before a m s row h k rest may tidy) env ≡ before_out leg_out
-  before_is = λ i. and_then (and_then (over_rows leg_out first_start first_step) finished) (λ v. and_then (later_loop v i) (λ u. rest_of v u))
+  before_is = λ i. and_then (finish_eval h.result_at (half_loop s h) env i) (λ v. and_then (later_loop v i) (λ u. rest_of v u))
 
   abbrev after_out : Outcome (List Value) → Outcome Thing
   after_out o = and_then (over_rows o (eval both_starts env) both_step) plain_results
@@ -213,10 +243,22 @@ module _ (a m : At) (s : ℕ) (row : TypeTree) (h k : Half) (rest : ExprTree) (m
   after_is : eval (after a m s row h k rest may tidy) env ≡ after_out leg_out
   after_is = λ i. and_then (over_rows leg_out (eval both_starts env) both_step) (λ y. results_step y i)
 
+  abbrev first_type : TypeTree
+  first_type = w.first_type
+
+  abbrev second_type : TypeTree
+  second_type = w.second_type
+
+  first_has : FinishHas h.result_at h.starts first_type
+  first_has = w.first.has
+
+  second_has : FinishHas k.result_at k.starts second_type
+  second_has = w.second.has
+
   same_out : (o : Outcome (List Value)) → Good (λ xs. AllAre (HasValue row) (values xs)) o → after_out o ≡ before_out o
   same_out (done xs) w =
       ap (λ o. and_then o plain_results) (loop_pair xs w.fits)
-      ∙ results_pair h.starts k.starts (first_run xs) (second_run xs) rest_of (first_run_good xs w.fits) (second_run_good xs w.fits)
+      ∙ results_pair h.result_at k.result_at h.starts k.starts first_type second_type (first_run xs) (second_run xs) rest_of first_has second_has (first_run_good xs w.fits) (second_run_good xs w.fits)
   same_out fault w = refl
   same_out stuck w = refl
 

@@ -1,13 +1,16 @@
 pub mod Relabelled
 pub mod Relabelling
 pub mod Taking
+pub mod Seen
 pub mod Looking
 pub mod Runs
+pub mod Finishing
 pub mod Bodies
 pub mod Fields
 pub mod Numbers
 pub mod Halves
 pub mod Placing
+pub mod Splitting
 pub mod Coming
 pub mod Renaming
 pub mod Counting

@@ -5,7 +5,8 @@ use Rattle.weld_tree.specs.TypeTree.{TypeTree, scalar}
 use Rattle.weld_tree.specs.ExprTree.{At, ExprTree, leaf, one, two, three, many, let_in, loop, iterate, ExprTrees, no_exprs, more_exprs, LegTree, whole, strided, LegTrees, no_legs, more_legs, Leaf, int, truth, chars, name, fresh}
 use Rattle.weld_meaning.specs.Names.{put_in_leaf, put, put_in_all, put_in_leg, put_in_legs}
 use Rattle.weld_rounds.specs.Weight.{weight, weight_in, weight_in_leg, weight_in_legs}
-use Rattle.weld_beside.specs.Beside.{Half, two_lets, node_of, second_body, side_by_side}
+use Rattle.weld_beside.specs.Beside.{Half, half_loop, two_lets, node_of, both_builders, builder_field, second_body, side_by_side}
+use Rattle.weld_beside.proofs.Finishing.{finish_weight}
 
 -- ---- what weighs nothing, put for a name
 
@@ -50,4 +51,11 @@ lighter a m s row h k rest =
     let row_name : ExprTree = leaf (node_of a.place row) (name h.row.sym.0) in
     let number_name : ExprTree = leaf (node_of a.place (scalar kinds.I64)) (name h.number.sym.0) in
     let same : weight (second_body a.place row h k) ≡ weight k.body = weight_put (put k.row.sym.0 row_name k.body) k.number.sym.0 number_name refl ∙ weight_put k.body k.row.sym.0 row_name refl in
-    omega (arith, same)
+    omega (
+      arith,
+      same,
+      finish_weight h.result_at (half_loop s h),
+      finish_weight k.result_at (half_loop s k),
+      finish_weight h.result_at (builder_field a.place (both_builders h k) 0 h.starts k.number.sym.0),
+      finish_weight k.result_at (builder_field a.place (both_builders h k) 1 k.starts k.number.sym.0),
+    )

@@ -74,6 +74,45 @@ mutual
 pub own_paths_same : (k : ℕ) (o : Origin) → own_paths (below k o) ≡ own_paths o
 own_paths_same k o = own_same k [] o
 
+-- the own paths below a field are those of the field's own, gone on below it
+mutual
+  own_further : (k : ℕ) (p : Path) (o : Origin) → own_below (p ++ k ∷ []) o ≡ below k (own_below p o)
+  own_further k p value = refl
+  own_further k p made = refl
+  own_further k p (own q) = refl
+  own_further k p outer = refl
+  own_further k p (named s q) = refl
+  own_further k p (struct os) = ap struct (fields_further k zero p os)
+
+  fields_further : (k n : ℕ) (p : Path) (os : Origins) → own_fields n (p ++ k ∷ []) os ≡ all_below k (own_fields n p os)
+  fields_further k n p no_origins = refl
+  fields_further k n p (more_origins o os) = λ i. more_origins (own_further k (n ∷ p) o i) (fields_further k (suc n) p os i)
+
+pub own_of_field : (k : ℕ) (o : Origin) → own_below (k ∷ []) o ≡ below k (own_paths o)
+own_of_field k o = own_further k [] o
+
+pub own_value : (p : Path) (o : Origin) → is_value (own_below p o) ≡ is_value o
+own_value p value = refl
+own_value p made = refl
+own_value p (own q) = refl
+own_value p outer = refl
+own_value p (named s q) = refl
+own_value p (struct os) = refl
+
+-- own paths are seen
+mutual
+  pub own_seen : (p : Path) (o : Origin) → IsSeen (own_below p o)
+  own_seen p value = tt
+  own_seen p made = tt
+  own_seen p (own q) = tt
+  own_seen p outer = tt
+  own_seen p (named s q) = tt
+  own_seen p (struct os) = fields_seen zero p os
+
+  fields_seen : (n : ℕ) (p : Path) (os : Origins) → AreSeen (own_fields n p os)
+  fields_seen n p no_origins = tt
+  fields_seen n p (more_origins o os) = (own_seen (n ∷ p) o, fields_seen (suc n) p os)
+
 mutual
   within_same : (k : ℕ) (o : Origin) → from_within (below k o) ≡ from_within o
   within_same k value = refl

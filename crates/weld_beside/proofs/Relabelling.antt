@@ -132,7 +132,7 @@ one_splits k (started b) e u v p h = h
 three_splits : (o : Three) (a b c d : Taken) → a ≡ c → b ≡ d → ThreeSplits o c d → ThreeSplits o a b
 three_splits o a b c d p q h = subst (λ x. ThreeSplits o x b) (sym p) (subst (ThreeSplits o c) (sym q) h)
 
-takes_all : (k s : ℕ) (o : Origin) (t u : Taken) → t ≡ u → TakesAll s o u → TakesAll s (below k o) t
+pub takes_all : (k s : ℕ) (o : Origin) (t u : Taken) → t ≡ u → TakesAll s o u → TakesAll s (below k o) t
 takes_all k s o t u e h = record { all = λ q b. ap (λ (w : Taken). w s q) e ∙ h.all q (sym (builder_path_below k o q) ∙ b) }
 
 mutual

@@ -1,8 +1,8 @@
 -- The second body under the first's row number and row, for the same behind lets of both.
 use Rattle.std.proofs.Common.{◌≡◌, ◌≢◌, ◌⊎◌, inl, inr, ℕ, [], ◌∷◌, ◌++◌, refl, sym, subst}
 use Rattle.weld_data.specs.declared.kind.Kind.TheVariants as kinds
-use Rattle.weld_tree.specs.TypeTree.{TypeTree, scalar, build}
-use Rattle.weld_tree.specs.ExprTree.{At, ExprTree, leaf, one, finish, many, let_in, more_exprs, no_exprs, whole, more_legs, no_legs, name, fresh, make_struct}
+use Rattle.weld_tree.specs.TypeTree.{TypeTree, scalar}
+use Rattle.weld_tree.specs.ExprTree.{At, ExprTree, leaf, many, let_in, more_exprs, no_exprs, whole, more_legs, no_legs, name, make_struct}
 use Rattle.weld_tree.specs.Program.{bound, IsOneOf}
 use Rattle.weld_meaning.specs.Names.{IsFree, put}
 use Rattle.weld_meaning.proofs.PartsGood.{KeyLaws}
@@ -12,13 +12,13 @@ use Rattle.weld_replacing.specs.Rewriting.{Rewrites}
 use Rattle.weld_replacing.proofs.Rewriting.{rewrites_itself, rewrites_in_turn, rewrites_through}
 use Rattle.weld_replacing.proofs.Tidying.{within_tidy}
 use Rattle.weld_putting.proofs.PlainRule.{plain_rewrites}
-use Rattle.weld_beside.specs.Beside.{Half, two_lets, node_of, bare, both_builders, builder_field, second_body, joined, with_results, side_by_side}
+use Rattle.weld_beside.specs.Beside.{finish_at, Half, two_lets, node_of, bare, both_builders, builder_field, second_body, joined, with_results, side_by_side}
 use Rattle.weld_beside.proofs.Placing.{behind_lets}
 use Rattle.weld_beside.proofs.Numbers.{distinct_before, x1_apart, i1_apart, x2_there, i2_there, body_there, i2_apart, x2_apart, i2_x2, body_distinct, body_apart}
 
 module _ (a m : At) (s : ℕ) (row : TypeTree) (h k : Half) (rest : ExprTree) (tidy : IsTidy (two_lets a m s h k rest)) (laws : KeyLaws) where
   abbrev at : At
-  at = node_of a.place (build k.starts)
+  at = node_of a.place k.starts
 
   abbrev number_name : ExprTree
   number_name = leaf (node_of a.place (scalar kinds.I64)) (name h.number.sym.0)
@@ -55,8 +55,8 @@ module _ (a m : At) (s : ℕ) (row : TypeTree) (h k : Half) (rest : ExprTree) (t
       not_number (inr b) = i2_apart a m s h k rest tidy k.number.sym.0 b refl
 
       there : (t : ℕ) → (t ≡ k.number.sym.0) ⊎ ((t ≡ k.row.sym.0) ⊎ IsOneOf (bound k.body) t) → IsOneOf (Rattle.weld_beside.proofs.Numbers.tail a m s h k rest tidy) t
-      there t (inl e) = inr (inr (inl e))
-      there t (inr (inl e)) = inr (inr (inr (inl e)))
+      there t (inl e) = subst (IsOneOf (Rattle.weld_beside.proofs.Numbers.tail a m s h k rest tidy)) (sym e) (i2_there a m s h k rest tidy)
+      there t (inr (inl e)) = subst (IsOneOf (Rattle.weld_beside.proofs.Numbers.tail a m s h k rest tidy)) (sym e) (x2_there a m s h k rest tidy)
       there t (inr (inr b)) = body_there a m s h k rest tidy t b
 
       apart_from : (t : ℕ) → (t ≡ k.number.sym.0) ⊎ ((t ≡ k.row.sym.0) ⊎ IsOneOf (bound k.body) t) → (t ≡ h.number.sym.0) ⊎ (((t ≡ h.row.sym.0) ⊎ (IsFree k.body t × (t ≢ k.row.sym.0))) × (t ≢ k.number.sym.0)) → ⊥
@@ -81,17 +81,17 @@ module _ (a m : At) (s : ℕ) (row : TypeTree) (h k : Half) (rest : ExprTree) (t
       let node = node_of a.place all in
       let new = second_body a.place row h k in
       let old = behind_lets a.place row h k in
-      let first_field = builder_field a.place all 0 (build h.starts) k.row.sym.0 in
-      let second_field = builder_field a.place all 1 (build k.starts) k.row.sym.0 in
-      let first = let_in (node_of a.place (build h.starts)) h.builder first_field h.body in
-      let starts = many node make_struct (more_exprs (leaf h.start_at (fresh h.starts)) (more_exprs (leaf k.start_at (fresh k.starts)) no_exprs)) in
-      let results = let_in a h.bound (one h.result_at finish (builder_field a.place all 0 (build h.starts) k.number.sym.0)) (let_in m k.bound (one k.result_at finish (builder_field a.place all 1 (build k.starts) k.number.sym.0)) rest) in
-      let lets = through.at_let (node_of a.place (build k.starts)) k.builder second_field new second_field old (rewrites_itself second_field) body_rewrites in
-      let body = through.at_many node make_struct (more_exprs first (more_exprs (let_in (node_of a.place (build k.starts)) k.builder second_field new) no_exprs))
-      (more_exprs first (more_exprs (let_in (node_of a.place (build k.starts)) k.builder second_field old) no_exprs)) (rewrites_itself first, (lets, tt)) in
+      let first_field = builder_field a.place all 0 h.starts k.row.sym.0 in
+      let second_field = builder_field a.place all 1 k.starts k.row.sym.0 in
+      let first = let_in (node_of a.place h.starts) h.builder first_field h.body in
+      let starts = many node make_struct (more_exprs h.start (more_exprs k.start no_exprs)) in
+      let results = let_in a h.bound (finish_at h.result_at (builder_field a.place all 0 h.starts k.number.sym.0)) (let_in m k.bound (finish_at k.result_at (builder_field a.place all 1 k.starts k.number.sym.0)) rest) in
+      let lets = through.at_let (node_of a.place k.starts) k.builder second_field new second_field old (rewrites_itself second_field) body_rewrites in
+      let body = through.at_many node make_struct (more_exprs first (more_exprs (let_in (node_of a.place k.starts) k.builder second_field new) no_exprs))
+      (more_exprs first (more_exprs (let_in (node_of a.place k.starts) k.builder second_field old) no_exprs)) (rewrites_itself first, (lets, tt)) in
       let legs = more_legs (whole (leaf h.leg_at (name s))) no_legs in
       let loops = through.at_loop node legs legs starts starts (bare k.row) h.number h.row
-      (many node make_struct (more_exprs first (more_exprs (let_in (node_of a.place (build k.starts)) k.builder second_field new) no_exprs)))
-      (many node make_struct (more_exprs first (more_exprs (let_in (node_of a.place (build k.starts)) k.builder second_field old) no_exprs)))
+      (many node make_struct (more_exprs first (more_exprs (let_in (node_of a.place k.starts) k.builder second_field new) no_exprs)))
+      (many node make_struct (more_exprs first (more_exprs (let_in (node_of a.place k.starts) k.builder second_field old) no_exprs)))
       (rewrites_itself (leaf h.leg_at (name s)), tt) (rewrites_itself starts) body in
       through.at_let a (bare k.number) (joined a.place s h k new) results (joined a.place s h k old) results loops (rewrites_itself results)

@@ -2,6 +2,7 @@
 use Rattle.std.proofs.Common.{◌≡◌, [], ◌∷◌, List, refl, ap, sym, subst, ◌∙◌}
 use Rattle.weld_fits.specs.HasValue.{HasValue}
 use Rattle.weld_tree.specs.TypeTree.{TypeTree, BuildTree, build}
+use Rattle.weld_tree.specs.Types.{IsBuilder, IsWellFormed}
 use Rattle.weld_builders.specs.Outcome.{Outcome, done, fault, stuck, and_then, map_out}
 use Rattle.weld_builders.specs.Part.{Part, result_of}
 use Rattle.weld_data.specs.Value.{Value, number, list, struct, dict}
@@ -10,7 +11,7 @@ use Rattle.weld_meaning.specs.ThingType.{HasThing}
 use Rattle.weld_meaning.specs.Evaluation.{Row, run, finished}
 use Rattle.weld_meaning.specs.Loops.{RowsHave}
 use Rattle.weld_meaning.proofs.Good.{Good}
-use Rattle.weld_meaning.proofs.NeverStuck.{run_good}
+use Rattle.weld_meaning.proofs.NeverStuck.{run_good, no_builder_value}
 
 abbrev pub pair : Thing → Thing → Thing
 pair t u = several (more_things t (more_things u no_things))
@@ -50,20 +51,23 @@ one_builder b (plain (dict es)) h = absurd h
 one_builder b (building p) h = (p, refl)
 one_builder b (several ts) h = absurd h
 
-pub struct_pair : (b : BuildTree) (t u : Thing) → HasThing t (build b) → struct_of (more_things t (more_things u no_things)) ≡ pair t u
-struct_pair b t u h = let p = one_builder b t h in subst (λ x. struct_of (more_things x (more_things u no_things)) ≡ pair x u) (sym p.1) refl
-
 pub finished_one : (b : BuildTree) (t : Thing) → HasThing t (build b) → (v : Value) × (finished t ≡ done (plain v))
 finished_one b t h = let p = one_builder b t h in (result_of p.0, ap finished p.1)
 
--- what a struct of two builders comes to
-pub made_pair : (b c : BuildTree) (o m : Outcome Thing) → Good (λ t. HasThing t (build b)) o → Good (λ t. HasThing t (build c)) m
+-- a struct the first field of which is a builder, or a struct of builders, is no value
+struct_pair : (b : TypeTree) (t u : Thing) → IsWellFormed b → IsBuilder b → HasThing t b → struct_of (more_things t (more_things u no_things)) ≡ pair t u
+struct_pair b (plain v) u w k h = absurd (no_builder_value b v w k h)
+struct_pair b (building p) u w k h = refl
+struct_pair b (several ts) u w k h = refl
+
+-- what a struct of two comes to
+pub made_pair : (b c : TypeTree) (o m : Outcome Thing) → IsWellFormed b → IsBuilder b → Good (λ t. HasThing t b) o → Good (λ t. HasThing t c) m
     → and_then (and_then o (λ t. map_out (more_things t) (and_then m (λ u. map_out (more_things u) (done no_things))))) (λ ts. done (struct_of ts)) ≡ both o m
-made_pair b c (done t) (done u) x y = ap done (struct_pair b t u x.fits)
-made_pair b c (done t) fault x y = refl
-made_pair b c (done t) stuck x y = absurd y.fits
-made_pair b c fault m x y = refl
-made_pair b c stuck m x y = absurd x.fits
+made_pair b c (done t) (done u) w k x y = ap done (struct_pair b t u w k x.fits)
+made_pair b c (done t) fault w k x y = refl
+made_pair b c (done t) stuck w k x y = absurd y.fits
+made_pair b c fault m w k x y = refl
+made_pair b c stuck m w k x y = absurd x.fits
 
 -- two loops, each from a start of its own
 pub loops_pair : (P Q : Thing → Type 0) (o m : Outcome Thing) (f g h : Thing → Outcome Thing) → Good P o → Good Q m → ((t : Thing) → P t → Good P (f t)) → ((t u : Thing) → P t → Q u → h (pair t u) ≡ both (f t) (g u))
@@ -73,14 +77,3 @@ loops_pair P Q (done t) fault f g h x y k step = then_fault P (f t) (k t x.fits)
 loops_pair P Q (done t) stuck f g h x y k step = absurd y.fits
 loops_pair P Q fault m f g h x y k step = refl
 loops_pair P Q stuck m f g h x y k step = absurd x.fits
-
--- both results, and then the rest: in either order
-pub results_pair : (b c : BuildTree) (o m : Outcome Thing) (rest : Thing → Thing → Outcome Thing) → Good (λ t. HasThing t (build b)) o → Good (λ t. HasThing t (build c)) m
-    → and_then (both o m) (λ s. and_then (and_then (and_then (done s) (Rattle.weld_meaning.specs.Thing.field_of 0)) finished) (λ v. and_then (and_then (and_then (done s) (Rattle.weld_meaning.specs.Thing.field_of 1)) finished) (λ w. rest v w)))
-    ≡ and_then (and_then o finished) (λ v. and_then (and_then m finished) (λ w. rest v w))
-results_pair b c (done t) (done u) rest x y = refl
-results_pair b c (done t) fault rest x y =
-    let v = finished_one b t x.fits in ap (λ k. and_then k (λ w. let f : Outcome Thing = fault in f)) (sym v.1)
-results_pair b c (done t) stuck rest x y = absurd y.fits
-results_pair b c fault m rest x y = refl
-results_pair b c stuck m rest x y = absurd x.fits

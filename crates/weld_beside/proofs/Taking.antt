@@ -172,7 +172,7 @@ path_from : (q : Path) (o : Origin) → at_path q (from_within o) ≡ from_withi
 path_from [] o = refl
 path_from (n ∷ q) o = ap (field_within n) (path_from q o) ∙ field_from n (at_path q o)
 
-seen_at : (n : ℕ) (os : Origins) → AreSeen os → IsSeen (origin_at n os)
+pub seen_at : (n : ℕ) (os : Origins) → AreSeen os → IsSeen (origin_at n os)
 seen_at n no_origins h = value_at n
   where
     value_at : (n : ℕ) → IsSeen (origin_at n no_origins)

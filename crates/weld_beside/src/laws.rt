@@ -10,9 +10,10 @@ ghost use Rattle.weld_beside.specs.Beside.{Half, MayJoin, side_by_side, two_lets
 
 use weld_builders::laws::{keys_are_ordered_alike, values_are_ordered};
 
-/// Two tidy neighbouring lets, each of the result of a loop over one name from one new builder, may
-/// be rewritten to one loop over the name from both builders and lets of the results of its fields,
-/// where the second loop doesn't name the first result. What takes their place is lighter.
+/// Two tidy neighbouring lets, each of a loop over one name or of its result, may be rewritten to one
+/// loop over the name from the struct of what both start from and lets of its fields or of their
+/// results, where the second loop doesn't name what the first `let` binds. What takes their place is
+/// lighter.
 pub fn loops_may_run_side_by_side()
     ensures lighter { (a m : At) (s : ℕ) (row : TypeTree) (h k : Half) (rest : ExprTree)
         → weight (side_by_side a m s row h k rest) < weight (two_lets a m s h k rest) }

@@ -3,5 +3,6 @@ pub mod Legs
 pub mod Limits
 pub mod Recognised
 pub mod Sound
+pub mod TakenApart
 pub mod Together
 pub mod Unused

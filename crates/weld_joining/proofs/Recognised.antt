@@ -3,12 +3,13 @@ use Rattle.std.proofs.Common.{◌≡◌, ℕ, ◌==◌, if◌then◌else◌, Boo
 use Rattle.weld_tree.specs.declared.binder.Binder.{Binder}
 use Rattle.weld_tree.specs.declared.known.Known.{Known}
 use Rattle.weld_tree.specs.declared.known.Known.TheVariants.{Is, Blank}
-use Rattle.weld_tree.specs.TypeTree.{TypeTree, BuildTree, scalar, vec, struct, dict, build}
+use Rattle.weld_tree.specs.TypeTree.{TypeTree, scalar, vec, struct, dict, build}
 use Rattle.weld_tree.specs.ExprTree.{At, ExprTree, leaf, one, two, three, many, let_in, loop, iterate, LegTree, whole, strided, LegTrees, no_legs, more_legs, Leaf, int, truth, chars, name, fresh, neg, not, cast, len, field, finish, started}
+use Rattle.weld_putting.specs.Redex.{noted}
 use Rattle.weld_substitution.specs.Uses.{uses}
 use Rattle.weld_putting.proofs.Following.{and_true}
-use Rattle.weld_beside.specs.Beside.{Half, half_value, two_lets}
-use Rattle.weld_joining.specs.Joining.{name_in, name_of, leg_name, only_name, is_new, loop_over, over, same_name, are_beside, is_followed, is_pair}
+use Rattle.weld_beside.specs.Beside.{finish_at, Half, half_value, two_lets}
+use Rattle.weld_joining.specs.Joining.{name_in, name_of, leg_name, only_name, is_known, loop_over, over, same_name, are_beside, is_followed, is_pair, known_type}
 
 none_found : (t : ℕ) {C : Type 0} → ◌≡◌ {A = Option ℕ} None (Some t) → C
 none_found t h = let wrong : ⊥ = cc in absurd wrong
@@ -44,29 +45,20 @@ legs_by t P f (more_legs (whole e) no_legs) h = leaf_by t (λ e. P (more_legs (w
 legs_by t P f (more_legs (strided e g k m) no_legs) h = none_found t h
 legs_by t P f (more_legs l (more_legs m ls)) h = none_found t h
 
-pub new_by : (P : ExprTree → Type 0) → ((o : At) (b : BuildTree) → P (leaf o (fresh b))) → (e : ExprTree) → is_new e ≡ true → P e
-new_by P f (leaf o (int k x)) h = let nothing : ⊥ = cc in absurd nothing
-new_by P f (leaf o (truth b)) h = let nothing : ⊥ = cc in absurd nothing
-new_by P f (leaf o (chars bs)) h = let nothing : ⊥ = cc in absurd nothing
-new_by P f (leaf o (name s)) h = let nothing : ⊥ = cc in absurd nothing
-new_by P f (leaf o (fresh b)) h = f o b
-new_by P f (one a o e) h = let nothing : ⊥ = cc in absurd nothing
-new_by P f (two a o e g) h = let nothing : ⊥ = cc in absurd nothing
-new_by P f (three a o e g k) h = let nothing : ⊥ = cc in absurd nothing
-new_by P f (many a o es) h = let nothing : ⊥ = cc in absurd nothing
-new_by P f (let_in a b e g) h = let nothing : ⊥ = cc in absurd nothing
-new_by P f (loop a ls e b n x g) h = let nothing : ⊥ = cc in absurd nothing
-new_by P f (iterate a e b g) h = let nothing : ⊥ = cc in absurd nothing
+-- where the type is noted it is the one that is read
+pub known_by : (k : Known) → is_known k ≡ true → k ≡ Is (known_type k)
+known_by (Is t) h = refl
+known_by Blank h = let nothing : ⊥ = cc in absurd nothing
 
 pub where_true : (b : Bool) (o : Option ℕ) (t : ℕ) → (if b then o else None) ≡ Some t → (b ≡ true) × (o ≡ Some t)
 where_true true o t h = (refl, h)
 where_true false o t h = none_found t h
 
--- a loop over the name from one new builder
+-- a loop over the name, the type of that from which it starts being noted
 abbrev pub AtLoop : ℕ → (ExprTree → Type 0) → Type 0
 AtLoop t P =
-    (q l o : At) (row : TypeTree) (d : BuildTree) (c i r : Binder) (f : ExprTree) → l.ty ≡ Is (vec row)
-    → P (loop q (more_legs (whole (leaf l (name t))) no_legs) (leaf o (fresh d)) c i r f)
+    (q l : At) (row : TypeTree) (d : ExprTree) (c i r : Binder) (f : ExprTree) → l.ty ≡ Is (vec row) → noted d ≡ Is (known_type (noted d))
+    → P (loop q (more_legs (whole (leaf l (name t))) no_legs) d c i r f)
 
 loop_by : (t : ℕ) (P : ExprTree → Type 0) → AtLoop t P → (e : ExprTree) → loop_over e ≡ Some t → P e
 loop_by t P f (leaf a l) h = none_found t h
@@ -76,26 +68,28 @@ loop_by t P f (three a o c e g) h = none_found t h
 loop_by t P f (many a o es) h = none_found t h
 loop_by t P f (let_in a b e g) h = none_found t h
 loop_by t P f (loop q ls e c i r g) h =
-    let x = where_true (is_new e) (only_name ls) t h in
-    new_by (λ e. P (loop q ls e c i r g))
-    (λ o d. legs_by t (λ ls. P (loop q ls (leaf o (fresh d)) c i r g)) (λ l row noted. f q l o row d c i r g noted) ls x.1) e x.0
+    let x = where_true (is_known (noted e)) (only_name ls) t h in
+    legs_by t (λ ls. P (loop q ls e c i r g)) (λ l row known. f q l row e c i r g known (known_by (noted e) x.0)) ls x.1
 loop_by t P f (iterate a e b g) h = none_found t h
 
--- the result of such a loop
-pub half_by : (t : ℕ) (P : ExprTree → Type 0) → ((p : At) → AtLoop t (λ e. P (one p finish e))) → (e : ExprTree) → over e ≡ Some t → P e
+-- such a loop, or its result
+abbrev pub AtHalf : ℕ → (ExprTree → Type 0) → Type 0
+AtHalf t P = (p : Option At) → AtLoop t (λ e. P (finish_at p e))
+
+pub half_by : (t : ℕ) (P : ExprTree → Type 0) → AtHalf t P → (e : ExprTree) → over e ≡ Some t → P e
 half_by t P f (leaf a l) h = none_found t h
 half_by t P f (one p neg e) h = none_found t h
 half_by t P f (one p not e) h = none_found t h
 half_by t P f (one p (cast k) e) h = none_found t h
 half_by t P f (one p len e) h = none_found t h
 half_by t P f (one p (field n) e) h = none_found t h
-half_by t P f (one p finish e) h = loop_by t (λ e. P (one p finish e)) (f p) e h
+half_by t P f (one p finish e) h = loop_by t (λ e. P (one p finish e)) (f (Some p)) e h
 half_by t P f (one p (started b) e) h = none_found t h
 half_by t P f (two a o e g) h = none_found t h
 half_by t P f (three a o c e g) h = none_found t h
 half_by t P f (many a o es) h = none_found t h
 half_by t P f (let_in a b e g) h = none_found t h
-half_by t P f (loop a ls e b n x g) h = none_found t h
+half_by t P f (loop a ls e b n x g) h = loop_by t P (f None) (loop a ls e b n x g) h
 half_by t P f (iterate a e b g) h = none_found t h
 
 pub record BothOver (v w : ExprTree) : Type 0 where
@@ -111,22 +105,24 @@ same_both None p h = let nothing : ⊥ = cc in absurd nothing
 pub both_over : (v w : ExprTree) → same_name (over v) (over w) ≡ true → BothOver v w
 both_over v w h = let s = same_both (over v) (over w) h in record { name = s.0; first = s.1; second = s.2 }
 
--- two neighbouring lets of such results
+-- two neighbouring lets of such values
 abbrev pub AtPair : (ExprTree → Type 0) → Type 0
 AtPair P =
-    (a m : At) (s : ℕ) (row : TypeTree) (h k : Half) (rest : ExprTree) → h.leg_at.ty ≡ Is (vec row) → uses (half_value s k) h.bound.sym.0 ≡ 0
+    (a m : At) (s : ℕ) (row : TypeTree) (h k : Half) (rest : ExprTree) → h.leg_at.ty ≡ Is (vec row) → noted h.start ≡ Is h.starts → noted k.start ≡ Is k.starts → uses (half_value s k) h.bound.sym.0 ≡ 0
     → P (two_lets a m s h k rest)
 
 beside_by : (P : ExprTree → Type 0) → AtPair P → (a m : At) (x y : Binder) (v w rest : ExprTree) → are_beside x v w ≡ true → P (let_in a x v (let_in m y w rest))
 beside_by P f a m x y v w rest h =
     let b = and_true (same_name (over v) (over w)) (uses w x.sym.0 == 0) h in
     let both = both_over v w b.0 in
-    half_by both.name (λ w. uses w x.sym.0 ≡ 0 → P (let_in a x v (let_in m y w rest)))
-    (λ u n j d other e g z k body noted none. half_by both.name
-    (λ v. P (let_in a x v (let_in m y (one u finish (loop n (more_legs (whole (leaf j (name both.name))) no_legs) (leaf d (fresh e)) g z k body)) rest)))
-    (λ p q l o row c i r t inside kept. f a m both.name row
-    (record { bound = x; result_at = p; loop_at = q; leg_at = l; start_at = o; starts = c; builder = i; number = r; row = t; body = inside })
-    (record { bound = y; result_at = u; loop_at = n; leg_at = j; start_at = d; starts = e; builder = g; number = z; row = k; body = body }) rest kept none) v both.first) w both.second (eqb-true (uses w x.sym.0) 0 b.1)
+    let s = both.name in
+    half_by s (λ w. uses w x.sym.0 ≡ 0 → P (let_in a x v (let_in m y w rest)))
+    (λ u n j other e g z k body known begun none. half_by s
+    (λ v. P (let_in a x v (let_in m y (finish_at u (loop n (more_legs (whole (leaf j (name s))) no_legs) e g z k body)) rest)))
+    (λ p q l row c i r t inside kept start. f a m s row
+    (record { bound = x; result_at = p; loop_at = q; leg_at = l; start = c; starts = known_type (noted c); builder = i; number = r; row = t; body = inside })
+    (record { bound = y; result_at = u; loop_at = n; leg_at = j; start = e; starts = known_type (noted e); builder = g; number = z; row = k; body = body }) rest kept start begun none)
+    v both.first) w both.second (eqb-true (uses w x.sym.0) 0 b.1)
 
 followed_by : (P : ExprTree → Type 0) → AtPair P → (a : At) (x : Binder) (v f : ExprTree) → is_followed x v f ≡ true → P (let_in a x v f)
 followed_by P g a x v (leaf p l) h = let nothing : ⊥ = cc in absurd nothing

@@ -1,12 +1,13 @@
--- Two neighbouring lets, each of the result of a loop over one name, as one loop: the rule of the pass, and what its answer has
--- none of.
+-- Two neighbouring lets, each of a loop over one name or of the result of one, as one loop: the rule of the pass, and what its
+-- answer has none of.
 use Rattle.std.specs.Prelude.{◌≡◌, ℕ, ◌==◌, if◌then◌else◌, Bool, true, false, ◌&&◌, Option, Some, None}
 use Rattle.weld_tree.specs.declared.binder.Binder.{Binder}
 use Rattle.weld_tree.specs.declared.known.Known.{Known}
 use Rattle.weld_tree.specs.declared.known.Known.TheVariants.{Is, Blank}
-use Rattle.weld_tree.specs.TypeTree.{TypeTree, vec, struct, build, no_types}
+use Rattle.weld_tree.specs.TypeTree.{TypeTree, vec, struct, no_types}
 use Rattle.weld_tree.specs.Types.{pair_of}
-use Rattle.weld_tree.specs.ExprTree.{At, ExprTree, leaf, one, let_in, loop, LegTree, whole, LegTrees, no_legs, more_legs, Leaf, name, fresh, One, finish}
+use Rattle.weld_tree.specs.ExprTree.{At, ExprTree, leaf, one, let_in, loop, LegTree, whole, LegTrees, no_legs, more_legs, Leaf, name, One, finish}
+use Rattle.weld_putting.specs.Redex.{noted}
 use Rattle.weld_types.specs.Tests.{is_within_limits}
 use Rattle.weld_sweep.specs.Nodes.{EachNode}
 use Rattle.weld_sweep.specs.Sweep.{RootRule}
@@ -14,7 +15,7 @@ use Rattle.weld_pass.specs.Tested.{tested}
 use Rattle.weld_substitution.specs.Uses.{uses}
 use Rattle.weld_beside.specs.Beside.{side_by_side}
 
--- ---- the result of a loop over one name
+-- ---- a loop over one name, and its result
 
 -- the name, where the node is noted to be a vector
 abbrev pub name_in : Known → Leaf → Option ℕ
@@ -34,23 +35,19 @@ abbrev pub only_name : LegTrees → Option ℕ
 only_name (more_legs l no_legs) = leg_name l
 only_name ls = None
 
-abbrev pub is_new_leaf : Leaf → Bool
-is_new_leaf (fresh b) = true
-is_new_leaf l = false
-
--- one builder without a starting value
-abbrev pub is_new : ExprTree → Bool
-is_new (leaf a l) = is_new_leaf l
-is_new e = false
+-- the type is noted
+abbrev pub is_known : Known → Bool
+is_known (Is t) = true
+is_known Blank = false
 
 abbrev pub loop_over : ExprTree → Option ℕ
-loop_over (loop a ls e b n x f) = if is_new e then only_name ls else None
+loop_over (loop a ls e b n x f) = if is_known (noted e) then only_name ls else None
 loop_over e = None
 
--- the name over which the loop runs, from one new builder, whose result the expression is
+-- the name over which the loop runs that the expression is, or whose result it is
 abbrev pub over : ExprTree → Option ℕ
 over (one a finish e) = loop_over e
-over e = None
+over e = loop_over e
 
 -- ---- the pattern
 
@@ -58,7 +55,7 @@ abbrev pub same_name : Option ℕ → Option ℕ → Bool
 same_name (Some s) (Some t) = s == t
 same_name o p = false
 
--- both are results of loops over one name, and the second doesn't use the first's
+-- both are loops over one name or results of such, and the second doesn't use what the first `let` binds
 abbrev pub are_beside : Binder → ExprTree → ExprTree → Bool
 are_beside x v w = same_name (over v) (over w) && (uses w x.sym.0 == 0)
 
@@ -66,42 +63,38 @@ abbrev pub is_followed : Binder → ExprTree → ExprTree → Bool
 is_followed x v (let_in m y w f) = are_beside x v w
 is_followed x v e = false
 
--- two neighbouring lets of such results
+-- two neighbouring lets of such values
 abbrev pub is_pair : ExprTree → Bool
 is_pair (let_in a x v f) = is_followed x v f
 is_pair e = false
 
 -- ---- the limits on types
 
-abbrev pub leaf_type : Leaf → TypeTree
-leaf_type (fresh b) = build b
-leaf_type l = struct no_types
+-- as it is noted
+abbrev pub known_type : Known → TypeTree
+known_type (Is t) = t
+known_type Blank = struct no_types
 
--- the type of a new builder
-abbrev pub new_type : ExprTree → TypeTree
-new_type (leaf a l) = leaf_type l
-new_type e = struct no_types
-
--- of the builder with which a loop starts
+-- the type of that from which a loop starts
 abbrev pub loop_type : ExprTree → TypeTree
-loop_type (loop a ls e b n x f) = new_type e
+loop_type (loop a ls e b n x f) = known_type (noted e)
 loop_type e = struct no_types
 
--- of that of the loop whose result the expression is
+-- of the loop that the expression is, or whose result it is
 abbrev pub start_type : ExprTree → TypeTree
 start_type (one a o e) = loop_type e
-start_type e = struct no_types
+start_type e = loop_type e
 
 abbrev pub types_after : ExprTree → ExprTree → TypeTree
 types_after v (let_in m y w f) = pair_of (start_type v) (start_type w)
 types_after v e = struct no_types
 
--- the struct of both builders
+-- the struct of what both start from
 abbrev pub both_types : ExprTree → TypeTree
 both_types (let_in a x v f) = types_after v f
 both_types e = struct no_types
 
--- two such lets, the struct of whose builders is within the limits on types
+-- two such lets, the struct of what both start from being within the limits on types
 abbrev pub may_be_one : ExprTree → Bool
 may_be_one e = is_pair e && is_within_limits (both_types e)
 
@@ -112,15 +105,30 @@ abbrev pub item_of : Known → TypeTree
 item_of (Is (vec t)) = t
 item_of k = struct no_types
 
--- the one loop and the results of its fields; what is no such pair of lets stays
-abbrev pub joined_pair : ExprTree → ExprTree
-joined_pair (let_in a x (one p finish (loop q (more_legs (whole (leaf l (name s))) no_legs) (leaf o (fresh b)) c i r f)) (let_in m y (one u finish (loop w (more_legs (whole (leaf j (name t))) no_legs) (leaf d (fresh e)) g n z h)) rest)) =
+-- what is noted at the result, if the expression is one
+abbrev pub result_of : ExprTree → Option At
+result_of (one p finish e) = Some p
+result_of e = None
+
+-- the loop that it is, or whose result it is
+abbrev pub loop_in : ExprTree → ExprTree
+loop_in (one p finish e) = e
+loop_in e = e
+
+-- the one loop in place of two over one name, of which these are results or not
+abbrev pub joined_loops : At → At → Binder → Option At → ExprTree → Binder → Option At → ExprTree → ExprTree → ExprTree
+joined_loops a m x p (loop q (more_legs (whole (leaf l (name s))) no_legs) d c i r f) y u (loop w (more_legs (whole (leaf j (name t))) no_legs) e g n z h) rest =
     side_by_side a m s (item_of l.ty)
-    (record { bound = x; result_at = p; loop_at = q; leg_at = l; start_at = o; starts = b; builder = c; number = i; row = r; body = f })
-    (record { bound = y; result_at = u; loop_at = w; leg_at = j; start_at = d; starts = e; builder = g; number = n; row = z; body = h }) rest
+    (record { bound = x; result_at = p; loop_at = q; leg_at = l; start = d; starts = known_type (noted d); builder = c; number = i; row = r; body = f })
+    (record { bound = y; result_at = u; loop_at = w; leg_at = j; start = e; starts = known_type (noted e); builder = g; number = n; row = z; body = h }) rest
+joined_loops a m x p v y u w rest = rest
+
+-- the one loop, and its fields or their results; what is no such pair of lets stays
+abbrev pub joined_pair : ExprTree → ExprTree
+joined_pair (let_in a x v (let_in m y w rest)) = joined_loops a m x (result_of v) (loop_in v) y (result_of w) (loop_in w) rest
 joined_pair e = e
 
--- the rule: two such lets become one loop and lets of the results of its fields
+-- the rule: two such lets become one loop and lets of its fields or their results
 abbrev pub beside_rule : RootRule
 beside_rule = tested may_be_one joined_pair
 

@@ -1,14 +1,15 @@
 -- What the code has in its hands of two lets of results of loops, and the one loop made of it.
-use Rattle.std.specs.Prelude.{◌≡◌, ℕ}
+use Rattle.std.specs.Prelude.{◌≡◌, ℕ, Option, option_map}
 use Rattle.weld_data.specs.declared.kind.Kind.TheVariants as kinds
 use Rattle.weld_tree.specs.declared.binder.Binder.{Binder}
 use Rattle.weld_tree.specs.declared.place.Place.{Place}
 use Rattle.weld_tree.specs.TypeTree.{TypeTree, scalar, struct, no_types}
 use Rattle.weld_tree.specs.Types.{pair_of}
-use Rattle.weld_tree.specs.ExprTree.{At, ExprTree, leaf, one, many, let_in, loop, no_exprs, more_exprs, LegTree, whole, strided, LegTrees, no_legs, more_legs, pack_legs, name, finish, make_struct}
+use Rattle.weld_tree.specs.ExprTree.{At, ExprTree, leaf, many, let_in, loop, no_exprs, more_exprs, LegTree, whole, strided, LegTrees, no_legs, more_legs, pack_legs, name, make_struct}
 use Rattle.weld_meaning.specs.Names.{put}
-use Rattle.weld_beside.specs.Beside.{node_of, bare, builder_field}
-use Rattle.weld_joining.specs.Joining.{new_type, item_of}
+use Rattle.weld_putting.specs.Redex.{noted}
+use Rattle.weld_beside.specs.Beside.{finish_at, node_of, bare, builder_field}
+use Rattle.weld_joining.specs.Joining.{known_type, item_of}
 use Rattle.weld_joining.specs.declared.both.Both.{Both}
 use Rattle.weld_joining.specs.declared.halves.Node.{Node}
 use Rattle.weld_joining.specs.declared.halves.Run.{Run}
@@ -25,9 +26,13 @@ loop_of a r = loop a (pack_legs r.legs) r.start.value r.builder r.number r.row r
 abbrev pub IsRun : ExprTree → Run → Type 0
 IsRun e r = (a : At) × (e ≡ loop_of a r)
 
--- the result of such a loop
+-- what is noted at a result, if there is one
+abbrev pub result_at : Option Node → Option At
+result_at r = option_map at_of r
+
+-- such a loop, or its result
 abbrev pub IsHalf : ExprTree → Half → Type 0
-IsHalf e h = (a : At) × (e ≡ one (at_of h.result) finish (loop_of a h.run))
+IsHalf e h = (a : At) × (e ≡ finish_at (result_at h.result) (loop_of a h.run))
 
 -- the type of the items of a leg, as noted
 abbrev pub leg_item : LegTree → TypeTree
@@ -52,26 +57,26 @@ body_of_second place r n x f =
     put n (leaf (node_of place (scalar kinds.I64)) (name r.number.sym.0))
     (put x (leaf (node_of place (legs_item (pack_legs r.legs))) (name r.row.sym.0)) f)
 
--- the types of the builders with which the loops start
+-- the types of that from which the loops start
 pub record IsBoth (r q : Run) (both : Both) : Type 0 where
-  pub first : both.first ≡ new_type r.start.value
-  pub second : both.second ≡ new_type q.start.value
+  pub first : both.first ≡ known_type (noted r.start.value)
+  pub second : both.second ≡ known_type (noted q.start.value)
   pub all : both.all ≡ pair_of both.first both.second
 
--- the one loop, its builders having these types
+-- the one loop, what it starts from having these types
 abbrev pub loop_of_both : Both → Place → Run → Run → ExprTree
 loop_of_both both place r q =
     loop (node_of place both.all) (pack_legs r.legs) (pair_at place both.all r.start.value q.start.value) (bare q.row) r.number r.row
     (pair_at place both.all (field_let place both.all 0 both.first q.row.sym.0 r.builder r.body.value)
     (field_let place both.all 1 both.second q.row.sym.0 q.builder (body_of_second place r q.number.sym.0 q.row.sym.0 q.body.value)))
 
--- a `let` of the result of an expression
-abbrev pub result_let : At → Binder → At → ExprTree → ExprTree → ExprTree
-result_let a b m e f = let_in a b (one m finish e) f
+-- a `let` of an expression or of its result
+abbrev pub result_let : At → Binder → Option At → ExprTree → ExprTree → ExprTree
+result_let a b m e f = let_in a b (finish_at m e) f
 
--- the one loop and the results of its fields
+-- the one loop, and its fields or their results
 abbrev pub from_halves : Both → At → At → Binder → Half → Binder → Half → ExprTree → ExprTree
 from_halves both a m x h y k rest =
     let_in a (bare k.run.number) (loop_of_both both a.place h.run k.run)
-    (result_let a x (at_of h.result) (builder_field a.place both.all 0 both.first k.run.number.sym.0)
-    (result_let m y (at_of k.result) (builder_field a.place both.all 1 both.second k.run.number.sym.0) rest))
+    (result_let a x (result_at h.result) (builder_field a.place both.all 0 both.first k.run.number.sym.0)
+    (result_let m y (result_at k.result) (builder_field a.place both.all 1 both.second k.run.number.sym.0) rest))

@@ -1,4 +1,4 @@
-//! One loop from both builders.
+//! One loop from what both start from.
 
 ghost use Rattle.std.specs.Prelude.{◌≡◌, IfOk};
 ghost use Rattle.weld_tree.specs.ExprTree.{leaf, name as name_form};
@@ -7,13 +7,13 @@ ghost use Rattle.weld_beside.specs.Beside.{node_of};
 ghost use Rattle.weld_joining.specs.Parts.{IsBoth, body_of_second, field_let, loop_of_both, pair_at};
 
 use crate::halves::Run;
-use crate::parts::{bare, builder_field, legs_item, named, new_type, pair_at};
+use crate::parts::{bare, builder_field, legs_item, named, noted_type, pair_at};
 use std::alloc::{AllocError, Global};
 use weld_data::Kind;
 use weld_substitution::put_at;
 use weld_tree::{Binder, Expr, Form, Known, Place, Sym, Ty};
 
-/// The types of two builders, and that of the struct of both.
+/// The types of that from which both start, and that of the struct of both.
 #[derive(Drop)]
 pub(crate) struct Both {
     pub(crate) first: Ty,
@@ -21,17 +21,17 @@ pub(crate) struct Both {
     pub(crate) all: Ty,
 }
 
-/// The types of the builders with which the loops start.
+/// The types of that from which the loops start.
 pub(crate) fn both_of(alloc: Global, first: &Run, second: &Run) -> Result<Both, AllocError>
     ensures { IfOk result (λ both. IsBoth first.now second.now both) }
 {
-    let first = new_type(alloc, &first.start)?;
-    let second = new_type(alloc, &second.start)?;
+    let first = noted_type(alloc, &first.start)?;
+    let second = noted_type(alloc, &second.start)?;
     let all = Ty::pair_of(alloc, first.copy(alloc)?, second.copy(alloc)?)?;
     Ok(Both { first, second, all })
 }
 
-/// One loop from both builders.
+/// One loop from both.
 pub(crate) fn loop_of_both(
     alloc: Global,
     place: Place,
@@ -106,7 +106,7 @@ fn step(
     })
 }
 
-/// The struct of both new builders.
+/// The struct of that from which both start.
 fn both_starts(
     alloc: Global,
     place: Place,

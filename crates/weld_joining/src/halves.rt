@@ -1,9 +1,10 @@
-//! A `let` of the result of a loop, taken apart.
+//! A loop or its result, taken apart.
 
 ghost use Rattle.std.specs.Prelude.{◌≡◌, is_some, true};
-ghost use Rattle.weld_joining.specs.Joining.{loop_over, over};
+ghost use Rattle.weld_joining.specs.Joining.{loop_over, over, result_of};
 ghost use Rattle.weld_joining.specs.Parts.{IsHalf, IsRun};
 
+use crate::pairs::is_result;
 use weld_tree::{Binder, Expr, Form, Known, Legs, Place};
 
 /// Where a node stands, and the type that is noted at it.
@@ -24,16 +25,30 @@ pub(crate) struct Run {
     pub(crate) body: Box<Expr>,
 }
 
-/// The result of a loop.
+/// A loop, or its result with what is noted there.
 #[derive(Drop)]
 pub(crate) struct Half {
-    pub(crate) result: Node,
+    pub(crate) result: Option<Node>,
     pub(crate) run: Run,
 }
 
-/// The result of a loop, taken apart.
+/// A loop or its result, taken apart.
+#[tactic(auto, using(crate::proofs::TakenApart::bare_loop))]
 pub(crate) fn take_half(value: Box<Expr>) -> Half
     requires { is_some (over value.value) ≡ true }
+    ensures { IsHalf value.value result }
+{
+    if is_result(&value) {
+        take_result(value)
+    } else {
+        let run = take_run(value);
+        Half { result: None, run }
+    }
+}
+
+fn take_result(value: Box<Expr>) -> Half
+    requires over { is_some (over value.value) ≡ true }
+    requires result { is_some (result_of value.value) ≡ true }
     ensures { IsHalf value.value result }
 {
     let (form, place, ty) = Box::into_inner(value).into_parts();
@@ -42,7 +57,7 @@ pub(crate) fn take_half(value: Box<Expr>) -> Half
     };
     let run = take_run(part);
     Half {
-        result: Node { place, ty },
+        result: Some(Node { place, ty }),
         run,
     }
 }

@@ -4,7 +4,7 @@ ghost use Rattle.std.specs.Prelude.{◌≡◌, true, IfOk};
 ghost use Rattle.weld_joining.specs.Joining.{are_beside, is_followed, is_pair, joined_pair};
 ghost use Rattle.weld_tree.specs.ExprTree.{let_in};
 ghost use Rattle.weld_beside.specs.Beside.{builder_field};
-ghost use Rattle.weld_joining.specs.Parts.{at_of, from_halves, result_let};
+ghost use Rattle.weld_joining.specs.Parts.{at_of, from_halves, result_at, result_let};
 
 use crate::both::{Both, both_of, loop_of_both};
 use crate::halves::{Half, Node, take_half};
@@ -13,7 +13,8 @@ use std::alloc::{AllocError, Global};
 use std::mem;
 use weld_tree::{Binder, Expr, Form, LeafForm, Place, Sym};
 
-/// Two neighbouring lets of results of loops become one loop and lets of the results of its fields.
+/// Two neighbouring lets of loops or of their results become one loop and lets of its fields or of
+/// their results.
 pub(crate) fn join(alloc: Global, e: &mut Expr) -> Result<(), AllocError>
     requires { is_pair e.old ≡ true }
     ensures { IfOk result (λ _. e.new ≡ joined_pair e.old) }
@@ -109,24 +110,24 @@ fn beside(
     })
 }
 
-/// The `let` of the first result.
+/// The `let` of the first field or of its result.
 fn first_let(
     alloc: Global,
     both: &Both,
     number: Sym,
     at: Node,
     binder: Binder,
-    finish: Node,
+    finish: Option<Node>,
     rest: Box<Expr>,
 ) -> Result<Box<Expr>, AllocError>
-    ensures { IfOk result (λ b. b.value ≡ result_let (at_of at) binder (at_of finish)
+    ensures { IfOk result (λ b. b.value ≡ result_let (at_of at) binder (result_at finish)
         (builder_field at.place both.now.all 0 both.now.first number.0) rest.value) }
 {
     let field = builder_field(alloc, at.place, &both.all, 0, &both.first, number)?;
     result_let(alloc, at, binder, finish, field, rest)
 }
 
-/// The `let` of the second result.
+/// The `let` of the second field or of its result.
 fn last_let(
     alloc: Global,
     place: Place,
@@ -134,10 +135,10 @@ fn last_let(
     number: Sym,
     at: Node,
     binder: Binder,
-    finish: Node,
+    finish: Option<Node>,
     rest: Box<Expr>,
 ) -> Result<Box<Expr>, AllocError>
-    ensures { IfOk result (λ b. b.value ≡ result_let (at_of at) binder (at_of finish)
+    ensures { IfOk result (λ b. b.value ≡ result_let (at_of at) binder (result_at finish)
         (builder_field place both.now.all 1 both.now.second number.0) rest.value) }
 {
     let field = builder_field(alloc, place, &both.all, 1, &both.second, number)?;

@@ -9,8 +9,8 @@ use weld_beside::laws::loops_may_run_side_by_side;
 use weld_pass::laws::rules_are_tests;
 use weld_substitution::laws::uses_are_free;
 
-/// What the rule answers is lighter than two neighbouring lets of results of loops over one name and
-/// may take their place; and where the rule is still, no two such lets stand.
+/// What the rule answers is lighter than two neighbouring lets of loops over one name or of their
+/// results and may take their place; and where the rule is still, no two such lets stand.
 pub fn loops_may_be_joined()
     ensures falls { Falls beside_rule }
     ensures sound { IsSound beside_rule }

@@ -1,15 +1,16 @@
-//! Two neighbouring lets of results of loops over one name.
+//! Two neighbouring lets of loops over one name or of their results.
 
-ghost use Rattle.std.specs.Prelude.{◌≡◌, option_map};
+ghost use Rattle.std.specs.Prelude.{◌≡◌, is_some, option_map};
 ghost use Rattle.weld_tree.specs.ExprTree.{pack_legs};
 ghost use Rattle.weld_tree.specs.ExprView.{view_leaf, view_leg};
-ghost use Rattle.weld_joining.specs.Joining.{are_beside, is_followed, is_new, is_pair, leg_name, loop_over, name_in, name_of, only_name, over, same_name};
+ghost use Rattle.weld_putting.specs.Redex.{noted};
+ghost use Rattle.weld_joining.specs.Joining.{are_beside, is_followed, is_known, is_pair, leg_name, loop_over, name_in, name_of, only_name, over, result_of, same_name};
 
 use weld_substitution::uses_of;
 use weld_tree::{Binder, Expr, Form, Known, LeafForm, Leg, Legs, OneForm, Sym, TyForm};
 
-/// Whether the expression is two neighbouring lets, each of the result of a loop over one name from
-/// one new builder, the second of which doesn't use the first's name. It takes no memory.
+/// Whether the expression is two neighbouring lets, each of a loop over one name or of its result,
+/// the second of which doesn't use the first's name. It takes no memory.
 pub(crate) fn is_pair(e: &Expr) -> bool
     ensures { result ≡ is_pair e.now }
 {
@@ -47,13 +48,13 @@ fn same_name(one: Option<Sym>, other: Option<Sym>) -> bool
     }
 }
 
-/// The name over which the loop runs, from one new builder, whose result the expression is.
+/// The name over which the loop runs that the expression is, or whose result it is.
 fn over(e: &Expr) -> Option<Sym>
     ensures { option_map (λ s. s.0) result ≡ over e.now }
 {
     match &e.form {
         Form::One(OneForm::Finish, part) => loop_over(part),
-        _ => None,
+        _ => loop_over(e),
     }
 }
 
@@ -61,17 +62,33 @@ fn loop_over(e: &Expr) -> Option<Sym>
     ensures { option_map (λ s. s.0) result ≡ loop_over e.now }
 {
     match &e.form {
-        Form::For(legs, start, _, _, _, _) => { if is_new(start) { only_name(legs) } else { None } }
+        Form::For(legs, start, _, _, _, _) => {
+            if is_noted(start) {
+                only_name(legs)
+            } else {
+                None
+            }
+        }
         _ => None,
     }
 }
 
-/// Whether it is one builder without a starting value.
-fn is_new(e: &Expr) -> bool
-    ensures { result ≡ is_new e.now }
+/// Whether its type is noted.
+fn is_noted(e: &Expr) -> bool
+    ensures { result ≡ is_known (noted e.now) }
+{
+    match &e.ty {
+        Known::Is(_) => true,
+        Known::Blank => false,
+    }
+}
+
+/// Whether it is a result.
+pub(crate) fn is_result(e: &Expr) -> bool
+    ensures { result ≡ is_some (result_of e.now) }
 {
     match &e.form {
-        Form::Leaf(LeafForm::Builder(_)) => true,
+        Form::One(OneForm::Finish, _) => true,
         _ => false,
     }
 }

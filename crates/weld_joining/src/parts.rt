@@ -1,13 +1,14 @@
 //! The parts of which the one loop is made.
 
 ghost use Rattle.std.specs.Prelude.{◌≡◌, IfOk};
-ghost use Rattle.weld_tree.specs.ExprTree.{leaf, name, pack_legs};
+ghost use Rattle.weld_tree.specs.ExprTree.{finish, leaf, name, one, pack_legs};
 ghost use Rattle.weld_tree.specs.TypeTree.{no_types, struct};
-ghost use Rattle.weld_tree.specs.ExprView.{view_leaf, view_leg};
+ghost use Rattle.weld_tree.specs.ExprView.{view_leg};
 ghost use Rattle.weld_types.specs.Tests.{is_within_limits};
-ghost use Rattle.weld_beside.specs.Beside.{bare, builder_field, node_of};
-ghost use Rattle.weld_joining.specs.Joining.{both_types, item_of, leaf_type, loop_type, new_type, start_type, types_after};
-ghost use Rattle.weld_joining.specs.Parts.{at_of, leg_item, legs_item, pair_at, result_let};
+ghost use Rattle.weld_putting.specs.Redex.{noted};
+ghost use Rattle.weld_beside.specs.Beside.{bare, builder_field, finish_at, node_of};
+ghost use Rattle.weld_joining.specs.Joining.{both_types, item_of, known_type, loop_type, start_type, types_after};
+ghost use Rattle.weld_joining.specs.Parts.{at_of, leg_item, legs_item, pair_at, result_at, result_let};
 
 use crate::halves::Node;
 use std::alloc::{AllocError, Global};
@@ -26,7 +27,7 @@ pub(crate) fn is_within_limits(ty: &Ty) -> bool
     ty.is_within_limits()
 }
 
-/// The struct of both builders, of two neighbouring lets of results of loops.
+/// The struct of what both start from, of two neighbouring lets of loops or of their results.
 pub(crate) fn both_types(alloc: Global, e: &Expr) -> Result<Ty, AllocError>
     ensures { IfOk result (λ t. t ≡ both_types e.now) }
 {
@@ -54,7 +55,7 @@ fn start_type(alloc: Global, e: &Expr) -> Result<Ty, AllocError>
 {
     match &e.form {
         Form::One(_, part) => loop_type(alloc, part),
-        _ => Ok(nothing(alloc)),
+        _ => loop_type(alloc, e),
     }
 }
 
@@ -62,27 +63,18 @@ fn loop_type(alloc: Global, e: &Expr) -> Result<Ty, AllocError>
     ensures { IfOk result (λ t. t ≡ loop_type e.now) }
 {
     match &e.form {
-        Form::For(_, start, _, _, _, _) => new_type(alloc, start),
+        Form::For(_, start, _, _, _, _) => noted_type(alloc, start),
         _ => Ok(nothing(alloc)),
     }
 }
 
-/// The type of a new builder.
-pub(crate) fn new_type(alloc: Global, e: &Expr) -> Result<Ty, AllocError>
-    ensures { IfOk result (λ t. t ≡ new_type e.now) }
+/// The type of the expression, as noted.
+pub(crate) fn noted_type(alloc: Global, e: &Expr) -> Result<Ty, AllocError>
+    ensures { IfOk result (λ t. t ≡ known_type (noted e.now)) }
 {
-    match &e.form {
-        Form::Leaf(leaf) => leaf_type(alloc, leaf),
-        _ => Ok(nothing(alloc)),
-    }
-}
-
-fn leaf_type(alloc: Global, leaf: &LeafForm) -> Result<Ty, AllocError>
-    ensures { IfOk result (λ t. t ≡ leaf_type (view_leaf leaf.now)) }
-{
-    match leaf {
-        LeafForm::Builder(build) => Ok(Ty::builder(build.copy(alloc)?)),
-        _ => Ok(nothing(alloc)),
+    match &e.ty {
+        Known::Is(ty) => ty.copy(alloc),
+        Known::Blank => Ok(nothing(alloc)),
     }
 }
 
@@ -193,27 +185,43 @@ pub(crate) fn pair_at(
     Ok(Box::new(alloc, pair)?)
 }
 
-/// A `let` of the result of the expression.
+/// A `let` of the expression or of its result.
 pub(crate) fn result_let(
     alloc: Global,
     at: Node,
     binder: Binder,
-    finish: Node,
+    finish: Option<Node>,
     e: Box<Expr>,
     body: Box<Expr>,
 ) -> Result<Box<Expr>, AllocError>
-    ensures { IfOk result (λ b. b.value ≡ result_let (at_of at) binder (at_of finish) e.value body.value) }
+    ensures { IfOk result (λ b. b.value ≡ result_let (at_of at) binder (result_at finish) e.value body.value) }
 {
-    let value = Expr {
-        form: Form::One(OneForm::Finish, e),
-        place: finish.place,
-        ty: finish.ty,
-    };
-    let value = Box::new(alloc, value)?;
+    let value = finish_at(alloc, finish, e)?;
     let rest = Expr {
         form: Form::Let(binder, value, body),
         place: at.place,
         ty: at.ty,
     };
     Ok(Box::new(alloc, rest)?)
+}
+
+/// The expression or its result.
+fn finish_at(alloc: Global, finish: Option<Node>, e: Box<Expr>) -> Result<Box<Expr>, AllocError>
+    ensures { IfOk result (λ b. b.value ≡ finish_at (result_at finish) e.value) }
+{
+    match finish {
+        Some(node) => result_of(alloc, node, e),
+        None => Ok(e),
+    }
+}
+
+fn result_of(alloc: Global, node: Node, e: Box<Expr>) -> Result<Box<Expr>, AllocError>
+    ensures { IfOk result (λ b. b.value ≡ one (at_of node) finish e.value) }
+{
+    let value = Expr {
+        form: Form::One(OneForm::Finish, e),
+        place: node.place,
+        ty: node.ty,
+    };
+    Ok(Box::new(alloc, value)?)
 }

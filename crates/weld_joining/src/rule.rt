@@ -7,8 +7,8 @@ use std::alloc::{AllocError, Global};
 use weld_sweep::Rule;
 use weld_tree::Expr;
 
-/// Two neighbouring lets of results of loops over one name become one loop and lets of the results
-/// of its fields.
+/// Two neighbouring lets of loops over one name, or of their results, become one loop and lets of its
+/// fields or of their results.
 #[derive(Clone, Copy)]
 pub struct Beside;
 

@@ -1,5 +1,4 @@
 ghost use Rattle.std.specs.Prelude.{◌≡◌};
-ghost use Rattle.weld_meaning.specs.Accepted.{IsAccepted};
 ghost use Rattle.weld_passes.specs.Normal.{IsNormal};
 
 use std::marker::Model;
@@ -31,7 +30,6 @@ impl Normal {
     /// The program, which is accepted and in normal form. It takes no memory.
     pub fn accepted(&self) -> &Accepted
         ensures same { result.now ≡ self.now }
-        ensures accepted { IsAccepted self.now }
         ensures normal { IsNormal self.now }
     {
         &self.program

@@ -13,26 +13,26 @@ ghost use Rattle.weld_passes.specs.Normal.{all_rules, optimised_body, IsOptimise
 
 use crate::laws::{all_rules_may_be_tried, bodies_are_rewritten};
 use crate::normal::Normal;
+use crate::spare_legs::SpareLegs;
 use std::alloc::{AllocError, Global};
 use weld_horizontal::Doubles;
 use weld_inline::Lets;
 use weld_joining::Beside;
 use weld_meaning::Accepted;
-use weld_pass::{Either, Followed};
+use weld_pass::Either;
 use weld_predicate::Guards;
 use weld_reads_back::laws::{printed_programs_read_back, texts_spell_the_spellable};
 use weld_replacing::laws::{rewritten_programs, tidiness_is_kept};
 use weld_rounds::sweep_until_still;
 use weld_tree::{Expr, Program};
 use weld_vertical::{Loops, fuse_chain};
-use weld_vertical_zip::Zips;
 
 /// The program in normal form (the Weld papers, as far as this project goes): no `let` stands in it
 /// that can be put in place, no guarded merge that can be merged always, no loop over what another
 /// loop makes row by row, no such list on a leg of a `zip`, no leg that stands twice in one loop, and no
-/// two neighbouring lets of results of loops over one name. It means the same on all arguments that
-/// fit, faults included, and has no more legs and loops; where it was a chain of loops, each but the
-/// first is gone; and where some text spelled it, noted types apart, its printed text spells it. It
+/// two neighbouring lets of loops over one name or of their results. It means the same on all arguments
+/// that fit, faults included, and has no more legs and loops; where it was a chain of loops, each but
+/// the first is gone; and where some text spelled it, noted types apart, its printed text spells it. It
 /// asks for a program whose nodes have their types noted, as the checker leaves it. It fails for want
 /// of memory alone, and the program is spent then.
 pub fn optimise(alloc: Global, p: Accepted) -> Result<Normal, AllocError>
@@ -67,13 +67,8 @@ fn optimise_body(alloc: Global, body: &mut Expr) -> Result<(), AllocError>
 {
     all_rules_may_be_tried();
     fuse_chain(alloc, body)?;
-    let spare_legs = Followed {
-        first: &Zips,
-        second: &Doubles,
-        times: 16,
-    };
     let over_one = Either {
-        first: &spare_legs,
+        first: &SpareLegs,
         second: &Beside,
     };
     let of_legs = Either {

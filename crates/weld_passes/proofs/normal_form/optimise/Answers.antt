@@ -15,8 +15,8 @@ invariant_of-program c =
     (c.program.view_is ∙ c.p.view_is) in
     c.rewritten_programs.ensures.program q c.args.p done.rewrites (subst (λ (p : ProgramTree). IsProgram p.params p.body) (c.program.view_is ∙ c.p.view_is) c.program.invariant)
 
-pub invariant_of-result : goal.invariant_of-result
-invariant_of-result c =
+pub invariant_of-program-2 : goal.invariant_of-program-2
+invariant_of-program-2 c =
     let q : ProgramTree = record { params = c.program.inside.params; body = c.optimise_body.new.body } in
     let body = c.in_ok-optimise_body.ensures.optimised in
     let done : Rewritten q c.args.p =
@@ -25,6 +25,10 @@ invariant_of-result c =
     (c.program.view_is ∙ c.p.view_is) in
     let accepted : IsAccepted c.args.p = subst IsAccepted c.p.view_is c.p.invariant in
     c.rewritten_programs.ensures.accepted q c.args.p done.rewrites accepted c.requires
+
+pub invariant_of-result : goal.invariant_of-result
+invariant_of-result c =
+    c.all_rules_may_be_tried.ensures.normal (record { params = c.program.inside.params; body = c.optimise_body.new.body }) c.in_ok-optimise_body.ensures.still
 
 pub returns : goal.returns
 returns c =
