@@ -1,12 +1,13 @@
-//! Pieces read side by side, and joined in their order.
+//! Pieces of scalars, read side by side and joined in their order.
 
 ghost use Rattle.std.specs.Prelude.{◌≡◌, ◌++◌, ◌<◌, List, ℕ, true, length, map, IfOk, IfSome};
 ghost use Rattle.std.specs.List.{AllZip};
 ghost use Rattle.weld_data.specs.Value.{Value};
+ghost use Rattle.weld_tree.specs.TypeTree.{scalar};
 ghost use Rattle.weld_read_pieces.specs.Cuts.{with_commas};
-ghost use Rattle.weld_read_pieces.specs.Joined.{AreScalars, ArePieces};
+ghost use Rattle.weld_read_pieces.specs.Joined.{AreValues, ArePieces};
 
-use crate::cutting::cut_pieces;
+use crate::cutting::{CutAt, cut_pieces};
 use rayon::prelude::*;
 use std::alloc::{AllocError, Global};
 use std::thread::Threads;
@@ -20,14 +21,14 @@ fn read_pieces<T: Cell + Send>(
     alloc: Global,
     pieces: &[&[u8]],
 ) -> Result<Vec<Result<Option<Items<T>>, AllocError>>, AllocError>
-    ensures { IfOk result (λ answers. AllZip (λ piece answer. IfOk answer (λ found. IfSome found (λ items. AreScalars T.kind piece.now (map T.value items)))) pieces.now answers.items) }
+    ensures { IfOk result (λ answers. AllZip (λ piece answer. IfOk answer (λ found. IfSome found (λ items. AreValues (scalar T.kind) piece.now (map T.value items)))) pieces.now answers.items) }
 {
     pieces
         .par_iter()
         .with_min_len(1)
         .map(
             |piece: &&[u8]| -> Result<Option<Items<T>>, AllocError>
-                ensures { IfOk result (λ found. IfSome found (λ items. AreScalars T.kind piece.now.now (map T.value items))) }
+                ensures { IfOk result (λ found. IfSome found (λ items. AreValues (scalar T.kind) piece.now.now (map T.value items))) }
             { read_piece::<T>(alloc, piece) },
         )
         .collect(rt, alloc)
@@ -38,8 +39,8 @@ fn join_one<T: Cell>(
     answer: Result<Option<Items<T>>, AllocError>,
     items: &mut Items<T>,
 ) -> Result<bool, AllocError>
-    ensures { (piece : List ℕ) → IfOk answer (λ found. IfSome found (λ more. AreScalars T.kind piece (map T.value more)))
-        → IfOk result (λ was_read. was_read ≡ true → (us : List Value) × (map T.value items.new ≡ map T.value items.old ++ us) × AreScalars T.kind piece us) }
+    ensures { (piece : List ℕ) → IfOk answer (λ found. IfSome found (λ more. AreValues (scalar T.kind) piece (map T.value more)))
+        → IfOk result (λ was_read. was_read ≡ true → (us : List Value) × (map T.value items.new ≡ map T.value items.old ++ us) × AreValues (scalar T.kind) piece us) }
 {
     let Some(more) = answer? else {
         return Ok(false);
@@ -58,8 +59,8 @@ fn join_all<T: Cell>(
     pieces: &[&[u8]],
     answers: Vec<Result<Option<Items<T>>, AllocError>>,
 ) -> Result<Option<Items<T>>, AllocError>
-    requires { AllZip (λ piece answer. IfOk answer (λ found. IfSome found (λ items. AreScalars T.kind piece.now (map T.value items)))) pieces.now answers.items }
-    ensures { IfOk result (λ found. IfSome found (λ items. ArePieces T.kind (map (λ p. p.now) pieces.now) (map T.value items))) }
+    requires { AllZip (λ piece answer. IfOk answer (λ found. IfSome found (λ items. AreValues (scalar T.kind) piece.now (map T.value items)))) pieces.now answers.items }
+    ensures { IfOk result (λ found. IfSome found (λ items. ArePieces (scalar T.kind) (map (λ p. p.now) pieces.now) (map T.value items))) }
 {
     let _pieces = pieces;
     let mut items = Items::new(alloc);
@@ -80,10 +81,10 @@ pub(crate) fn read_joined<T: Cell + Send>(
     workers: u32,
 ) -> Result<Option<Items<T>>, AllocError>
     requires { 0 < workers }
-    ensures { IfOk result (λ found. IfSome found (λ items. AreScalars T.kind text.now (map T.value items))) }
+    ensures { IfOk result (λ found. IfSome found (λ items. AreValues (scalar T.kind) text.now (map T.value items))) }
 {
     scalars_join_at_commas();
-    let pieces = cut_pieces(alloc, text, text.len() / workers as usize)?;
+    let pieces = cut_pieces(alloc, text, text.len() / workers as usize, CutAt::Comma)?;
     let answers = read_pieces::<T>(rt, alloc, pieces.as_slice())?;
     join_all(alloc, pieces.as_slice(), answers)
 }

@@ -6,15 +6,19 @@ ghost use Rattle.weld_tree.specs.TypeTree.{scalar, vec};
 ghost use Rattle.weld_fits.specs.HasValue.{HasValue};
 ghost use Rattle.weld_values.specs.Reading.{ReadsAs, WhyNot};
 ghost use Rattle.weld_values.specs.Judging.{IsReadable};
-ghost use Rattle.weld_read_pieces.specs.Joined.{AreScalars};
+ghost use Rattle.weld_read_pieces.specs.Joined.{AreValues};
 
 use crate::joining::read_joined;
+use crate::structs::read_structs;
 use std::alloc::{AllocError, Global};
 use std::thread::Threads;
 use weld_data::{Column, Kind, Val};
 use weld_tree::{Ty, TyForm};
-use weld_values::laws::{read_values_have_the_type, scalars_in_brackets_read_as_lists};
-use weld_values::{DataFault, inside_brackets};
+use weld_values::laws::{
+    flat_values_in_brackets_read_as_lists, read_values_have_the_type,
+    scalars_in_brackets_read_as_lists,
+};
+use weld_values::{DataFault, inside_brackets, is_struct_of_scalars};
 
 /// Shorter texts are read by one thread, since starting others takes longer than reading.
 const SHORT: usize = 262_144;
@@ -28,7 +32,7 @@ fn read_column(
     workers: u32,
 ) -> Result<Option<Column>, AllocError>
     requires { 0 < workers }
-    ensures { IfOk result (λ found. IfSome found (λ column. AreScalars kind text.now (view_column column))) }
+    ensures { IfOk result (λ found. IfSome found (λ column. AreValues (scalar kind) text.now (view_column column))) }
 {
     match kind {
         Kind::Bool => Ok(match read_joined::<bool>(rt, alloc, text, workers)? {
@@ -54,7 +58,31 @@ fn read_column(
     }
 }
 
-/// The value of the type that the content is, if it is a long list of scalars.
+/// The list of structs of scalars of this type that the content is, if it is one.
+fn read_struct_list(
+    rt: &(impl Threads + Sync),
+    alloc: Global,
+    content: &[u8],
+    item: &Ty,
+    workers: u32,
+) -> Result<Option<Val>, AllocError>
+    requires { 0 < workers }
+    ensures { IfOk result (λ found. IfSome found (λ v. ReadsAs content.now (vec item.now) (view_val v))) }
+{
+    flat_values_in_brackets_read_as_lists();
+    if !is_struct_of_scalars(item) {
+        return Ok(None);
+    }
+    let Some(body) = inside_brackets(content) else {
+        return Ok(None);
+    };
+    match read_structs(rt, alloc, body, item, workers)? {
+        Some(items) => Ok(Some(Val::List(Column::Nest(items)))),
+        None => Ok(None),
+    }
+}
+
+/// The value of the type that the content is, if it is a list of scalars or of structs of them.
 fn read_list(
     rt: &(impl Threads + Sync),
     alloc: Global,
@@ -70,7 +98,7 @@ fn read_list(
         return Ok(None);
     };
     let TyForm::Scalar(kind) = &item.form else {
-        return Ok(None);
+        return read_struct_list(rt, alloc, content, item, workers);
     };
     let Some(body) = inside_brackets(content) else {
         return Ok(None);
@@ -82,7 +110,7 @@ fn read_list(
 }
 
 /// The content of a data block as a value of the type, or why it is none, as `weld_values::read_value` tells it. A long list
-/// of scalars is read in pieces, as many as there are workers, each by a thread where one is free. What isn't in form or in
+/// of scalars, or of structs of scalars, is read in pieces, as many as there are workers, each by a thread where one is free. What isn't in form or in
 /// range is read again from its beginning, so that the reason is the first there.
 pub fn read_value(
     rt: &(impl Threads + Sync),
