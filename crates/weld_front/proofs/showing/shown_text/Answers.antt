@@ -8,7 +8,7 @@ returns c = λ text s t same.
     record {
       shown = c.in_ok-optimised.optimised;
       optimised = c.in_ok-optimised.ensures.optimised;
-      told = c.in_ok-push.ensures.ok ∙ ap (λ (x : List ℕ). x ++ 10 ∷ []) (c.in_ok-text.ensures ∙ ap program_text c.program.ensures.same);
+      told = c.in_ok-push.ensures.ok ∙ ap (λ (x : List ℕ). x ++ 10 ∷ []) (c.in_ok-text.ensures ∙ ap program_text (c.program.ensures.same ∙ c.accepted.ensures.same));
       read = read.0;
       spelled = read.1;
       same = read.2;
