@@ -1,5 +1,5 @@
 -- Rows of a struct of builders, field by field.
-use Rattle.std.proofs.Common.{◌≡◌, ℕ, zero, suc, ◌<◌, Box, Global, Result, Ok, Err, refl, sym, ap, subst, ◌∙◌, arith}
+use Rattle.std.proofs.Common.{◌≡◌, ℕ, zero, suc, ◌+◌, ◌<◌, Box, Global, Result, Ok, Err, refl, sym, ap, subst, ◌∙◌, arith}
 use Rattle.weld_data.specs.declared.stop.Stop.{Stop}
 use Rattle.weld_data.specs.declared.stop.Stop.TheVariants.{Fault, Memory}
 use Rattle.weld_builders.specs.Outcome.{Outcome, done, fault, and_then, map_out}
@@ -20,25 +20,26 @@ use Rattle.weld_blocks.proofs.ManyPuts.{put_done}
 abbrev Shell : Type 0
 Shell = Box (Unit {0}) Global
 
-calm_done : (d : Deed) (j : ℕ) (s : Thing) → IsCalm d → DeedFits d j s → (t : Thing) × (do_of d j s ≡ done t)
-calm_done deed.Nothing j s calm h = (s, refl)
-calm_done (deed.Number c) j (plain v) calm h = absurd h.1
-calm_done (deed.Number c) j (building p) calm h = let q = put_done p _ _ h.1 in (building q.0, ap (map_out building) q.1)
-calm_done (deed.Number c) j (several ts) calm h = absurd h.1
-calm_done (deed.Pair c d) j s calm h = absurd calm
-calm_done (deed.Choice' c a d b e) j s calm h = absurd calm
-calm_done (deed.Fields ds) j s calm h = absurd calm
-
 -- one row of the fields
 row_done : (a b : Shell) (d : Deed) (ds : Deeds) (j : ℕ) (s t : Thing) (rest ts : Things) → do_of d j s ≡ done t → do_all ds j rest ≡ done ts → do_all (deeds.And' a d b ds) j (more_things s rest) ≡ done (more_things t ts)
 row_done a b d ds j s t rest ts p q = ap (λ o. and_then o (λ u. map_out (more_things u) (do_all ds j rest))) p ∙ ap (map_out (more_things t)) q
 
-calm_all : (ds : Deeds) (j : ℕ) (ss : Things) → AreCalm ds → DeedsFit ds j ss → (ts : Things) × (do_all ds j ss ≡ done ts)
-calm_all deeds.End j ss calm h = (no_things, refl)
-calm_all (deeds.And' a d b ds) j ss calm h =
-    let t = calm_done d j (first_of ss) calm.0 h.1 in
-    let ts = calm_all ds j (rest_of ss) calm.1 h.2 in
-    (more_things t.0 ts.0, ap (λ o. and_then o (λ u. map_out (more_things u) (do_all ds j (rest_of ss)))) t.1 ∙ ap (map_out (more_things t.0)) ts.1)
+mutual
+  calm_done : (d : Deed) (j : ℕ) (s : Thing) → IsCalm d → DeedFits d j s → (t : Thing) × (do_of d j s ≡ done t)
+  calm_done deed.Nothing j s calm h = (s, refl)
+  calm_done (deed.Number c) j (plain v) calm h = absurd h.1
+  calm_done (deed.Number c) j (building p) calm h = let q = put_done p _ _ h.1 in (building q.0, ap (map_out building) q.1)
+  calm_done (deed.Number c) j (several ts) calm h = absurd h.1
+  calm_done (deed.Pair c d) j s calm h = absurd calm
+  calm_done (deed.Choice' c a d b e) j s calm h = absurd calm
+  calm_done (deed.Fields ds) j s calm h = let ts = calm_all ds j (fields_of s) calm h.1 in (several ts.0, ap (map_out several) ts.1)
+
+  calm_all : (ds : Deeds) (j : ℕ) (ss : Things) → AreCalm ds → DeedsFit ds j ss → (ts : Things) × (do_all ds j ss ≡ done ts)
+  calm_all deeds.End j ss calm h = (no_things, refl)
+  calm_all (deeds.And' a d b ds) j ss calm h =
+      let t = calm_done d j (first_of ss) calm.0 h.1 in
+      let ts = calm_all ds j (rest_of ss) calm.1 h.2 in
+      (more_things t.0 ts.0, ap (λ o. and_then o (λ u. map_out (more_things u) (do_all ds j (rest_of ss)))) t.1 ∙ ap (map_out (more_things t.0)) ts.1)
 
 -- all rows of the first field, and then all of the others
 pub record Splits (d : Deed) (ds : Deeds) (whole : Outcome Things) (j n : ℕ) (s : Thing) (rest : Things) : Type 0 where
@@ -163,19 +164,36 @@ struct_does (Err Memory) ds n ss us calm h q = tt
 
 -- ---- the same over what the code has at hand
 
--- how many fields there are
-abbrev pub fields_count : Deeds → ℕ
-fields_count deeds.End = 0
-fields_count (deeds.And' a d b ds) = suc (fields_count ds)
+-- how many fields there are, at any depth
+abbrev mutual
+  pub fields_within : Deed → ℕ
+  fields_within deed.Nothing = 0
+  fields_within (deed.Number c) = 0
+  fields_within (deed.Pair c d) = 0
+  fields_within (deed.Choice' c a d b e) = 0
+  fields_within (deed.Fields ds) = suc (fields_count ds)
+
+  pub fields_count : Deeds → ℕ
+  fields_count deeds.End = 0
+  fields_count (deeds.And' a d b ds) = suc (fields_within d + fields_count ds)
 
 pub fewer : (x : Deeds) (a b : Shell) (d : Deed) (ds es : Deeds) → x ≡ deeds.And' a d b ds → es ≡ ds → fields_count es < fields_count x
 fewer x a b d ds es is same = omega (arith, ap fields_count is, ap fields_count same)
+
+pub fewer_within : (x : Deeds) (a b : Shell) (d e : Deed) (ds : Deeds) → x ≡ deeds.And' a d b ds → e ≡ d → fields_within e < fields_count x
+fewer_within x a b d e ds is same = omega (arith, ap fields_count is, ap fields_within same)
+
+pub fewer_fields : (x : Deed) (ds : Deeds) → x ≡ deed.Fields ds → fields_count ds < fields_within x
+fewer_fields x ds is = omega (arith, ap fields_within is)
 
 pub first_ready : (x : Deeds) (a b : Shell) (d e : Deed) (ds : Deeds) (n : ℕ) (ss : Things) (s t : Thing) (rest : Things) → x ≡ deeds.And' a d b ds → ss ≡ more_things s rest → e ≡ d → t ≡ s → AreCalm x → FitFields x n ss → FitsThrough (do_of e) (DeedFits e) 0 n t
 first_ready x a b d e ds n ss s t rest is shape same at calm h =
     let k : AreCalm (deeds.And' a d b ds) = subst AreCalm is calm in
     let f : FitsThrough (do_of d) (DeedFits d) 0 n s = first_fits a b d ds n ss s rest shape k.0 k.1 (subst (λ y. FitFields y n ss) is h) in
     subst (λ (y : Deed). FitsThrough (do_of y) (DeedFits y) 0 n t) (sym same) (subst (FitsThrough (do_of d) (DeedFits d) 0 n) (sym at) f)
+
+pub first_calm : (x : Deeds) (a b : Shell) (d e : Deed) (ds : Deeds) → x ≡ deeds.And' a d b ds → e ≡ d → AreCalm x → IsCalm e
+first_calm x a b d e ds is same calm = let k : AreCalm (deeds.And' a d b ds) = subst AreCalm is calm in subst IsCalm (sym same) k.0
 
 pub others_ready : (x : Deeds) (a b : Shell) (d : Deed) (ds es : Deeds) (n : ℕ) (ss : Things) (s : Thing) (rest us : Things) → x ≡ deeds.And' a d b ds → ss ≡ more_things s rest → es ≡ ds → us ≡ rest → AreCalm x → FitFields x n ss → AreCalm es × FitFields es n us
 others_ready x a b d ds es n ss s rest us is shape same at calm h =

@@ -4,15 +4,16 @@ use Rattle.weld_blocks.specs.declared.deed.Deed as deed
 use Rattle.weld_blocks.specs.declared.deed.Deeds.{Deeds}
 use Rattle.weld_blocks.specs.declared.deed.Deeds as deeds
 
--- nothing is done, or a number is merged into a list or a total
-abbrev pub IsCalm : Deed → Type 0
-IsCalm deed.Nothing = Unit {0}
-IsCalm (deed.Number c) = Unit {0}
-IsCalm (deed.Pair c d) = ⊥
-IsCalm (deed.Choice' c a d b e) = ⊥
-IsCalm (deed.Fields ds) = ⊥
+abbrev mutual
+  -- nothing is done, or a number is merged into a list or a total, or such is done to each field of a struct of builders
+  pub IsCalm : Deed → Type 0
+  IsCalm deed.Nothing = Unit {0}
+  IsCalm (deed.Number c) = Unit {0}
+  IsCalm (deed.Pair c d) = ⊥
+  IsCalm (deed.Choice' c a d b e) = ⊥
+  IsCalm (deed.Fields ds) = AreCalm ds
 
--- the same of each field
-abbrev pub AreCalm : Deeds → Type 0
-AreCalm deeds.End = Unit {0}
-AreCalm (deeds.And' a d b ds) = IsCalm d × AreCalm ds
+  -- the same of each field
+  pub AreCalm : Deeds → Type 0
+  AreCalm deeds.End = Unit {0}
+  AreCalm (deeds.And' a d b ds) = IsCalm d × AreCalm ds

@@ -57,6 +57,7 @@ fn do_struct(deed: &Deed, deeds: &Deeds, count: usize, builder: &mut Owned) -> R
 }
 
 /// The same of its fields, one after another.
+#[cycle(fields)]
 fn do_fields(deeds: &Deeds, count: usize, fields: &mut Fields) -> Result<(), Stop>
     requires some { 0 < count }
     requires calm { AreCalm deeds.now }
@@ -75,9 +76,11 @@ fn do_fields(deeds: &Deeds, count: usize, fields: &mut Fields) -> Result<(), Sto
     }
 }
 
-/// The same of a builder, nothing that is done being able to fault.
+/// The same of a builder, or of a struct of such, nothing that is done being able to fault.
+#[cycle(fields)]
 #[tactic(auto, using(crate::proofs::ThroughLemmas::nothing_through))]
 fn do_calm(deed: &Deed, count: usize, builder: &mut Owned) -> Result<(), Stop>
+    requires some { 0 < count }
     requires calm { IsCalm deed.now }
     requires fits { FitsThrough (do_of deed.now) (DeedFits deed.now) 0 count (thing_of builder.old) }
     ensures { Acts result (done_through (do_of deed.now) 0 count (thing_of builder.old)) (thing_of builder.new) }
@@ -85,11 +88,16 @@ fn do_calm(deed: &Deed, count: usize, builder: &mut Owned) -> Result<(), Stop>
     match deed {
         Deed::Nothing => Ok(()),
         Deed::Number(numbers) => put_numbers(numbers, count, builder),
+        Deed::Fields(deeds) => match builder {
+            Owned::Several(fields) => do_fields(deeds, count, fields),
+            _ => unreachable!(),
+        },
         _ => unreachable!(),
     }
 }
 
 /// Whether nothing that is done to any field can fault.
+#[cycle(calm)]
 fn are_calm(deeds: &Deeds) -> bool
     ensures { result ≡ true → AreCalm deeds.now }
 {
@@ -100,11 +108,13 @@ fn are_calm(deeds: &Deeds) -> bool
 }
 
 /// Whether nothing that is done can fault.
+#[cycle(calm)]
 fn is_calm(deed: &Deed) -> bool
     ensures { result ≡ true → IsCalm deed.now }
 {
     match deed {
         Deed::Nothing | Deed::Number(_) => true,
+        Deed::Fields(deeds) => are_calm(deeds),
         _ => false,
     }
 }
