@@ -33,7 +33,7 @@ fn read_words(rt: &(impl Env + AllocGlobal)) -> Result<Vec<String>, AllocError> 
 const STACK: usize = 256 << 20;
 
 /// The bytes with which the heap of the job's thread begins. Only what is used of them takes memory.
-const ROOM: usize = 24 << 20;
+const ROOM: usize = 4 << 20;
 
 /// Asks for so many bytes, and gives them back.
 fn borrow(alloc: Global, size: usize) {
