@@ -1,7 +1,7 @@
 //! The program `weld`: it hands its words, standard input and standard output to `weld_main`.
 #![tactic(auto)]
 
-use std::alloc::{AllocError, Global};
+use std::alloc::AllocError;
 use std::env;
 use std::io::{self, ErrorKind, Input, Print};
 use std::process::ExitCode;
@@ -32,25 +32,8 @@ fn read_words(rt: &(impl Env + AllocGlobal)) -> Result<Vec<String>, AllocError> 
 /// memory.
 const STACK: usize = 256 << 20;
 
-/// The bytes with which the heap of the job's thread begins. Only what is used of them takes memory.
-const ROOM: usize = 4 << 20;
-
-/// Asks for so many bytes, and gives them back.
-fn borrow(alloc: Global, size: usize) {
-    let _bytes: Result<Vec<u8>, AllocError> = Vec::with_capacity(alloc, size);
-}
-
-/// Gives the heap of a thread its room, where there is so much memory. A thread's heap grows page by page, with a call of the
-/// system for each. A size that is given back is no longer mapped by itself when it is asked for again: so the second of these comes
-/// from the heap, and stays with it.
-fn make_room(alloc: Global) {
-    borrow(alloc, ROOM + ROOM / 4);
-    borrow(alloc, ROOM);
-}
-
 /// The status of the job that the words and the standard input are.
 fn answer<R: Threads + Sync + Env + Input + Print + AllocGlobal>(rt: &R) -> Status {
-    make_room(rt.alloc());
     let mut input = StdinSource::new(rt.reader());
     let mut output = StdoutSink::new(io::writer(rt));
     match read_words(rt) {
