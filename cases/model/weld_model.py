@@ -9,7 +9,10 @@ evaluates with Python's whole numbers, lists and dicts. The answers of most case
 import re
 import sys
 
-KINDS = {"bool": (0, 1), "i8": (-2**7, 2**7 - 1), "u8": (0, 2**8 - 1), "i32": (-2**31, 2**31 - 1), "i64": (-2**63, 2**63 - 1)}
+KINDS = {"bool": (0, 1)}
+for bits in (8, 16, 32, 64):
+    KINDS[f"i{bits}"] = (-2**(bits - 1), 2**(bits - 1) - 1)
+    KINDS[f"u{bits}"] = (0, 2**bits - 1)
 TOKEN = re.compile(
     rb"(?P<skip>[ \t\r\n]+|#[^\n]*)|(?P<word>[A-Za-z_][A-Za-z_0-9]*)|(?P<number>[0-9]+L?)|(?P<field>\$[0-9]{1,9})"
     rb'|(?P<string>"(?:[\x20-\x21\x23-\x5b\x5d-\x7e]|\\["\\nt]|\\x[0-9A-Fa-f]{2})*")|(?P<symbol>\|\||&&|==|!=|<=|>=|[()\[\]{},;:.|!=<>+\-*/%])')
@@ -411,7 +414,7 @@ def read_program(text):
 # ---- types
 
 BUILDER_FORMS = ("list", "total", "cells", "keyed", "groups")
-INTEGERS = ("i8", "u8", "i32", "i64")
+INTEGERS = tuple(kind for kind in KINDS if kind != "bool")
 
 
 def is_one_builder(ty):
@@ -439,6 +442,8 @@ def is_well_formed(ty):
         return is_well_formed(ty[1]) and is_free(ty[1])
     if ty[0] in ("dict", "groups"):
         return is_key(ty[1]) and is_well_formed(ty[2]) and is_free(ty[2])
+    if ty[0] == "total" and not isinstance(ty[1], str):
+        return ty[1][0] == "struct" and all(field in INTEGERS for field in ty[1][1] if isinstance(field, str)) and all(isinstance(field, str) for field in ty[1][1])
     if ty[0] in ("total", "cells"):
         return ty[1] in INTEGERS
     if ty[0] == "keyed":
@@ -724,10 +729,14 @@ def frozen(value):
 
 
 def combined(op, kind, x, y):
+    if not isinstance(kind, str):
+        return [combined(op, field, a, b) for field, a, b in zip(kind[1], x, y)]
     return {"+": lambda: wrap(kind, x + y), "*": lambda: wrap(kind, x * y), "min": lambda: min(x, y), "max": lambda: max(x, y)}[op]()
 
 
 def neutral(op, kind):
+    if not isinstance(kind, str):
+        return [neutral(op, field) for field in kind[1]]
     return {"+": 0, "*": 1, "min": KINDS[kind][1], "max": KINDS[kind][0]}[op]
 
 

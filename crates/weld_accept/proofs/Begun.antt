@@ -44,9 +44,13 @@ or_right_first false b c h = h
 
 int_kind : (x : Class) → starts r.IntKind x ≡ true → part_begins (body r.IntKind) x ≡ true
 int_kind (classes.Reserved w.I8) h = refl
-int_kind (classes.Reserved w.U8) h = refl
+int_kind (classes.Reserved w.I16) h = refl
 int_kind (classes.Reserved w.I32) h = refl
 int_kind (classes.Reserved w.I64) h = refl
+int_kind (classes.Reserved w.U8) h = refl
+int_kind (classes.Reserved w.U16) h = refl
+int_kind (classes.Reserved w.U32) h = refl
+int_kind (classes.Reserved w.U64) h = refl
 int_kind _ h = absurd (false≢true h)
 
 build : (x : Class) → starts r.Build x ≡ true → part_begins (body r.Build) x ≡ true
@@ -80,9 +84,13 @@ primary (classes.Reserved w.Result) h = refl
 primary (classes.Reserved w.For) h = refl
 primary (classes.Reserved w.Iterate) h = refl
 primary (classes.Reserved w.I8) h = refl
-primary (classes.Reserved w.U8) h = refl
+primary (classes.Reserved w.I16) h = refl
 primary (classes.Reserved w.I32) h = refl
 primary (classes.Reserved w.I64) h = refl
+primary (classes.Reserved w.U8) h = refl
+primary (classes.Reserved w.U16) h = refl
+primary (classes.Reserved w.U32) h = refl
+primary (classes.Reserved w.U64) h = refl
 primary (classes.Reserved w.Vecbuilder) h = refl
 primary (classes.Reserved w.Appender) h = refl
 primary (classes.Reserved w.Merger) h = refl
@@ -98,9 +106,13 @@ any_type (classes.Reserved w.Bool) h = refl
 any_type (classes.Reserved w.Vec) h = refl
 any_type (classes.Reserved w.Dict) h = refl
 any_type (classes.Reserved w.I8) h = refl
-any_type (classes.Reserved w.U8) h = refl
+any_type (classes.Reserved w.I16) h = refl
 any_type (classes.Reserved w.I32) h = refl
 any_type (classes.Reserved w.I64) h = refl
+any_type (classes.Reserved w.U8) h = refl
+any_type (classes.Reserved w.U16) h = refl
+any_type (classes.Reserved w.U32) h = refl
+any_type (classes.Reserved w.U64) h = refl
 any_type (classes.Reserved w.Vecbuilder) h = refl
 any_type (classes.Reserved w.Appender) h = refl
 any_type (classes.Reserved w.Merger) h = refl

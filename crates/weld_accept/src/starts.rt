@@ -11,7 +11,16 @@ fn starts_int_kind(class: Class) -> bool
     ensures { result ≡ int_kind_class class }
 {
     match class {
-        Class::Reserved(Reserved::I8 | Reserved::U8 | Reserved::I32 | Reserved::I64) => true,
+        Class::Reserved(
+            Reserved::I8
+            | Reserved::I16
+            | Reserved::I32
+            | Reserved::I64
+            | Reserved::U8
+            | Reserved::U16
+            | Reserved::U32
+            | Reserved::U64,
+        ) => true,
         _ => false,
     }
 }

@@ -502,11 +502,15 @@ static KIND: [Item; 2] = [
     Item::Part(Rule::IntKind),
 ];
 
-static INT_KIND: [Item; 4] = [
+static INT_KIND: [Item; 8] = [
     Item::One(Terminal::Fixed(Reserved::I8)),
-    Item::One(Terminal::Fixed(Reserved::U8)),
+    Item::One(Terminal::Fixed(Reserved::I16)),
     Item::One(Terminal::Fixed(Reserved::I32)),
     Item::One(Terminal::Fixed(Reserved::I64)),
+    Item::One(Terminal::Fixed(Reserved::U8)),
+    Item::One(Terminal::Fixed(Reserved::U16)),
+    Item::One(Terminal::Fixed(Reserved::U32)),
+    Item::One(Terminal::Fixed(Reserved::U64)),
 ];
 
 /// What the rule stands for.

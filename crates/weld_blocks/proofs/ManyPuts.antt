@@ -6,7 +6,7 @@ use Rattle.weld_data.specs.declared.kind.Kind.{Kind}
 use Rattle.weld_data.specs.Kind.{InRange}
 use Rattle.weld_data.specs.Value.{Value, number}
 use Rattle.weld_builders.specs.Outcome.{Outcome, done, fault, stuck, and_then, map_out}
-use Rattle.weld_builders.specs.Part.{Part, list_part, total_part, cells_part, keyed_part, groups_part, merge_part}
+use Rattle.weld_builders.specs.Part.{Part, list_part, total_part, totals_part, cells_part, keyed_part, groups_part, merge_part}
 use Rattle.weld_builders.specs.Range.{AllInRange}
 use Rattle.weld_meaning.specs.Thing.{Thing, plain, building, several}
 use Rattle.weld_meaning.specs.Evaluation.{merged}
@@ -23,6 +23,7 @@ use Rattle.weld_blocks.specs.declared.numbers.Numbers.{Numbers}
 pub put_done : (p : Part) (k : Kind) (x : ℤ) → IsPut (building p) (number k x) → (q : Part) × (merge_part p (number k x) ≡ done q)
 put_done (list_part vs) k x h = (_, refl)
 put_done (total_part op m y) k x h = (_, refl)
+put_done (totals_part op xs) k x h = absurd h
 put_done (cells_part op m xs) k x h = absurd h
 put_done (keyed_part op m n) k x h = absurd h
 put_done (groups_part m) k x h = absurd h
@@ -55,6 +56,7 @@ numbers_taken c (suc n) p h less = by p h.0.1
     by : (q : Part) → IsPut (building q) (number_at c 0) → TakesNumbers q c.kind
     by (list_part vs) k = tt
     by (total_part op m y) k = k.0
+    by (totals_part op xs) k = absurd k
     by (cells_part op m xs) k = absurd k
     by (keyed_part op m o) k = absurd k
     by (groups_part m) k = absurd k

@@ -1,9 +1,9 @@
 -- Operators on numbers of one kind.
 use Rattle.weld_eval_values.proofs.ScalarLemmas as lemmas
-use Rattle.std.proofs.Common.{ℕ, mod-eq_of_lt, ◌<◌, ◌≡◌, ◌≢◌, ◌≤◌, ◌^◌, ℤ, pos, ◌*ℤ◌, unsigned_abs, FitsSigned, w64, Some, None, refl, sym, ap, ◌∙◌, arith}
+use Rattle.std.proofs.Common.{ℕ, mod-eq_of_lt, ◌<◌, ◌≡◌, ◌^◌, ℤ, pos, ◌*ℤ◌, unsigned_abs, FitsSigned, w64, Some, None, sym, ap, ◌∙◌, arith}
 use Rattle.std.specs.Int.{Width, cast_signed, cast_unsigned, int_rem_euclid, int_wrap}
 use mir.Val.{bits}
-use Rattle.std.proofs.lemmas.Int.{ints, to_z-of_z, fits_signed_mul}
+use Rattle.std.proofs.lemmas.Int.{ints, to_z-of_z}
 use Rattle.weld_data.specs.declared.kind.Kind.TheVariants as kinds
 use Rattle.weld_data.specs.Wrapped.{SameModulo, wrapped}
 use Rattle.weld_data.proofs.Wrapping.{IsWrapped-wrapped, wrapped-same}
@@ -43,24 +43,16 @@ by_bits v w x r s t fx fr fs ft er es et =
     to_z-of_z v t ft ∙ et ∙ to_z-of_z w s fs ∙ es
     ∙ ap (λ a. cast_signed w (unsigned_abs a)) (to_z-of_z v r fr ∙ er ∙ ap (λ a. int_rem_euclid a (pos (2 ^ bits w))) (to_z-of_z v x fx))
 
-small : (kind : Kind) (x : ℤ) → kind ≢ kinds.I64 → InRange kind x → unsigned_abs x ≤ 2 ^ 31
-small kinds.Bool x n r = omega (arith, ints, r.low, r.high)
-small kinds.I8 x n r = omega (arith, ints, r.low, r.high)
-small kinds.U8 x n r = omega (arith, ints, r.low, r.high)
-small kinds.I32 x n r = omega (arith, ints, r.low, r.high)
-small kinds.I64 x n r = absurd (n refl)
-
--- a product of two numbers of a smaller kind fits
-pub narrow_product : (kind : Kind) (x y : ℤ) → kind ≢ kinds.I64 → InRange kind x → InRange kind y → FitsSigned w64 (x *ℤ y)
-narrow_product kind x y n r s =
-    fits_signed_mul w64 x y (2 ^ 31) (2 ^ 31) (small kind x n r) (small kind y n s) (omega arith)
-
 same_wide : (kind : Kind) (x y : ℤ) → SameModulo (2 ^ 64) x y → SameModulo (size_of kind) x y
 same_wide kinds.Bool x y s = (s.0 *ℤ pos (2 ^ 63), omega (arith, ints, s.1))
 same_wide kinds.I8 x y s = (s.0 *ℤ pos (2 ^ 56), omega (arith, ints, s.1))
-same_wide kinds.U8 x y s = (s.0 *ℤ pos (2 ^ 56), omega (arith, ints, s.1))
+same_wide kinds.I16 x y s = (s.0 *ℤ pos (2 ^ 48), omega (arith, ints, s.1))
 same_wide kinds.I32 x y s = (s.0 *ℤ pos (2 ^ 32), omega (arith, ints, s.1))
 same_wide kinds.I64 x y s = s
+same_wide kinds.U8 x y s = (s.0 *ℤ pos (2 ^ 56), omega (arith, ints, s.1))
+same_wide kinds.U16 x y s = (s.0 *ℤ pos (2 ^ 48), omega (arith, ints, s.1))
+same_wide kinds.U32 x y s = (s.0 *ℤ pos (2 ^ 32), omega (arith, ints, s.1))
+same_wide kinds.U64 x y s = s
 
 -- to wrap to 64 bits on the way changes nothing
 pub wrapped_wide : (kind : Kind) (x : ℤ) → wrapped kind (int_wrap w64 x) ≡ wrapped kind x

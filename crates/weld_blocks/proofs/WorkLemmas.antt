@@ -1,5 +1,5 @@
 -- Numbers that an operator or a choice makes of numbers, place by place.
-use Rattle.std.proofs.Common.{◌≡◌, ◌⊎◌, inl, inr, ℕ, ◌<◌, ◌≤◌, Bool, true, false, if◌then◌else◌, ℤ, pos, List, length, take, drop, map, slice_get, get_or, replicate, ◌++◌, ◌+◌, ◌-◌, Some, refl, sym, ap, ◌∙◌, subst, arith}
+use Rattle.std.proofs.Common.{◌≡◌, ◌≢◌, ◌⊎◌, inl, inr, ℕ, ◌<◌, ◌≤◌, Bool, true, false, if◌then◌else◌, ℤ, pos, List, length, take, drop, map, slice_get, get_or, replicate, ◌++◌, ◌+◌, ◌-◌, Option, Some, refl, sym, ap, ◌∙◌, subst, arith}
 use Rattle.std.proofs.lemmas.Int.{ints}
 use Rattle.std.proofs.Math.Seq.{take-append_seam}
 use Rattle.std.proofs.lemmas.Bool.{cases_lt}
@@ -8,12 +8,16 @@ use Rattle.std.specs.Ordering.{int_eq}
 use Rattle.weld_data.specs.declared.kind.Kind.{Kind}
 use Rattle.weld_data.specs.declared.kind.Kind.TheVariants as kinds
 use Rattle.weld_data.specs.declared.op.BinOp.{BinOp}
-use Rattle.weld_data.specs.Kind.{InRange}
+use Rattle.weld_data.specs.declared.op.BinOp.TheVariants as ops
+use Rattle.weld_data.specs.Kind.{IsNarrow, InRange}
 use Rattle.weld_data.specs.Operation.{TakesKind, answer_kind}
 use Rattle.weld_data.specs.Value.{number}
 use Rattle.weld_builders.specs.Outcome.{done}
 use Rattle.weld_meaning.specs.Evaluation.{operated, truth_of}
-use Rattle.weld_blocks.specs.Numbers.{number_at, AreGiven, IsChosen}
+use Rattle.weld_data.proofs.Ranges.{IsNarrow-not_u64}
+use Rattle.weld_eval.specs.Word.{of_word}
+use Rattle.weld_eval.proofs.Shorts.{narrow_word}
+use Rattle.weld_blocks.specs.Numbers.{number_at, AreGiven, MayGive, IsChosen}
 use Rattle.weld_blocks.specs.declared.numbers.Numbers.{Numbers}
 use Rattle.weld_blocks.specs.Works.{AreInRange, AreWorked, AreChosen, AreCopied}
 use Rattle.weld_blocks.proofs.LeafLemmas.{get_mapped}
@@ -22,9 +26,13 @@ use Rattle.weld_blocks.proofs.Scalars.{operated_some}
 zero_of : (k : Kind) → InRange k (pos 0)
 zero_of kinds.Bool = record { low = omega (arith, ints); high = omega (arith, ints) }
 zero_of kinds.I8 = record { low = omega (arith, ints); high = omega (arith, ints) }
-zero_of kinds.U8 = record { low = omega (arith, ints); high = omega (arith, ints) }
+zero_of kinds.I16 = record { low = omega (arith, ints); high = omega (arith, ints) }
 zero_of kinds.I32 = record { low = omega (arith, ints); high = omega (arith, ints) }
 zero_of kinds.I64 = record { low = omega (arith, ints); high = omega (arith, ints) }
+zero_of kinds.U8 = record { low = omega (arith, ints); high = omega (arith, ints) }
+zero_of kinds.U16 = record { low = omega (arith, ints); high = omega (arith, ints) }
+zero_of kinds.U32 = record { low = omega (arith, ints); high = omega (arith, ints) }
+zero_of kinds.U64 = record { low = omega (arith, ints); high = omega (arith, ints) }
 
 -- what is in range as far as there are numbers is so everywhere
 pub all_in_range : (k : Kind) (zs : List ℤ) (count : ℕ) → length zs ≡ count → ((place : ℕ) → place < count → InRange k (get_or zs place (pos 0))) → AreInRange k zs
@@ -50,6 +58,36 @@ worked_given op k left right c count l r takes answer h = record {
       ∙ operated_some op k k x y z (k, takes, (refl, subst (λ m. InRange m x) l (left.in_range j)), (refl, subst (λ m. InRange m y) r (right.in_range j))) (h.each j less)
       ∙ ap (λ (m : Kind). done (number m z)) (sym answer);
 }
+
+-- ---- kinds whose numbers lie within 64 bits with a sign
+
+pub not_u64 : (k : Kind) → IsNarrow k → k ≢ kinds.U64
+not_u64 k n e = subst IsNarrow e n
+
+pub narrow_same : (k m : Kind) → k ≡ m → k ≢ kinds.U64 → IsNarrow m
+narrow_same k m e n = subst IsNarrow e (IsNarrow-not_u64 k n)
+
+answer_narrow : (op : BinOp) (k : Kind) → IsNarrow k → IsNarrow (answer_kind op k)
+answer_narrow ops.Add k n = n
+answer_narrow ops.Sub k n = n
+answer_narrow ops.Mul k n = n
+answer_narrow ops.Div k n = n
+answer_narrow ops.Rem k n = n
+answer_narrow ops.Eq k n = tt
+answer_narrow ops.Ne k n = tt
+answer_narrow ops.Lt k n = tt
+answer_narrow ops.Le k n = tt
+answer_narrow ops.Gt k n = tt
+answer_narrow ops.Ge k n = tt
+
+pub worked_narrow : (op : BinOp) (k m a : Kind) → m ≡ k → m ≢ kinds.U64 → a ≡ answer_kind op k → a ≢ kinds.U64
+worked_narrow op k m a e n is = not_u64 a (subst IsNarrow (sym is) (answer_narrow op k (narrow_same m k e n)))
+
+pub word_in_range : (k : Kind) (x : ℤ) → IsNarrow k → InRange k (of_word k x) → InRange k x
+word_in_range k x n r = subst (InRange k) (narrow_word k x n) r
+
+pub one_word : (r : Option Numbers) (k : Kind) (x : ℤ) (count : ℕ) → IsNarrow k → MayGive (λ _ v. v ≡ number k x) r count → MayGive (λ _ v. v ≡ number k (of_word k x)) r count
+one_word r k x count n h = subst (λ (z : ℤ). MayGive (λ _ v. v ≡ number k z) r count) (sym (narrow_word k x n)) h
 
 -- ---- choices
 

@@ -15,18 +15,19 @@ use crate::works::{Works, worked};
 use std::alloc::Global;
 use weld_data::{BinOp, Kind};
 
-/// A kind of integers that is known where a loop is compiled.
+/// A kind of integers, of 64 bits with a sign at most, that is known where a loop is compiled.
 trait OfKind {
     ghost use Rattle.std.specs.Prelude.{◌≡◌};
     ghost use Rattle.weld_data.specs.declared.kind.Kind.{Kind as GhostKind};
-    ghost use Rattle.weld_data.specs.Kind.{IsInteger};
+    ghost use Rattle.weld_data.specs.Kind.{IsInteger, IsNarrow};
 
     ghost named: { Self → GhostKind };
 
     /// The kind. It takes no memory.
     fn kind(&self) -> Kind
         ensures kind { result ≡ named self.now }
-        ensures integer { IsInteger result };
+        ensures integer { IsInteger result }
+        ensures narrow { IsNarrow result };
 }
 
 #[derive(Clone, Copy)]
@@ -74,6 +75,42 @@ impl OfKind for Signed8 {
     #[inline(always)]
     fn kind(&self) -> Kind {
         Kind::I8
+    }
+}
+
+#[derive(Clone, Copy)]
+struct Signed16;
+
+impl OfKind for Signed16 {
+    ghost named = { λ _. kind_names.I16 };
+
+    #[inline(always)]
+    fn kind(&self) -> Kind {
+        Kind::I16
+    }
+}
+
+#[derive(Clone, Copy)]
+struct Unsigned16;
+
+impl OfKind for Unsigned16 {
+    ghost named = { λ _. kind_names.U16 };
+
+    #[inline(always)]
+    fn kind(&self) -> Kind {
+        Kind::U16
+    }
+}
+
+#[derive(Clone, Copy)]
+struct Unsigned32;
+
+impl OfKind for Unsigned32 {
+    ghost named = { λ _. kind_names.U32 };
+
+    #[inline(always)]
+    fn kind(&self) -> Kind {
+        Kind::U32
     }
 }
 
@@ -238,10 +275,14 @@ pub(crate) fn arithmetic(
 {
     match left.kind {
         Kind::Bool => None,
-        Kind::I64 => arithmetic_of(op, Wide, left, right, count, alloc),
-        Kind::I32 => arithmetic_of(op, Signed32, left, right, count, alloc),
-        Kind::U8 => arithmetic_of(op, Unsigned8, left, right, count, alloc),
         Kind::I8 => arithmetic_of(op, Signed8, left, right, count, alloc),
+        Kind::I16 => arithmetic_of(op, Signed16, left, right, count, alloc),
+        Kind::I32 => arithmetic_of(op, Signed32, left, right, count, alloc),
+        Kind::I64 => arithmetic_of(op, Wide, left, right, count, alloc),
+        Kind::U8 => arithmetic_of(op, Unsigned8, left, right, count, alloc),
+        Kind::U16 => arithmetic_of(op, Unsigned16, left, right, count, alloc),
+        Kind::U32 => arithmetic_of(op, Unsigned32, left, right, count, alloc),
+        Kind::U64 => None,
     }
 }
 

@@ -2,6 +2,7 @@
 
 ghost use Rattle.std.specs.Prelude.{◌≡◌, ◌+◌, ◌<◌, ◌≤◌, ◌∷◌, [], ℕ, true, length, map, Some, None, IfSome, slice_get};
 ghost use Rattle.weld_data.specs.View.{view_column, view_val};
+ghost use Rattle.weld_data.specs.Kind.{IsNarrow, InRange};
 ghost use Rattle.weld_data.specs.Value.{number};
 ghost use Rattle.weld_data.specs.declared.kind.Kind.TheVariants as kinds;
 ghost use Rattle.weld_builders.specs.Outcome.{done, and_then};
@@ -99,7 +100,7 @@ fn copy_all(copies: &mut [i64], items: &[i64])
     ensures { AreCopied items.now copies.new (length copies.old) }
 {
     for place in 0..copies.len() {
-        copies[place] = Short::of_i64(items[place]).value;
+        copies[place] = Short::of_i64(items[place]).word;
     }
 }
 
@@ -241,15 +242,27 @@ fn outside(frame: &Frame, name: Sym, count: usize, alloc: Global) -> Option<Numb
     }
 }
 
-/// One number at each place.
+/// One number at each place, where it is of a kind whose numbers lie within 64 bits with a sign.
+#[tactic(auto, using(crate::proofs::WorkLemmas::word_in_range, crate::proofs::WorkLemmas::one_word))]
 pub(crate) fn constant(number: Short, count: usize, alloc: Global) -> Option<Numbers>
     ensures { MayGive (λ place v. v ≡ view_short number) result count }
 {
-    match vec![in alloc; number.value; count] {
-        Ok(items) => Some(Numbers {
-            kind: number.kind,
-            items,
-        }),
+    if number.kind.is_narrow() {
+        constant_of(number.kind, number.word, count, alloc)
+    } else {
+        None
+    }
+}
+
+/// The same of a number of such a kind.
+#[tactic(auto, using(crate::proofs::WorkLemmas::not_u64))]
+fn constant_of(kind: Kind, x: i64, count: usize, alloc: Global) -> Option<Numbers>
+    requires narrow { IsNarrow kind }
+    requires in_range { InRange kind x }
+    ensures { MayGive (λ place v. v ≡ number kind x) result count }
+{
+    match vec![in alloc; x; count] {
+        Ok(items) => Some(Numbers { kind, items }),
         Err(_) => None,
     }
 }

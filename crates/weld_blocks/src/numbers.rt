@@ -1,23 +1,26 @@
 //! Numbers of one kind.
 
-ghost use Rattle.std.specs.Prelude.{◌≡◌, ℕ, pos, true, get_or};
+ghost use Rattle.std.specs.Prelude.{◌≡◌, ◌≢◌, ℕ, pos, true, get_or};
 ghost use Rattle.weld_data.specs.Kind.{InRange};
+ghost use Rattle.weld_data.specs.declared.kind.Kind.TheVariants as kinds;
 
 use std::alloc::Global;
 use weld_data::Kind;
 use weld_eval::short::Short;
 
-/// Numbers of one kind, one for each row of a block, the first row first. Each lies in the kind's range.
+/// Numbers of one kind, one for each row of a block, the first row first. Each lies in the kind's
+/// range, which lies within 64 bits with a sign.
 #[derive(Drop)]
 pub struct Numbers {
     pub kind: Kind,
     pub(crate) items: Vec<i64>,
     pub(crate) ghost in_range: { (place : ℕ) → InRange kind (get_or items.items place (pos 0)) },
+    pub(crate) ghost narrow: { kind ≢ kinds.U64 },
 }
 
 impl Numbers {
     ghost use Rattle.std.specs.Prelude.{◌≡◌, ◌<◌, IfSome};
-    ghost use Rattle.weld_eval.specs.ShortView.{view_short};
+    ghost use Rattle.weld_eval.specs.ShortView.{view_short, IsWord};
     ghost use Rattle.weld_blocks.specs.Numbers.{number_at, count_of, AreSame};
 
     /// How many numbers there are. It takes no memory.
@@ -30,14 +33,13 @@ impl Numbers {
 
     /// The number at a place, from 0. It takes no memory.
     #[inline(always)]
+    #[tactic(auto, using(weld_eval::proofs::Shorts::narrow_kind))]
     pub fn at(&self, place: usize) -> Short
         requires { place < count_of self.now }
-        ensures { view_short result ≡ number_at self.now place }
+        ensures number { view_short result ≡ number_at self.now place }
+        ensures word { IsWord result }
     {
-        Short {
-            kind: self.kind,
-            value: self.items[place],
-        }
+        Short::narrow(self.kind, self.items[place])
     }
 
     /// The same numbers, where there is memory for them.

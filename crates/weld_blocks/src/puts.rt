@@ -1,11 +1,14 @@
 //! Items that are merged into a builder in place.
 
 ghost use Rattle.weld_builders.specs.Outcome.{done};
+ghost use Rattle.std.specs.Prelude.{◌≡◌, IfOk};
+ghost use Rattle.weld_data.specs.Kind.{InRange};
+ghost use Rattle.weld_data.specs.Value.{number};
 ghost use Rattle.weld_data.specs.View.{view_val};
 ghost use Rattle.weld_meaning.specs.Evaluation.{merged};
 ghost use Rattle.weld_meaning.specs.Thing.{plain};
 ghost use Rattle.weld_acts.specs.Act.{Acts};
-ghost use Rattle.weld_eval.specs.ShortView.{view_short};
+ghost use Rattle.weld_eval.specs.ShortView.{view_short, IsWord};
 ghost use Rattle.weld_eval.specs.ThingView.{thing_of, held_of};
 ghost use Rattle.weld_eval.specs.Takes.{IsPlain};
 ghost use Rattle.weld_built.specs.Pair.{pair};
@@ -14,26 +17,41 @@ ghost use Rattle.weld_blocks.specs.Through.{FitsThrough, done_through};
 ghost use Rattle.weld_blocks.specs.Puts.{IsPut, PutsThing};
 
 use crate::numbers::Numbers;
-use std::alloc::Global;
-use weld_data::{Stop, Val};
+use std::alloc::{AllocError, Global};
+use weld_data::{Kind, Stop, Val, Vals};
 use weld_eval::short::Short;
 use weld_eval::thing::{Held, Owned, into_value};
 
 /// Merges a number.
-#[tactic(auto, using(crate::proofs::PutLemmas::put_acts))]
+#[tactic(auto, using(crate::proofs::PutLemmas::word_in_range, crate::proofs::PutLemmas::word_put, crate::proofs::PutLemmas::word_acts, crate::proofs::PutLemmas::same_put, crate::proofs::PutLemmas::same_acts))]
 #[inline(always)]
 pub fn put_number(builder: &mut Owned, x: Short) -> Result<(), Stop>
     requires { IsPut (thing_of builder.old) (view_short x) }
     ensures { Acts result (merged (thing_of builder.old) (done (plain (view_short x)))) (thing_of builder.new) }
 {
+    if x.is_word() {
+        put_word(builder, x.kind, x.word)
+    } else {
+        put_value(builder, Val::Num(x.to_num()))
+    }
+}
+
+/// Merges a number that lies within an i64.
+#[tactic(auto, using(crate::proofs::PutLemmas::put_acts))]
+#[inline(always)]
+fn put_word(builder: &mut Owned, kind: Kind, x: i64) -> Result<(), Stop>
+    requires in_range { InRange kind x }
+    requires put { IsPut (thing_of builder.old) (number kind x) }
+    ensures { Acts result (merged (thing_of builder.old) (done (plain (number kind x)))) (thing_of builder.new) }
+{
     match builder {
-        Owned::Built(built) => built.merge_number(x.kind, x.value),
+        Owned::Built(built) => built.merge_number(kind, x),
         _ => unreachable!(),
     }
 }
 
 /// Merges the first of these numbers, so many, one after another.
-#[tactic(auto, using(crate::proofs::ManyPuts::put_none, crate::proofs::ManyPuts::numbers_there, crate::proofs::ManyPuts::numbers_taken))]
+#[tactic(auto, using(weld_eval::proofs::Shorts::narrow_kind, crate::proofs::ManyPuts::put_none, crate::proofs::ManyPuts::numbers_there, crate::proofs::ManyPuts::numbers_taken))]
 pub fn put_numbers(numbers: &Numbers, count: usize, builder: &mut Owned) -> Result<(), Stop>
     requires { FitsThrough (number_done numbers.now) (NumberFits numbers.now) 0 count (thing_of builder.old) }
     ensures { Acts result (done_through (number_done numbers.now) 0 count (thing_of builder.old)) (thing_of builder.new) }
@@ -48,14 +66,56 @@ pub fn put_numbers(numbers: &Numbers, count: usize, builder: &mut Owned) -> Resu
 }
 
 /// Merges a number under a number.
-#[tactic(auto, using(crate::proofs::PutLemmas::put_acts))]
+#[tactic(auto, using(crate::proofs::PutLemmas::same_put, crate::proofs::PutLemmas::same_acts))]
 #[inline(always)]
-pub fn put_pair(builder: &mut Owned, key: Short, x: Short) -> Result<(), Stop>
+pub fn put_two(builder: &mut Owned, key: Short, x: Short, alloc: Global) -> Result<(), Stop>
     requires { IsPut (thing_of builder.old) (pair (view_short key) (view_short x)) }
     ensures { Acts result (merged (thing_of builder.old) (done (plain (pair (view_short key) (view_short x))))) (thing_of builder.new) }
 {
+    if key.is_word() && x.is_word() {
+        put_pair(builder, key, x)
+    } else {
+        match struct_of(key, x, alloc) {
+            Ok(item) => put_value(builder, item),
+            Err(_) => Err(Stop::Memory),
+        }
+    }
+}
+
+/// The struct of two numbers.
+#[tactic(auto, using(crate::proofs::PutLemmas::two_numbers))]
+fn struct_of(first: Short, second: Short, alloc: Global) -> Result<Val, AllocError>
+    ensures { IfOk result (λ v. pair (view_short first) (view_short second) ≡ view_val v) }
+{
+    let mut fields = Vals::new(alloc);
+    fields.push(Val::Num(first.to_num()))?;
+    fields.push(Val::Num(second.to_num()))?;
+    Ok(Val::Struct(fields))
+}
+
+/// Merges a number under a number, which both lie within an i64.
+#[tactic(auto, using(crate::proofs::PutLemmas::word_in_range, crate::proofs::PutLemmas::words_put, crate::proofs::PutLemmas::words_act))]
+#[inline(always)]
+pub fn put_pair(builder: &mut Owned, key: Short, x: Short) -> Result<(), Stop>
+    requires key { IsWord key }
+    requires number { IsWord x }
+    requires put { IsPut (thing_of builder.old) (pair (view_short key) (view_short x)) }
+    ensures { Acts result (merged (thing_of builder.old) (done (plain (pair (view_short key) (view_short x))))) (thing_of builder.new) }
+{
+    put_words(builder, key.kind, key.word, x.kind, x.word)
+}
+
+/// The same of kinds and words.
+#[tactic(auto, using(crate::proofs::PutLemmas::put_acts))]
+#[inline(always)]
+fn put_words(builder: &mut Owned, key_kind: Kind, key: i64, kind: Kind, x: i64) -> Result<(), Stop>
+    requires key { InRange key_kind key }
+    requires number { InRange kind x }
+    requires put { IsPut (thing_of builder.old) (pair (number key_kind key) (number kind x)) }
+    ensures { Acts result (merged (thing_of builder.old) (done (plain (pair (number key_kind key) (number kind x))))) (thing_of builder.new) }
+{
     match builder {
-        Owned::Built(built) => built.merge_pair(key.kind, key.value, x.kind, x.value),
+        Owned::Built(built) => built.merge_pair(key_kind, key, kind, x),
         _ => unreachable!(),
     }
 }

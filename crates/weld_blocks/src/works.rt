@@ -1,6 +1,7 @@
 //! Operators on numbers of a block: one loop for each operator and kind, in which nothing is asked.
 
 ghost use Rattle.std.specs.Prelude.{◌≡◌, ◌≤◌, length};
+ghost use Rattle.weld_data.specs.Kind.{IsNarrow};
 ghost use Rattle.weld_data.specs.Operation.{TakesKind, answer_kind};
 ghost use Rattle.weld_builders.specs.Outcome.{done};
 ghost use Rattle.weld_meaning.specs.Evaluation.{operated as operated_value};
@@ -33,7 +34,7 @@ pub(crate) trait Works {
 
 /// What the operator makes of the numbers at each place, where there are so many of both and there
 /// is memory for it; the kind is that of the answers.
-#[tactic(auto, using(crate::proofs::WorkLemmas::worked_given))]
+#[tactic(auto, using(crate::proofs::WorkLemmas::worked_given, crate::proofs::WorkLemmas::worked_narrow, crate::proofs::WorkLemmas::narrow_same))]
 pub(crate) fn worked<W: Works>(
     work: &W,
     kind: Kind,
@@ -61,6 +62,7 @@ pub(crate) fn worked<W: Works>(
 
 /// The same into as many numbers as there are.
 fn work_all<W: Works>(work: &W, items: &mut [i64], left: &[i64], right: &[i64])
+    requires narrow { IsNarrow (W.kind work.now) }
     requires left_long { length items.old ≤ length left.now }
     requires right_long { length items.old ≤ length right.now }
     requires left { AreInRange (W.kind work.now) left.now }

@@ -8,8 +8,8 @@ use Rattle.weld_data.proofs.Operations.{combination_assoc, combination-start_rig
 use Rattle.weld_data.specs.Value.{Value}
 use Rattle.weld_builders.specs.ValueOrder.{ValueMap}
 use Rattle.weld_builders.specs.Outcome.{Outcome, done, fault, stuck, and_then, map_out, or_fault}
-use Rattle.weld_builders.specs.Part.{Part, list_part, total_part, cells_part, keyed_part, groups_part, cells_shape, shape_of, bare, repeated, as_number, as_pair, merge_cell, merge_key, merge_part, after_part, join_cells, combined, appended, join_maps, items_of, total_of, cells_of, numbers_of, groups_of}
-use Rattle.weld_builders.specs.Range.{AllInRange, IsInRange}
+use Rattle.weld_builders.specs.Part.{Part, Totals, list_part, total_part, totals_part, totals_shape, kinds_of, neutral_totals, as_fields, merge_totals, join_totals, totals_of, cells_part, keyed_part, groups_part, cells_shape, shape_of, bare, repeated, as_number, as_pair, merge_cell, merge_key, merge_part, after_part, join_cells, combined, appended, join_maps, items_of, total_of, cells_of, numbers_of, groups_of}
+use Rattle.weld_builders.specs.Range.{AllInRange, TotalsInRange, IsInRange}
 use Rattle.weld_builders.proofs.Maps.{combined-IsMerging, appended-IsMerging, join_maps-empty, empty-join_maps, join_maps-assoc, merge_key-join_maps}
 
 -- ---- cells
@@ -36,11 +36,38 @@ cells_behind : (op : MergeOp) (k : Kind) (xs : List ℤ) → AllInRange k xs →
 cells_behind op k [] h = refl
 cells_behind op k (x ∷ xs) h = λ i. combination-start_right op k x h.0 i ∷ cells_behind op k xs h.1 i
 
+-- ---- totals of fields
+
+kinds_of-join_totals : (op : MergeOp) (xs ys : Totals) → kinds_of (join_totals op xs ys) ≡ kinds_of ys
+kinds_of-join_totals op xs [] = refl
+kinds_of-join_totals op [] (y ∷ ys) = refl
+kinds_of-join_totals op (x ∷ xs) (y ∷ ys) = λ i. y.0 ∷ kinds_of-join_totals op xs ys i
+
+join_totals-assoc : (op : MergeOp) (xs ys zs : Totals) → kinds_of ys ≡ kinds_of zs → join_totals op (join_totals op xs ys) zs ≡ join_totals op xs (join_totals op ys zs)
+join_totals-assoc op xs [] [] e = refl
+join_totals-assoc op xs [] (z ∷ zs) e = cc
+join_totals-assoc op xs (y ∷ ys) [] e = refl
+join_totals-assoc op [] (y ∷ ys) (z ∷ zs) e = refl
+join_totals-assoc op (x ∷ xs) (y ∷ ys) (z ∷ zs) e =
+    let k : y.0 ≡ z.0 = cc in
+    let n : kinds_of ys ≡ kinds_of zs = cc in
+    let same : combination op z.0 (combination op y.0 x.1 y.1) z.1 ≡ combination op z.0 x.1 (combination op z.0 y.1 z.1) = ap (λ m. combination op z.0 (combination op m x.1 y.1) z.1) k ∙ combination_assoc op z.0 x.1 y.1 z.1 in
+    λ i. (z.0, same i) ∷ join_totals-assoc op xs ys zs n i
+
+totals_before : (op : MergeOp) (xs : Totals) → TotalsInRange xs → join_totals op (neutral_totals op (kinds_of xs)) xs ≡ xs
+totals_before op [] h = refl
+totals_before op (x ∷ xs) h = λ i. (x.0, combination-start_left op x.0 x.1 h.0 i) ∷ totals_before op xs h.1 i
+
+totals_behind : (op : MergeOp) (xs : Totals) → TotalsInRange xs → join_totals op xs (neutral_totals op (kinds_of xs)) ≡ xs
+totals_behind op [] h = refl
+totals_behind op (x ∷ xs) h = λ i. (x.0, combination-start_right op x.0 x.1 h.0 i) ∷ totals_behind op xs h.1 i
+
 -- ---- the laws
 
 pub shape_of-after_part : (s d : Part) → shape_of (after_part s d) ≡ shape_of d
 shape_of-after_part s (list_part vs) = refl
 shape_of-after_part s (total_part op k x) = refl
+shape_of-after_part s (totals_part op xs) = ap (totals_shape op) (kinds_of-join_totals op (totals_of s) xs)
 shape_of-after_part s (cells_part op k xs) = ap (cells_shape op k) (length-join_cells op k (cells_of s) xs)
 shape_of-after_part s (keyed_part op k m) = refl
 shape_of-after_part s (groups_part m) = refl
@@ -48,6 +75,7 @@ shape_of-after_part s (groups_part m) = refl
 pub bare_before : (d : Part) → IsInRange d → after_part (bare d) d ≡ d
 bare_before (list_part vs) h = refl
 bare_before (total_part op k x) h = ap (total_part op k) (combination-start_left op k x h)
+bare_before (totals_part op xs) h = ap (totals_part op) (totals_before op xs h)
 bare_before (cells_part op k xs) h = ap (cells_part op k) (cells_before op k xs h)
 bare_before (keyed_part op k m) h = ap (keyed_part op k) (empty-join_maps (combined-IsMerging op k) m)
 bare_before (groups_part m) h = ap groups_part (empty-join_maps appended-IsMerging m)
@@ -55,6 +83,7 @@ bare_before (groups_part m) h = ap groups_part (empty-join_maps appended-IsMergi
 pub bare_behind : (s : Part) → IsInRange s → after_part s (bare s) ≡ s
 bare_behind (list_part vs) h = ap list_part (append-nil vs)
 bare_behind (total_part op k x) h = ap (total_part op k) (combination-start_right op k x h)
+bare_behind (totals_part op xs) h = ap (totals_part op) (totals_behind op xs h)
 bare_behind (cells_part op k xs) h = ap (cells_part op k) (cells_behind op k xs h)
 bare_behind (keyed_part op k m) h = ap (keyed_part op k) (join_maps-empty (combined-IsMerging op k) m)
 bare_behind (groups_part m) h = ap groups_part (join_maps-empty appended-IsMerging m)
@@ -67,6 +96,10 @@ same_totals : (r : Option ℤ) (op oq : MergeOp) (k m : Kind) (x y : ℤ) → op
 same_totals r op oq k m x y o n =
     ap (λ (p : MergeOp × Kind). total_part oq m (combination oq m (combined p.0 p.1 r x) y)) (λ i. (o i, n i))
     ∙ ap (total_part oq m) (combined-assoc oq m r x y)
+
+same_several : (r : Totals) (op oq : MergeOp) (xs ys : Totals) → op ≡ oq → kinds_of xs ≡ kinds_of ys → totals_part oq (join_totals oq (join_totals op r xs) ys) ≡ totals_part oq (join_totals oq r (join_totals oq xs ys))
+same_several r op oq xs ys o n =
+    ap (λ p. totals_part oq (join_totals oq (join_totals p r xs) ys)) o ∙ ap (totals_part oq) (join_totals-assoc oq r xs ys n)
 
 same_cells : (r : List ℤ) (op oq : MergeOp) (k m : Kind) (xs ys : List ℤ) → op ≡ oq → k ≡ m → length xs ≡ length ys → cells_part oq m (join_cells oq m (join_cells op k r xs) ys) ≡ cells_part oq m (join_cells oq m r (join_cells oq m xs ys))
 same_cells r op oq k m xs ys o n l =
@@ -83,6 +116,9 @@ after_part-assoc r (list_part us) (list_part vs) e = ap list_part (append_assoc 
 after_part-assoc r (total_part op k x) (total_part oq m y) e =
     let o : op ≡ oq = cc in let n : k ≡ m = cc in
     same_totals (total_of r) op oq k m x y o n
+after_part-assoc r (totals_part op xs) (totals_part oq ys) e =
+    let o : op ≡ oq = cc in let n : kinds_of xs ≡ kinds_of ys = cc in
+    same_several (totals_of r) op oq xs ys o n
 after_part-assoc r (cells_part op k xs) (cells_part oq m ys) e =
     let o : op ≡ oq = cc in let n : k ≡ m = cc in let l : length xs ≡ length ys = cc in
     same_cells (cells_of r) op oq k m xs ys o n l
@@ -130,6 +166,25 @@ merge_cell-after : (op : MergeOp) (k : Kind) (xs ys : List ℤ) (i z : ℤ) → 
 merge_cell-after op k xs ys (pos i) z = merge_cell-join_cells op k xs ys i z
 merge_cell-after op k xs ys (negsuc i) z = refl
 
+merge_totals-after : (op : MergeOp) (xs ds : Totals) (ys : List ℤ) → merge_totals op (join_totals op xs ds) ys ≡ map_out (join_totals op xs) (merge_totals op ds ys)
+merge_totals-after op xs [] [] = refl
+merge_totals-after op xs [] (y ∷ ys) = refl
+merge_totals-after op [] (d ∷ ds) [] = refl
+merge_totals-after op (x ∷ xs) (d ∷ ds) [] = refl
+merge_totals-after op [] (d ∷ ds) (y ∷ ys) = alone (merge_totals op ds ys)
+  where
+    alone : (o : Outcome Totals) → map_out (λ rest. (d.0, combination op d.0 d.1 y) ∷ rest) o ≡ map_out (join_totals op []) (map_out (λ rest. (d.0, combination op d.0 d.1 y) ∷ rest) o)
+    alone (done zs) = refl
+    alone fault = refl
+    alone stuck = refl
+merge_totals-after op (x ∷ xs) (d ∷ ds) (y ∷ ys) =
+    ap (map_out (λ rest. (d.0, combination op d.0 (combination op d.0 x.1 d.1) y) ∷ rest)) (merge_totals-after op xs ds ys) ∙ both (merge_totals op ds ys)
+  where
+    both : (o : Outcome Totals) → map_out (λ rest. (d.0, combination op d.0 (combination op d.0 x.1 d.1) y) ∷ rest) (map_out (join_totals op xs) o) ≡ map_out (join_totals op (x ∷ xs)) (map_out (λ rest. (d.0, combination op d.0 d.1 y) ∷ rest) o)
+    both (done zs) = ap (λ z. done ((d.0, z) ∷ join_totals op xs zs)) (combination_assoc op d.0 x.1 d.1 y)
+    both fault = refl
+    both stuck = refl
+
 pub merge_part-after_part : (s d : Part) (v : Value) → merge_part (after_part s d) v ≡ map_out (after_part s) (merge_part d v)
 merge_part-after_part s (list_part us) v = ap (λ vs. done (list_part vs)) (append_assoc (items_of s) us (v ∷ []))
 merge_part-after_part s (total_part op k x) v = by (as_number v)
@@ -138,6 +193,17 @@ merge_part-after_part s (total_part op k x) v = by (as_number v)
     by (done y) = ap (λ z. done (total_part op k z)) (combined-assoc op k (total_of s) x y)
     by fault = refl
     by stuck = refl
+merge_part-after_part s (totals_part op xs) v = fields (as_fields v)
+  where
+    total : (o : Outcome Totals) → map_out (totals_part op) (map_out (join_totals op (totals_of s)) o) ≡ map_out (after_part s) (map_out (totals_part op) o)
+    total (done zs) = refl
+    total fault = refl
+    total stuck = refl
+
+    fields : (o : Outcome (List ℤ)) → and_then o (λ ys. map_out (totals_part op) (merge_totals op (join_totals op (totals_of s) xs) ys)) ≡ map_out (after_part s) (and_then o (λ ys. map_out (totals_part op) (merge_totals op xs ys)))
+    fields (done ys) = ap (map_out (totals_part op)) (merge_totals-after op (totals_of s) xs ys) ∙ total (merge_totals op xs ys)
+    fields fault = refl
+    fields stuck = refl
 merge_part-after_part s (cells_part op k xs) v = pairs (as_pair v)
   where
     cell : (o : Outcome (List ℤ)) → map_out (cells_part op k) (map_out (join_cells op k (cells_of s)) o) ≡ map_out (after_part s) (map_out (cells_part op k) o)

@@ -4,7 +4,7 @@ use Rattle.std.specs.Cmp.{IsTotalOrder, on_total, int_cmp_total}
 use Rattle.std.specs.Cmp.Lexicographic.{lists_total}
 use Rattle.std.specs.FinMap.{IsAntisymmetric, slice_cmp-IsAntisymmetric, int_cmp-IsAntisymmetric}
 use Rattle.weld_data.specs.declared.kind.Kind.{Kind}
-use Rattle.weld_data.specs.declared.kind.Kind.TheVariants.{Bool, I8, U8, I32, I64}
+use Rattle.weld_data.specs.declared.kind.Kind.TheVariants.{Bool, I8, I16, I32, I64, U8, U16, U32, U64}
 use Rattle.weld_data.specs.Value.{Value, number, list, struct, dict, Values, no_values, and_value, Entries, no_entries, and_entry}
 use Rattle.weld_builders.specs.ValueOrder.{kind_word, words, words_of_values, words_of_entries, value_cmp}
 
@@ -15,9 +15,13 @@ value_cmp_total = on_total (λ v. words v []) (lists_total int_cmp_total)
 kind_word_inj : (k m : Kind) → kind_word k ≡ kind_word m → k ≡ m
 kind_word_inj Bool Bool e = refl
 kind_word_inj I8 I8 e = refl
-kind_word_inj U8 U8 e = refl
+kind_word_inj I16 I16 e = refl
 kind_word_inj I32 I32 e = refl
 kind_word_inj I64 I64 e = refl
+kind_word_inj U8 U8 e = refl
+kind_word_inj U16 U16 e = refl
+kind_word_inj U32 U32 e = refl
+kind_word_inj U64 U64 e = refl
 kind_word_inj _ _ e = cc
 
 head_is : (a b : ℤ) (r s : List ℤ) → a ∷ r ≡ b ∷ s → a ≡ b

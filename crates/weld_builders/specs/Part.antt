@@ -10,10 +10,15 @@ use Rattle.weld_data.specs.Value.{Value, number, list, struct, dict, Values, no_
 use Rattle.weld_builders.specs.Outcome.{Outcome, done, fault, stuck, and_then, map_out, or_fault}
 use Rattle.weld_builders.specs.ValueOrder.{ValueMap}
 
--- the items of a list; one number; numbers by places; numbers by keys; lists by keys
+-- a number of a kind for each field of a struct
+abbrev pub Totals : Type 0
+Totals = List (Kind × ℤ)
+
+-- the items of a list; one number; a number for each field; numbers by places; numbers by keys; lists by keys
 pub data Part : Type 0 where
   list_part : List Value → Part
   total_part : MergeOp → Kind → ℤ → Part
+  totals_part : MergeOp → Totals → Part
   cells_part : MergeOp → Kind → List ℤ → Part
   keyed_part : MergeOp → Kind → ValueMap ℤ → Part
   groups_part : ValueMap (List Value) → Part
@@ -23,13 +28,19 @@ pub data Part : Type 0 where
 pub data Shape : Type 0 where
   list_shape : Shape
   total_shape : MergeOp → Kind → Shape
+  totals_shape : MergeOp → List Kind → Shape
   cells_shape : MergeOp → Kind → ℕ → Shape
   keyed_shape : MergeOp → Kind → Shape
   groups_shape : Shape
 
+abbrev pub kinds_of : Totals → List Kind
+kinds_of [] = []
+kinds_of (x ∷ xs) = x.0 ∷ kinds_of xs
+
 abbrev pub shape_of : Part → Shape
 shape_of (list_part vs) = list_shape
 shape_of (total_part op k x) = total_shape op k
+shape_of (totals_part op xs) = totals_shape op (kinds_of xs)
 shape_of (cells_part op k xs) = cells_shape op k (length xs)
 shape_of (keyed_part op k m) = keyed_shape op k
 shape_of (groups_part m) = groups_shape
@@ -39,10 +50,16 @@ abbrev pub repeated : {X : Type 0} → X → ℕ → List X
 repeated x zero = []
 repeated x (suc n) = x ∷ repeated x n
 
+-- the neutral number of each kind
+abbrev pub neutral_totals : MergeOp → List Kind → Totals
+neutral_totals op [] = []
+neutral_totals op (k ∷ ks) = (k, start_of op k) ∷ neutral_totals op ks
+
 -- the part of a shape that has nothing merged: empty, or the neutral number of the operator
 abbrev pub start_part : Shape → Part
 start_part list_shape = list_part []
 start_part (total_shape op k) = total_part op k (start_of op k)
+start_part (totals_shape op ks) = totals_part op (neutral_totals op ks)
 start_part (cells_shape op k n) = cells_part op k (repeated (start_of op k) n)
 start_part (keyed_shape op k) = keyed_part op k finite.empty
 start_part groups_shape = groups_part finite.empty
@@ -70,6 +87,13 @@ as_number_list (list vs) = as_numbers vs
 as_number_list (struct vs) = stuck
 as_number_list (dict es) = stuck
 
+-- the numbers of a struct's fields
+abbrev pub as_fields : Value → Outcome (List ℤ)
+as_fields (number k x) = stuck
+as_fields (list vs) = stuck
+as_fields (struct vs) = as_numbers vs
+as_fields (dict es) = stuck
+
 -- the two fields of a struct
 abbrev pub as_pair_of : Values → Outcome (Value × Value)
 as_pair_of no_values = stuck
@@ -85,19 +109,29 @@ as_pair (dict es) = stuck
 
 -- ---- the starting builder
 
--- the five builders, before they start
+-- the builders, before they start
 pub data BuilderForm : Type 0 where
   list_builder : BuilderForm
   total_builder : MergeOp → Kind → BuilderForm
+  totals_builder : MergeOp → List Kind → BuilderForm
   cells_builder : MergeOp → Kind → BuilderForm
   keyed_builder : MergeOp → Kind → BuilderForm
   groups_builder : BuilderForm
 
--- a total may be given a number, and cells are given theirs
+-- numbers with their kinds, one for each
+abbrev pub with_kinds : List Kind → List ℤ → Outcome Totals
+with_kinds [] [] = done []
+with_kinds [] (x ∷ xs) = stuck
+with_kinds (k ∷ ks) [] = stuck
+with_kinds (k ∷ ks) (x ∷ xs) = map_out (λ rest. (k, x) ∷ rest) (with_kinds ks xs)
+
+-- a total may be given a number or a struct of numbers, and cells are given theirs
 abbrev pub start : BuilderForm → Option Value → Outcome Part
 start list_builder None = done (start_part list_shape)
 start (total_builder op k) None = done (start_part (total_shape op k))
 start (total_builder op k) (Some v) = map_out (total_part op k) (as_number v)
+start (totals_builder op ks) None = done (start_part (totals_shape op ks))
+start (totals_builder op ks) (Some v) = map_out (totals_part op) (and_then (as_fields v) (with_kinds ks))
 start (cells_builder op k) (Some v) = map_out (cells_part op k) (as_number_list v)
 start (keyed_builder op k) None = done (start_part (keyed_shape op k))
 start groups_builder None = done (start_part groups_shape)
@@ -124,10 +158,18 @@ abbrev pub merge_cell : MergeOp → Kind → List ℤ → ℤ → ℤ → Outcom
 merge_cell op k xs (pos i) y = map_out (λ x. slice_set xs i (combination op k x y)) (or_fault (slice_get xs i))
 merge_cell op k xs (negsuc i) y = fault
 
--- an item merged: a value, a number, a number at an index, a number at a key, or a value at a key
+-- numbers combined field by field
+abbrev pub merge_totals : MergeOp → Totals → List ℤ → Outcome Totals
+merge_totals op [] [] = done []
+merge_totals op [] (y ∷ ys) = stuck
+merge_totals op (x ∷ xs) [] = stuck
+merge_totals op (x ∷ xs) (y ∷ ys) = map_out (λ rest. (x.0, combination op x.0 x.1 y) ∷ rest) (merge_totals op xs ys)
+
+-- an item merged: a value, a number, a struct of numbers, a number at an index, a number at a key, or a value at a key
 abbrev pub merge_part : Part → Value → Outcome Part
 merge_part (list_part vs) v = done (list_part (vs ++ v ∷ []))
 merge_part (total_part op k x) v = map_out (λ y. total_part op k (combination op k x y)) (as_number v)
+merge_part (totals_part op xs) v = and_then (as_fields v) (λ ys. map_out (totals_part op) (merge_totals op xs ys))
 merge_part (cells_part op k xs) v =
     and_then (as_pair v) (λ e. and_then (as_number e.0) (λ i. and_then (as_number e.1) (λ y. map_out (cells_part op k) (merge_cell op k xs i y))))
 merge_part (keyed_part op k m) v =
@@ -140,6 +182,7 @@ merge_part (groups_part m) v =
 abbrev pub items_of : Part → List Value
 items_of (list_part vs) = vs
 items_of (total_part op k x) = []
+items_of (totals_part op xs) = []
 items_of (cells_part op k xs) = []
 items_of (keyed_part op k m) = []
 items_of (groups_part m) = []
@@ -147,13 +190,23 @@ items_of (groups_part m) = []
 abbrev pub total_of : Part → Option ℤ
 total_of (list_part vs) = None
 total_of (total_part op k x) = Some x
+total_of (totals_part op xs) = None
 total_of (cells_part op k xs) = None
 total_of (keyed_part op k m) = None
 total_of (groups_part m) = None
 
+abbrev pub totals_of : Part → Totals
+totals_of (list_part vs) = []
+totals_of (total_part op k x) = []
+totals_of (totals_part op xs) = xs
+totals_of (cells_part op k xs) = []
+totals_of (keyed_part op k m) = []
+totals_of (groups_part m) = []
+
 abbrev pub cells_of : Part → List ℤ
 cells_of (list_part vs) = []
 cells_of (total_part op k x) = []
+cells_of (totals_part op xs) = []
 cells_of (cells_part op k xs) = xs
 cells_of (keyed_part op k m) = []
 cells_of (groups_part m) = []
@@ -161,6 +214,7 @@ cells_of (groups_part m) = []
 abbrev pub numbers_of : Part → ValueMap ℤ
 numbers_of (list_part vs) = finite.empty
 numbers_of (total_part op k x) = finite.empty
+numbers_of (totals_part op xs) = finite.empty
 numbers_of (cells_part op k xs) = finite.empty
 numbers_of (keyed_part op k m) = m
 numbers_of (groups_part m) = finite.empty
@@ -168,6 +222,7 @@ numbers_of (groups_part m) = finite.empty
 abbrev pub groups_of : Part → ValueMap (List Value)
 groups_of (list_part vs) = finite.empty
 groups_of (total_part op k x) = finite.empty
+groups_of (totals_part op xs) = finite.empty
 groups_of (cells_part op k xs) = finite.empty
 groups_of (keyed_part op k m) = finite.empty
 groups_of (groups_part m) = m
@@ -177,6 +232,12 @@ abbrev pub join_cells : MergeOp → Kind → List ℤ → List ℤ → List ℤ
 join_cells op k xs [] = []
 join_cells op k [] (y ∷ ys) = y ∷ ys
 join_cells op k (x ∷ xs) (y ∷ ys) = combination op k x y ∷ join_cells op k xs ys
+
+-- field by field; as many, and of the kinds, as the later ones
+abbrev pub join_totals : MergeOp → Totals → Totals → Totals
+join_totals op xs [] = []
+join_totals op [] (y ∷ ys) = y ∷ ys
+join_totals op (x ∷ xs) (y ∷ ys) = (y.0, combination op y.0 x.1 y.1) ∷ join_totals op xs ys
 
 -- each later entry after what the start has at its key, and the start's other keys
 abbrev pub join_entries : {X : Type 0} → (Option X → X → X) → ValueMap X → List (Value × X) → ValueMap X
@@ -190,6 +251,7 @@ join_maps f s m = join_entries f s (finite.entries m)
 abbrev pub after_part : Part → Part → Part
 after_part s (list_part vs) = list_part (items_of s ++ vs)
 after_part s (total_part op k x) = total_part op k (combined op k (total_of s) x)
+after_part s (totals_part op xs) = totals_part op (join_totals op (totals_of s) xs)
 after_part s (cells_part op k xs) = cells_part op k (join_cells op k (cells_of s) xs)
 after_part s (keyed_part op k m) = keyed_part op k (join_maps (combined op k) (numbers_of s) m)
 after_part s (groups_part m) = groups_part (join_maps appended (groups_of s) m)
@@ -203,6 +265,7 @@ dictionary f m = dict (entries (map (λ (e : Value × _). (e.0, f e.1)) (finite.
 abbrev pub result_of : Part → Value
 result_of (list_part vs) = list (values vs)
 result_of (total_part op k x) = number k x
+result_of (totals_part op xs) = struct (values (map (λ (x : Kind × ℤ). number x.0 x.1) xs))
 result_of (cells_part op k xs) = list (values (map (number k) xs))
 result_of (keyed_part op k m) = dictionary (number k) m
 result_of (groups_part m) = dictionary (λ vs. list (values vs)) m

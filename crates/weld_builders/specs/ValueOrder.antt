@@ -5,15 +5,19 @@ use Rattle.std.specs.Cmp.Lexicographic.{slice_cmp}
 use Rattle.std.specs.FinMap.{FinMap}
 use Rattle.std.specs.declared.cmp.Ordering.{Ordering}
 use Rattle.weld_data.specs.declared.kind.Kind.{Kind}
-use Rattle.weld_data.specs.declared.kind.Kind.TheVariants.{Bool, I8, U8, I32, I64}
+use Rattle.weld_data.specs.declared.kind.Kind.TheVariants.{Bool, I8, I16, I32, I64, U8, U16, U32, U64}
 use Rattle.weld_data.specs.Value.{Value, number, list, struct, dict, Values, no_values, and_value, Entries, no_entries, and_entry}
 
 abbrev pub kind_word : Kind → ℤ
 kind_word Bool = pos 0
 kind_word I8 = pos 1
-kind_word U8 = pos 2
+kind_word I16 = pos 2
 kind_word I32 = pos 3
 kind_word I64 = pos 4
+kind_word U8 = pos 5
+kind_word U16 = pos 6
+kind_word U32 = pos 7
+kind_word U64 = pos 8
 
 -- a value as numbers, before further ones: its form, and what is in it. Of two values neither's numbers begin the other's
 abbrev mutual

@@ -1,3 +1,4 @@
 pub mod CellsLemmas
 pub mod KeyLemmas
 pub mod ManyLemmas
+pub mod TotalsLemmas

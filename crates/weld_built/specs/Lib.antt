@@ -1,4 +1,5 @@
 pub mod CellsState
+pub mod Fields
 pub mod Logged
 pub mod Merges
 pub mod Pair

@@ -3,7 +3,7 @@ use Rattle.std.specs.Prelude.{◌≡◌, List, [], ◌∷◌}
 use Rattle.weld_data.specs.declared.kind.Kind.{Kind}
 use Rattle.weld_data.specs.Value.{Value}
 use Rattle.weld_builders.specs.Outcome.{Outcome, done, and_then}
-use Rattle.weld_builders.specs.Part.{Part, list_part, total_part, cells_part, keyed_part, groups_part, merge_part}
+use Rattle.weld_builders.specs.Part.{Part, list_part, total_part, totals_part, cells_part, keyed_part, groups_part, merge_part}
 
 -- the first item first, up to a fault
 abbrev pub merge_all : Part → List Value → Outcome Part
@@ -14,6 +14,7 @@ merge_all p (v ∷ vs) = and_then (merge_part p v) (λ q. merge_all q vs)
 abbrev pub TakesNumbers : Part → Kind → Type 0
 TakesNumbers (list_part vs) kind = Unit {0}
 TakesNumbers (total_part op k x) kind = kind ≡ k
+TakesNumbers (totals_part op xs) kind = ⊥
 TakesNumbers (cells_part op k xs) kind = ⊥
 TakesNumbers (keyed_part op k m) kind = ⊥
 TakesNumbers (groups_part m) kind = ⊥

@@ -7,24 +7,29 @@ use Rattle.weld_data.specs.declared.op.MergeOp.{MergeOp}
 use Rattle.weld_data.specs.Value.{Value}
 use Rattle.weld_data.specs.ValueCode.{coded_value, coded_values}
 use Rattle.weld_builders.specs.ValueOrder.{ValueMap}
-use Rattle.weld_builders.specs.Part.{Part, list_part, total_part, cells_part, keyed_part, groups_part}
+use Rattle.weld_builders.specs.Part.{Part, Totals, list_part, total_part, totals_part, cells_part, keyed_part, groups_part}
 use Rattle.weld_pieces.specs.Keyed.{coded_kind, coded_op}
 
 abbrev Places : Type 0
 Places =
     Option (List Value) × (Option (MergeOp × (Kind × ℤ)) × (Option (MergeOp × (Kind × List ℤ))
-    × (Option (MergeOp × (Kind × ValueMap ℤ)) × Option (ValueMap (List Value)))))
+    × (Option (MergeOp × (Kind × ValueMap ℤ)) × (Option (MergeOp × Totals) × Option (ValueMap (List Value))))))
 
 abbrev place_of : Part → Places
-place_of (list_part vs) = (Some vs, (None, (None, (None, None))))
-place_of (total_part op k x) = (None, (Some (op, (k, x)), (None, (None, None))))
-place_of (cells_part op k xs) = (None, (None, (Some (op, (k, xs)), (None, None))))
-place_of (keyed_part op k m) = (None, (None, (None, (Some (op, (k, m)), None))))
-place_of (groups_part m) = (None, (None, (None, (None, Some m))))
+place_of (list_part vs) = (Some vs, (None, (None, (None, (None, None)))))
+place_of (total_part op k x) = (None, (Some (op, (k, x)), (None, (None, (None, None)))))
+place_of (totals_part op xs) = (None, (None, (None, (None, (Some (op, xs), None)))))
+place_of (cells_part op k xs) = (None, (None, (Some (op, (k, xs)), (None, (None, None)))))
+place_of (keyed_part op k m) = (None, (None, (None, (Some (op, (k, m)), (None, None)))))
+place_of (groups_part m) = (None, (None, (None, (None, (None, Some m)))))
 
 abbrev groups_at : Option (ValueMap (List Value)) → Part
 groups_at (Some m) = groups_part m
 groups_at None = list_part []
+
+abbrev totals_at : Option (MergeOp × Totals) → Part → Part
+totals_at (Some t) p = totals_part t.0 t.1
+totals_at None p = p
 
 abbrev keyed_at : Option (MergeOp × (Kind × ValueMap ℤ)) → Part → Part
 keyed_at (Some t) p = keyed_part t.0 t.1.0 t.1.1
@@ -43,11 +48,12 @@ list_at (Some vs) p = list_part vs
 list_at None p = p
 
 abbrev part_at : Places → Part
-part_at p = list_at p.0 (total_at p.1.0 (cells_at p.1.1.0 (keyed_at p.1.1.1.0 (groups_at p.1.1.1.1))))
+part_at p = list_at p.0 (total_at p.1.0 (cells_at p.1.1.0 (keyed_at p.1.1.1.0 (totals_at p.1.1.1.1.0 (groups_at p.1.1.1.1.1)))))
 
 pub part_at-place_of : (p : Part) → part_at (place_of p) ≡ p
 part_at-place_of (list_part vs) = refl
 part_at-place_of (total_part op k x) = refl
+part_at-place_of (totals_part op xs) = refl
 part_at-place_of (cells_part op k xs) = refl
 part_at-place_of (keyed_part op k m) = refl
 part_at-place_of (groups_part m) = refl
@@ -56,5 +62,5 @@ abbrev pub coded_part : Coded Part
 coded_part =
     code_by Places
     (coded× (coded_option coded_values) (coded× (coded_option (coded× coded_op (coded× coded_kind coded_ℤ))) (coded× (coded_option (coded× coded_op (coded× coded_kind (coded_list coded_ℤ))))
-    (coded× (coded_option (coded× coded_op (coded× coded_kind (finite.code coded_value coded_ℤ)))) (coded_option (finite.code coded_value coded_values))))))
+    (coded× (coded_option (coded× coded_op (coded× coded_kind (finite.code coded_value coded_ℤ)))) (coded× (coded_option (coded× coded_op (coded_list (coded× coded_kind coded_ℤ)))) (coded_option (finite.code coded_value coded_values)))))))
     place_of part_at part_at-place_of

@@ -8,6 +8,7 @@ use Rattle.weld_builders.specs.Part.{Part, list_part}
 use Rattle.weld_builders.specs.ValueOrder.{ValueMap}
 use Rattle.weld_pieces.specs.Items.{items_of_list}
 use Rattle.weld_pieces.specs.Total.{part_of_total}
+use Rattle.weld_pieces.specs.Totals.{part_of_totals}
 use Rattle.weld_pieces.specs.Keyed.{part_of_keyed, KeysAreKept}
 use Rattle.weld_groups.specs.Groups.{part_of_groups}
 use Rattle.weld_built.specs.CellsState.{part_of_cells_state, AreFormed}
@@ -16,6 +17,7 @@ use Rattle.weld_built.specs.declared.built.State.TheVariants as states
 
 abbrev pub part_of_state : State → Part
 part_of_state (states.Total t) = part_of_total t
+part_of_state (states.Totals alloc t) = part_of_totals t
 part_of_state (states.List alloc p) = list_part (items_of_list p)
 part_of_state (states.Cells c) = part_of_cells_state c
 part_of_state (states.Keyed alloc k) = part_of_keyed k
@@ -28,6 +30,7 @@ pub record AreKeys {X : Type 0} (key : Option Kind) (m : ValueMap X) : Type 0 wh
 -- cells are of an integer kind, and keys are such as the part takes
 abbrev pub IsState : State → Type 0
 IsState (states.Total t) = Unit {0}
+IsState (states.Totals alloc t) = Unit {0}
 IsState (states.List alloc p) = Unit {0}
 IsState (states.Cells c) = AreFormed c
 IsState (states.Keyed alloc k) = AreKeys k.key k.numbers

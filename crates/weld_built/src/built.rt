@@ -1,5 +1,5 @@
 ghost use Rattle.std.specs.Prelude.{◌≡◌, map, IfOk, OnOk};
-ghost use Rattle.weld_data.specs.Kind.{InRange};
+ghost use Rattle.weld_data.specs.Kind.{IsNarrow, InRange};
 ghost use Rattle.weld_data.specs.Value.{number};
 ghost use Rattle.weld_data.specs.View.{view_val};
 ghost use Rattle.weld_builders.specs.Part.{shape_of, bare, merge_part, after_part, result_of};
@@ -14,15 +14,16 @@ use crate::fitting::number_of;
 use crate::groups::{join_groups, push_item};
 use crate::keyed::{join_keyed, merge_number, merge_value};
 use crate::list;
+use crate::totals::{merge_fields, merge_two};
 use std::alloc::{AllocError, Global};
 use std::marker::Model;
 use weld_data::{Kind, MergeOp, Num, Stop, Val};
 use weld_groups::GroupsPart;
 use weld_pieces::cells::CellsShape;
 use weld_pieces::fields::{as_number, two_fields};
-use weld_pieces::{KeyedPart, ListPart, Part, TotalPart};
+use weld_pieces::{KeyedPart, ListPart, Part, TotalPart, TotalsPart};
 
-/// A builder of one of the five kinds with what was merged into it. Contracts see it as plain data.
+/// A builder of one of the kinds with what was merged into it. Contracts see it as plain data.
 #[derive(Drop)]
 pub struct Built {
     state: State,
@@ -32,6 +33,7 @@ pub struct Built {
 #[derive(Drop)]
 enum State {
     Total(TotalPart),
+    Totals(Global, TotalsPart),
     List(Global, ListPart),
     Cells(Cells),
     Keyed(Global, KeyedPart),
@@ -55,7 +57,7 @@ impl Model for Built {
 
 impl Built {
     ghost use Rattle.std.specs.Prelude.{◌≡◌, map, IfOk, OnOk};
-    ghost use Rattle.weld_data.specs.Kind.{IsInteger, InRange};
+    ghost use Rattle.weld_data.specs.Kind.{IsInteger, IsNarrow, InRange};
     ghost use Rattle.weld_data.specs.Value.{number};
     ghost use Rattle.weld_data.specs.View.{view_val};
     ghost use Rattle.weld_builders.specs.Part.{total_part, list_shape, total_shape, cells_shape, keyed_shape, groups_shape, start_part, shape_of, bare, merge_part, after_part, result_of};
@@ -64,6 +66,7 @@ impl Built {
     ghost use Rattle.weld_built.specs.Logged.{IsItemOf, HasResult};
     ghost use Rattle.weld_built.specs.Pair.{pair};
     ghost use Rattle.weld_built.specs.State.{MergeAnswer};
+    ghost use Rattle.weld_pieces.specs.Totals.{part_of_totals};
 
     /// A list without items. It takes no memory.
     pub fn list(alloc: Global) -> Built
@@ -80,7 +83,7 @@ impl Built {
         ensures { result ≡ total_part op start.kind start.value }
     {
         Built {
-            state: State::Total(TotalPart::from_number(op, start.kind, start.value as i64)),
+            state: State::Total(TotalPart::from_number(op, start.kind, start.value)),
         }
     }
 
@@ -91,6 +94,15 @@ impl Built {
     {
         Built {
             state: State::Total(TotalPart::neutral(op, kind)),
+        }
+    }
+
+    /// A total for each field of a struct. It takes no memory.
+    pub fn totals(alloc: Global, totals: TotalsPart) -> Built
+        ensures { result ≡ part_of_totals totals }
+    {
+        Built {
+            state: State::Totals(alloc, totals),
         }
     }
 
@@ -123,12 +135,13 @@ impl Built {
         }
     }
 
-    /// The builder of the same shape that has nothing merged. It takes no memory.
-    pub fn bare(&self, alloc: Global) -> Built
-        ensures { result ≡ bare self.now }
+    /// The builder of the same shape that has nothing merged. It takes memory for totals of fields alone.
+    pub fn bare(&self, alloc: Global) -> Result<Built, AllocError>
+        ensures { IfOk result (λ b. b ≡ bare self.now) }
     {
-        Built {
-            state: bare_state(&self.state, alloc),
+        match bare_state(&self.state, alloc) {
+            Ok(state) => Ok(Built { state }),
+            Err(e) => Err(e),
         }
     }
 
@@ -151,8 +164,8 @@ impl Built {
         merge_into(&mut self.state, item)
     }
 
-    /// Merges an item that is a number of a kind. It makes no value where the builder keeps numbers
-    /// of that kind.
+    /// Merges an item that is a number of a kind and lies within an i64. It makes no value where the
+    /// builder keeps numbers of that kind.
     #[inline]
     pub fn merge_number(&mut self, kind: Kind, x: i64) -> Result<(), Stop>
         requires number { InRange kind x }
@@ -165,6 +178,7 @@ impl Built {
     /// Merges items that are numbers of a kind, the first one first. It makes no values where the
     /// builder keeps numbers of that kind.
     pub fn merge_numbers(&mut self, kind: Kind, items: &[i64]) -> Result<(), Stop>
+        requires narrow { IsNarrow kind }
         requires numbers { AllInRange kind items.now }
         requires items { TakesNumbers self.old kind }
         ensures { MergeAnswer result (merge_all self.old (map (number kind) items.now)) self.new }
@@ -172,8 +186,8 @@ impl Built {
         numbers_into(&mut self.state, kind, items)
     }
 
-    /// Merges an item that is a struct of two numbers, as a number at an index or at a key. It faults
-    /// exactly where the first is an index outside of the cells.
+    /// Merges an item that is a struct of two numbers that lie within an i64, as a number at an index
+    /// or at a key. It faults exactly where the first is an index outside of the cells.
     #[inline]
     pub fn merge_pair(&mut self, key_kind: Kind, key: i64, kind: Kind, x: i64) -> Result<(), Stop>
         requires key { InRange key_kind key }
@@ -184,8 +198,8 @@ impl Built {
         pair_into(&mut self.state, key_kind, key, kind, x)
     }
 
-    /// Merges an item that is a struct of a value and a number, as a number at a key. It faults
-    /// exactly where the first is an index outside of the cells.
+    /// Merges an item that is a struct of a value and a number that lies within an i64, as a number at
+    /// a key. It faults exactly where the first is an index outside of the cells.
     pub fn merge_at(&mut self, key: Val, kind: Kind, x: i64) -> Result<(), Stop>
         requires number { InRange kind x }
         requires item { IsItemOf self.old (pair (view_val key) (number kind x)) }
@@ -194,8 +208,8 @@ impl Built {
         values_into(&mut self.state, key, number_of(kind, x))
     }
 
-    /// Merges an item that is a struct of a number and a value, as a value at a key. It faults exactly
-    /// where the first is an index outside of the cells.
+    /// Merges an item that is a struct of a number that lies within an i64 and a value, as a value at a
+    /// key. It faults exactly where the first is an index outside of the cells.
     pub fn merge_under(&mut self, key_kind: Kind, key: i64, item: Val) -> Result<(), Stop>
         requires key { InRange key_kind key }
         requires item { IsItemOf self.old (pair (number key_kind key) (view_val item)) }
@@ -231,6 +245,7 @@ impl Built {
         let Built { state } = self;
         match state {
             State::Total(total) => Ok(Val::Num(total.number())),
+            State::Totals(_, totals) => totals.into_value(alloc),
             State::List(_, list) => list.finish(alloc),
             State::Cells(cells) => finish_cells(cells, alloc),
             State::Keyed(_, part) => part.finish(alloc),
@@ -240,22 +255,27 @@ impl Built {
 }
 
 /// The state that has nothing merged. It keeps items and keys alike.
-fn bare_state(state: &State, alloc: Global) -> State
+fn bare_state(state: &State, alloc: Global) -> Result<State, AllocError>
     requires { IsState state.now }
-    ensures bare { part_of_state result ≡ bare (part_of_state state.now) }
-    ensures state { IsState result }
+    ensures bare { IfOk result (λ s. part_of_state s ≡ bare (part_of_state state.now)) }
+    ensures state { IfOk result IsState }
 {
     match state {
-        State::Total(total) => State::Total(TotalPart::neutral(total.op(), total.number().kind)),
-        State::List(_, list) => State::List(alloc, ListPart::empty(alloc, list.kind())),
-        State::Cells(cells) => State::Cells(Cells::Bare(alloc, shape_of_cells(cells))),
+        State::Total(total) => {
+            let empty = TotalPart::neutral(total.op(), total.number().kind);
+            Ok(State::Total(empty))
+        }
+        State::Totals(_, totals) => Ok(State::Totals(alloc, totals.bare(alloc)?)),
+        State::List(_, list) => Ok(State::List(alloc, ListPart::empty(alloc, list.kind()))),
+        State::Cells(cells) => Ok(State::Cells(Cells::Bare(alloc, shape_of_cells(cells)))),
         State::Keyed(_, part) => {
             let shape = part.shape();
             let empty = KeyedPart::empty(alloc, shape.key, shape.op, shape.kind);
-            State::Keyed(alloc, empty)
+            Ok(State::Keyed(alloc, empty))
         }
         State::Groups(_, part) => {
-            State::Groups(alloc, GroupsPart::empty(alloc, part.key(), part.items()))
+            let empty = GroupsPart::empty(alloc, part.key(), part.items());
+            Ok(State::Groups(alloc, empty))
         }
     }
 }
@@ -270,9 +290,10 @@ fn copied_state(state: &State, alloc: Global) -> Result<State, AllocError>
     match state {
         State::Total(total) => {
             let number = total.number();
-            let copy = TotalPart::from_number(total.op(), number.kind, number.value as i64);
+            let copy = TotalPart::from_number(total.op(), number.kind, number.value);
             Ok(State::Total(copy))
         }
+        State::Totals(_, totals) => Ok(State::Totals(alloc, totals.copy(alloc)?)),
         State::List(_, list) => Ok(State::List(alloc, list.copy(alloc)?)),
         State::Cells(cells) => Ok(State::Cells(copy_of_cells(cells, alloc)?)),
         State::Keyed(_, part) => Ok(State::Keyed(alloc, part.copy_as(alloc, part.key())?)),
@@ -309,6 +330,7 @@ fn number_into(state: &mut State, kind: Kind, x: i64) -> Result<(), Stop>
 #[tactic(auto, using(crate::proofs::ManyLemmas::merged_list, crate::proofs::ManyLemmas::merged_total))]
 fn numbers_into(state: &mut State, kind: Kind, items: &[i64]) -> Result<(), Stop>
     requires state { IsState state.old }
+    requires narrow { IsNarrow kind }
     requires numbers { AllInRange kind items.now }
     requires items { TakesNumbers (part_of_state state.old) kind }
     ensures answer { MergeAnswer result (merge_all (part_of_state state.old) (map (number kind) items.now)) (part_of_state state.new) }
@@ -338,8 +360,14 @@ fn pair_into(state: &mut State, key_kind: Kind, key: i64, kind: Kind, x: i64) ->
     ensures state { IsState state.new }
 {
     match state {
-        State::Cells(cells) => return merge_cell(cells, key, x),
-        State::Keyed(alloc, part) => match merge_number(*alloc, part, key_kind, key, x) {
+        State::Cells(cells) => return merge_cell(cells, key, i128::from(x)),
+        State::Keyed(alloc, part) => match merge_number(
+            *alloc,
+            part,
+            key_kind,
+            key,
+            i128::from(x),
+        ) {
             Ok(()) => return Ok(()),
             Err(_) => return Err(Stop::Memory),
         },
@@ -356,6 +384,10 @@ fn values_into(state: &mut State, first: Val, second: Val) -> Result<(), Stop>
 {
     match state {
         State::Total(_) => unreachable!(),
+        State::Totals(_, totals) => {
+            merge_two(totals, first, second);
+            return Ok(());
+        }
         State::List(alloc, items) => match list::push_pair(*alloc, items, first, second) {
             Ok(()) => return Ok(()),
             Err(_) => return Err(Stop::Memory),
@@ -363,11 +395,11 @@ fn values_into(state: &mut State, first: Val, second: Val) -> Result<(), Stop>
         State::Cells(cells) => {
             let index = as_number(first);
             let number = as_number(second);
-            return merge_cell(cells, index.value as i64, number.value as i64);
+            return merge_cell(cells, index.value as i64, number.value);
         }
         State::Keyed(alloc, part) => {
             let number = as_number(second);
-            match merge_value(*alloc, part, first, number.value as i64) {
+            match merge_value(*alloc, part, first, number.value) {
                 Ok(()) => return Ok(()),
                 Err(_) => return Err(Stop::Memory),
             }
@@ -388,9 +420,13 @@ fn merge_into(state: &mut State, item: Val) -> Result<(), Stop>
 {
     match state {
         State::Total(total) => {
-            total.merge_number(as_number(item).value as i64);
+            total.merge_wide(as_number(item).value);
             return Ok(());
         }
+        State::Totals(alloc, totals) => match merge_fields(*alloc, totals, item) {
+            Ok(()) => return Ok(()),
+            Err(_) => return Err(Stop::Memory),
+        },
         State::List(alloc, items) => match list::push_item(*alloc, items, item) {
             Ok(()) => return Ok(()),
             Err(_) => return Err(Stop::Memory),
@@ -410,9 +446,11 @@ fn reserve_in(state: &mut State, kind: Option<Kind>, items: u64) -> Result<(), A
 {
     match state {
         State::List(alloc, list) => return list::reserve(*alloc, list, kind, items),
-        State::Total(_) | State::Cells(_) | State::Keyed(_, _) | State::Groups(_, _) => {
-            return Ok(());
-        }
+        State::Total(_)
+        | State::Totals(_, _)
+        | State::Cells(_)
+        | State::Keyed(_, _)
+        | State::Groups(_, _) => return Ok(()),
     }
 }
 
@@ -428,6 +466,10 @@ fn join_into(state: &mut State, later: State) -> Result<(), AllocError>
     match (state, later) {
         (State::Total(total), State::Total(more)) => {
             total.append(&more);
+            return Ok(());
+        }
+        (State::Totals(_, totals), State::Totals(_, more)) => {
+            totals.append(&more);
             return Ok(());
         }
         (State::List(alloc, items), State::List(_, more)) => {

@@ -27,20 +27,20 @@ pub(crate) enum Cells {
 /// Merges a number into the cell at an index. It faults exactly where the index is outside.
 #[inline]
 #[tactic(auto, using(crate::proofs::CellsLemmas::cell_merged))]
-pub(crate) fn merge_cell(cells: &mut Cells, index: i64, x: i64) -> Result<(), Stop>
+pub(crate) fn merge_cell(cells: &mut Cells, index: i64, x: i128) -> Result<(), Stop>
     requires formed { AreFormed cells.old }
     requires in_range { InRange (kind_of_cells cells.old) x }
     ensures answer { MergeAnswer result (merge_part (part_of_cells_state cells.old) (pair (number kinds.I64 index) (number (kind_of_cells cells.old) x))) (part_of_cells_state cells.new) }
     ensures formed { AreFormed cells.new }
 {
     match cells {
-        Cells::Kept(part) => part.merge_number(index, x),
+        Cells::Kept(part) => part.merge_wide(index, x),
         Cells::Bare(alloc, shape) => {
             let mut part = match CellsPart::neutral(*alloc, shape.op, shape.kind, shape.count) {
                 Ok(part) => part,
                 Err(_) => return Err(Stop::Memory),
             };
-            let answer = part.merge_number(index, x);
+            let answer = part.merge_wide(index, x);
             *cells = Cells::Kept(part);
             answer
         }

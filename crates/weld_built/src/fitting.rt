@@ -5,7 +5,7 @@ ghost use Rattle.weld_data.specs.Kind.{InRange};
 ghost use Rattle.weld_data.specs.Order.{IsKey};
 ghost use Rattle.weld_data.specs.Value.{number};
 ghost use Rattle.weld_data.specs.View.{view_val};
-ghost use Rattle.weld_pieces.specs.Kept.{IsKeptAs, IsKeptKey};
+ghost use Rattle.weld_pieces.specs.Kept.{IsKeptAs, IsKeptKey, IsNarrowKey};
 
 use weld_data::{Kind, Num, Val};
 
@@ -44,11 +44,22 @@ pub(crate) fn are_alike(kept: Option<Kind>, other: Option<Kind>) -> bool
 
 /// How such an item is best kept. It takes no memory.
 pub(crate) fn best_for(item: &Val) -> Option<Kind>
-    ensures item { IsKeptAs result (view_val item.now) }
-    ensures key { IsKey (view_val item.now) → IsKeptKey result (view_val item.now) }
+    ensures { IsKeptAs result (view_val item.now) }
 {
     match item {
         Val::Num(n) => Some(n.kind),
+        _ => None,
+    }
+}
+
+/// How such a key is best kept: as a number where that lies within an i64. It takes no memory.
+pub(crate) fn best_for_key(key: &Val) -> Option<Kind>
+    requires { IsKey (view_val key.now) }
+    ensures kept { IsKeptKey result (view_val key.now) }
+    ensures narrow { IsNarrowKey result }
+{
+    match key {
+        Val::Num(n) if n.kind.is_narrow() => Some(n.kind),
         _ => None,
     }
 }

@@ -7,7 +7,7 @@ ghost use Rattle.weld_builders.specs.Part.{appended, merge_key, join_maps};
 ghost use Rattle.weld_pieces.specs.Kept.{IsKeptAs, IsKeptKey};
 ghost use Rattle.weld_built.specs.State.{AreKeys};
 
-use crate::fitting::{are_alike, best_for, keeps_item, keeps_key};
+use crate::fitting::{are_alike, best_for, best_for_key, keeps_item, keeps_key};
 use std::alloc::{AllocError, Global};
 use weld_data::Val;
 use weld_groups::GroupsPart;
@@ -40,7 +40,7 @@ fn make_ready(alloc: Global, part: &mut GroupsPart, key: &Val, item: &Val) -> Re
     ensures keys { AreKeys part.new.key part.new.groups }
 {
     if part.is_empty() {
-        *part = GroupsPart::empty(alloc, best_for(key), best_for(item));
+        *part = GroupsPart::empty(alloc, best_for_key(key), best_for(item));
         return Ok(());
     }
     if keeps_key(part.key(), key) && keeps_item(part.items(), item) {

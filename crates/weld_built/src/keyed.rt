@@ -9,7 +9,7 @@ ghost use Rattle.weld_builders.specs.Part.{combined, merge_key, join_maps};
 ghost use Rattle.weld_pieces.specs.Kept.{IsKeptKey};
 ghost use Rattle.weld_built.specs.State.{AreKeys};
 
-use crate::fitting::{are_alike, best_for, keeps, keeps_key, number_of};
+use crate::fitting::{are_alike, best_for_key, keeps, keeps_key, number_of};
 use std::alloc::{AllocError, Global};
 use weld_data::{Kind, Val};
 use weld_pieces::KeyedPart;
@@ -21,7 +21,7 @@ pub(crate) fn merge_number(
     part: &mut KeyedPart,
     key_kind: Kind,
     key: i64,
-    x: i64,
+    x: i128,
 ) -> Result<(), AllocError>
     requires keys { AreKeys part.old.key part.old.numbers }
     requires key { InRange key_kind key }
@@ -42,7 +42,7 @@ pub(crate) fn merge_value(
     alloc: Global,
     part: &mut KeyedPart,
     key: Val,
-    x: i64,
+    x: i128,
 ) -> Result<(), AllocError>
     requires keys { AreKeys part.old.key part.old.numbers }
     requires key { IsKey (view_val key) }
@@ -70,7 +70,7 @@ fn make_ready(alloc: Global, part: &mut KeyedPart, key: &Val) -> Result<(), Allo
 {
     if part.is_empty() {
         let shape = part.shape();
-        *part = KeyedPart::empty(alloc, best_for(key), shape.op, shape.kind);
+        *part = KeyedPart::empty(alloc, best_for_key(key), shape.op, shape.kind);
         return Ok(());
     }
     if keeps_key(part.key(), key) {

@@ -10,5 +10,6 @@ mod fitting;
 mod groups;
 mod keyed;
 mod list;
+pub mod totals;
 
 pub use built::Built;

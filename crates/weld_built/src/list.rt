@@ -2,7 +2,7 @@
 
 ghost use Rattle.std.specs.Prelude.{◌≡◌, ◌∷◌, ◌++◌, [], map, None, OnOk};
 ghost use Rattle.weld_builders.specs.Range.{AllInRange};
-ghost use Rattle.weld_data.specs.Kind.{InRange};
+ghost use Rattle.weld_data.specs.Kind.{IsNarrow, InRange};
 ghost use Rattle.weld_data.specs.Value.{number};
 ghost use Rattle.weld_data.specs.View.{view_val};
 ghost use Rattle.weld_pieces.specs.Items.{items_of_list, kind_of_items};
@@ -38,7 +38,8 @@ pub(crate) fn push_numbers(
     kind: Kind,
     items: &[i64],
 ) -> Result<(), AllocError>
-    requires { AllInRange kind items.now }
+    requires narrow { IsNarrow kind }
+    requires in_range { AllInRange kind items.now }
     ensures { OnOk result (items_of_list list.new ≡ items_of_list list.old ++ map (number kind) items.now) }
 {
     make_ready_for(alloc, list, kind);
@@ -64,7 +65,8 @@ fn push_each(
     kind: Kind,
     items: &[i64],
 ) -> Result<(), AllocError>
-    requires { AllInRange kind items.now }
+    requires narrow { IsNarrow kind }
+    requires in_range { AllInRange kind items.now }
     ensures { OnOk result (items_of_list list.new ≡ items_of_list list.old ++ map (number kind) items.now) }
 {
     for i in 0..items.len() {

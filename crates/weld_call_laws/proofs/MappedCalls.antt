@@ -60,9 +60,13 @@ all_mapped f stuck = refl
 same_kind_itself : (k : Kind) → same_kind k k ≡ true
 same_kind_itself kinds.Bool = refl
 same_kind_itself kinds.I8 = refl
-same_kind_itself kinds.U8 = refl
+same_kind_itself kinds.I16 = refl
 same_kind_itself kinds.I32 = refl
 same_kind_itself kinds.I64 = refl
+same_kind_itself kinds.U8 = refl
+same_kind_itself kinds.U16 = refl
+same_kind_itself kinds.U32 = refl
+same_kind_itself kinds.U64 = refl
 
 or_fault-option_map : {A B : Type 0} (f : A → B) (o : Option A) → or_fault (option_map f o) ≡ map_out f (or_fault o)
 or_fault-option_map f (Some x) = refl

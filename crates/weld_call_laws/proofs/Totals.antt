@@ -23,9 +23,13 @@ total_of merges.Max k xs = greatest_of k xs
 zero_in_range : (k : Kind) → InRange k (pos 0)
 zero_in_range kinds.Bool = record { low = omega (arith, ints); high = omega (arith, ints) }
 zero_in_range kinds.I8 = record { low = omega (arith, ints); high = omega (arith, ints) }
-zero_in_range kinds.U8 = record { low = omega (arith, ints); high = omega (arith, ints) }
+zero_in_range kinds.I16 = record { low = omega (arith, ints); high = omega (arith, ints) }
 zero_in_range kinds.I32 = record { low = omega (arith, ints); high = omega (arith, ints) }
 zero_in_range kinds.I64 = record { low = omega (arith, ints); high = omega (arith, ints) }
+zero_in_range kinds.U8 = record { low = omega (arith, ints); high = omega (arith, ints) }
+zero_in_range kinds.U16 = record { low = omega (arith, ints); high = omega (arith, ints) }
+zero_in_range kinds.U32 = record { low = omega (arith, ints); high = omega (arith, ints) }
+zero_in_range kinds.U64 = record { low = omega (arith, ints); high = omega (arith, ints) }
 
 pub wrapped_zero : (k : Kind) → wrapped k (pos 0) ≡ pos 0
 wrapped_zero k = wrapped-in_range k (pos 0) (zero_in_range k)

@@ -12,9 +12,13 @@ use Rattle.weld_calls.proofs.Fitting.{key_true}
 same_self : (k : Kind) → same_kind k k ≡ true
 same_self kinds.Bool = refl
 same_self kinds.I8 = refl
-same_self kinds.U8 = refl
+same_self kinds.I16 = refl
 same_self kinds.I32 = refl
 same_self kinds.I64 = refl
+same_self kinds.U8 = refl
+same_self kinds.U16 = refl
+same_self kinds.U32 = refl
+same_self kinds.U64 = refl
 
 -- two tests of one fact
 agree : (a b : Bool) → (a ≡ true → b ≡ true) → (b ≡ true → a ≡ true) → a ≡ b

@@ -40,37 +40,57 @@ columns_true (more_types t ts) h = (λ i. is_vec (λ u. true) (h.0.1 i) && are_v
 one_fits : (k : Kind) → IsInteger k → misfit_from None 1 (Numbers ∷ []) (vec (scalar k) ∷ []) ≡ None
 one_fits kinds.Bool h = absurd h
 one_fits kinds.I8 h = refl
-one_fits kinds.U8 h = refl
+one_fits kinds.I16 h = refl
 one_fits kinds.I32 h = refl
 one_fits kinds.I64 h = refl
+one_fits kinds.U8 h = refl
+one_fits kinds.U16 h = refl
+one_fits kinds.U32 h = refl
+one_fits kinds.U64 h = refl
 
 two_fit : (k : Kind) → IsInteger k → misfit_from None 1 (Numbers ∷ Numbers ∷ []) (vec (scalar k) ∷ vec (scalar k) ∷ []) ≡ None
 two_fit kinds.Bool h = absurd h
 two_fit kinds.I8 h = refl
-two_fit kinds.U8 h = refl
+two_fit kinds.I16 h = refl
 two_fit kinds.I32 h = refl
 two_fit kinds.I64 h = refl
+two_fit kinds.U8 h = refl
+two_fit kinds.U16 h = refl
+two_fit kinds.U32 h = refl
+two_fit kinds.U64 h = refl
 
 number_fits : (k : Kind) → IsInteger k → misfit_from None 1 (Numbers ∷ Number ∷ []) (vec (scalar k) ∷ scalar k ∷ []) ≡ None
 number_fits kinds.Bool h = absurd h
 number_fits kinds.I8 h = refl
-number_fits kinds.U8 h = refl
+number_fits kinds.I16 h = refl
 number_fits kinds.I32 h = refl
 number_fits kinds.I64 h = refl
+number_fits kinds.U8 h = refl
+number_fits kinds.U16 h = refl
+number_fits kinds.U32 h = refl
+number_fits kinds.U64 h = refl
 
 where_fits : (k : Kind) → IsInteger k → misfit_from None 1 (Truths ∷ Numbers ∷ Numbers ∷ []) (vec truth_type ∷ vec (scalar k) ∷ vec (scalar k) ∷ []) ≡ None
 where_fits kinds.Bool h = absurd h
 where_fits kinds.I8 h = refl
-where_fits kinds.U8 h = refl
+where_fits kinds.I16 h = refl
 where_fits kinds.I32 h = refl
 where_fits kinds.I64 h = refl
+where_fits kinds.U8 h = refl
+where_fits kinds.U16 h = refl
+where_fits kinds.U32 h = refl
+where_fits kinds.U64 h = refl
 
 rows_fit : (k : Kind) → IsInteger k → misfit_from None 1 (Rows ∷ Numbers ∷ []) (vec (vec (scalar k)) ∷ vec (scalar k) ∷ []) ≡ None
 rows_fit kinds.Bool h = absurd h
 rows_fit kinds.I8 h = refl
-rows_fit kinds.U8 h = refl
+rows_fit kinds.I16 h = refl
 rows_fit kinds.I32 h = refl
 rows_fit kinds.I64 h = refl
+rows_fit kinds.U8 h = refl
+rows_fit kinds.U16 h = refl
+rows_fit kinds.U32 h = refl
+rows_fit kinds.U64 h = refl
 
 -- ---- the calls
 
@@ -104,9 +124,13 @@ keys_numbers q k e h = (λ i. keys_so (vec q) (misfit_from None 2 (Numbers ∷ [
     second : (k : Kind) → IsInteger k → misfit_from None 2 (Numbers ∷ []) (vec (scalar k) ∷ []) ≡ None
     second kinds.Bool h = absurd h
     second kinds.I8 h = refl
-    second kinds.U8 h = refl
+    second kinds.I16 h = refl
     second kinds.I32 h = refl
     second kinds.I64 h = refl
+    second kinds.U8 h = refl
+    second kinds.U16 h = refl
+    second kinds.U32 h = refl
+    second kinds.U64 h = refl
 
 pub fits_of_row : (call : Call) (ts : List TypeTree) → IsRow call ts → FitsCall call ts
 fits_of_row Add ts r = vectors_call Add ts (λ k h. record { count = refl; each = alone (as_written Add) _ (two_fit k h) }) r

@@ -48,16 +48,24 @@ chosen false r x h = some_none x h
 pub integer_kind : (k : Kind) → is_integer k ≡ true → IsInteger k
 integer_kind kinds.Bool h = no h
 integer_kind kinds.I8 h = tt
-integer_kind kinds.U8 h = tt
+integer_kind kinds.I16 h = tt
 integer_kind kinds.I32 h = tt
 integer_kind kinds.I64 h = tt
+integer_kind kinds.U8 h = tt
+integer_kind kinds.U16 h = tt
+integer_kind kinds.U32 h = tt
+integer_kind kinds.U64 h = tt
 
 pub same_kinds : (k m : Kind) → same_kind k m ≡ true → k ≡ m
 same_kinds kinds.Bool kinds.Bool h = refl
 same_kinds kinds.I8 kinds.I8 h = refl
-same_kinds kinds.U8 kinds.U8 h = refl
+same_kinds kinds.I16 kinds.I16 h = refl
 same_kinds kinds.I32 kinds.I32 h = refl
 same_kinds kinds.I64 kinds.I64 h = refl
+same_kinds kinds.U8 kinds.U8 h = refl
+same_kinds kinds.U16 kinds.U16 h = refl
+same_kinds kinds.U32 kinds.U32 h = refl
+same_kinds kinds.U64 kinds.U64 h = refl
 same_kinds _ _ h = no h
 
 -- ---- types

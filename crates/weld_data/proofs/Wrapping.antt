@@ -1,5 +1,5 @@
 -- `wrapped` gives the one number of the kind that equals its argument modulo the kind's size.
-use Rattle.std.proofs.Common.{◌≡◌, ℕ, suc, ◌-◌, ◌/◌, ◌^◌, ◌<◌, ◌≤◌, Bool, true, false, ltb, ℤ, pos, negsuc, ◌+ℤ◌, ◌*ℤ◌, unsigned_abs, int_div, FitsSigned, ap, sym, refl, ◌∙◌, subst, arith, w8, w32, w64, mod-lt, div-add-mod', pow_pos, mod-eq_of_lt, div-le_self}
+use Rattle.std.proofs.Common.{◌≡◌, ℕ, suc, ◌-◌, ◌/◌, ◌^◌, ◌<◌, ◌≤◌, Bool, true, false, ltb, ℤ, pos, negsuc, ◌+ℤ◌, ◌*ℤ◌, unsigned_abs, int_div, FitsSigned, ap, sym, refl, ◌∙◌, subst, arith, w8, w16, w32, w64, mod-lt, div-add-mod', pow_pos, mod-eq_of_lt, div-le_self}
 use Rattle.std.specs.Int.{Width, w128, cast_signed, cast_unsigned, int_rem_euclid, int_wrap, int_wrapping_div}
 use mir.Val.{bits, hbits, sel}
 use Rattle.std.proofs.lemmas.Int.{ints, to_z-of_z, SFits-int_wrap}
@@ -58,9 +58,9 @@ IsWrapped-wrapped kinds.I8 x = record {
   in_range = let f = SFits-int_wrap w8 x in record { low = omega (arith, ints); high = omega (arith, ints) };
   same = SameModulo-int_wrap w8 x;
 }
-IsWrapped-wrapped kinds.U8 x = record {
-  in_range = let a = rem_euclid_abs (2 ^ 8) x (omega arith) in record { low = omega (arith, ints); high = omega (arith, ints) };
-  same = SameModulo-rem_euclid (2 ^ 8) x (omega arith);
+IsWrapped-wrapped kinds.I16 x = record {
+  in_range = let f = SFits-int_wrap w16 x in record { low = omega (arith, ints); high = omega (arith, ints) };
+  same = SameModulo-int_wrap w16 x;
 }
 IsWrapped-wrapped kinds.I32 x = record {
   in_range = let f = SFits-int_wrap w32 x in record { low = omega (arith, ints); high = omega (arith, ints) };
@@ -70,14 +70,34 @@ IsWrapped-wrapped kinds.I64 x = record {
   in_range = let f = SFits-int_wrap w64 x in record { low = omega (arith, ints); high = omega (arith, ints) };
   same = SameModulo-int_wrap w64 x;
 }
+IsWrapped-wrapped kinds.U8 x = record {
+  in_range = let a = rem_euclid_abs (2 ^ 8) x (omega arith) in record { low = omega (arith, ints); high = omega (arith, ints) };
+  same = SameModulo-rem_euclid (2 ^ 8) x (omega arith);
+}
+IsWrapped-wrapped kinds.U16 x = record {
+  in_range = let a = rem_euclid_abs (2 ^ 16) x (omega arith) in record { low = omega (arith, ints); high = omega (arith, ints) };
+  same = SameModulo-rem_euclid (2 ^ 16) x (omega arith);
+}
+IsWrapped-wrapped kinds.U32 x = record {
+  in_range = let a = rem_euclid_abs (2 ^ 32) x (omega arith) in record { low = omega (arith, ints); high = omega (arith, ints) };
+  same = SameModulo-rem_euclid (2 ^ 32) x (omega arith);
+}
+IsWrapped-wrapped kinds.U64 x = record {
+  in_range = let a = rem_euclid_abs (2 ^ 64) x (omega arith) in record { low = omega (arith, ints); high = omega (arith, ints) };
+  same = SameModulo-rem_euclid (2 ^ 64) x (omega arith);
+}
 
 -- and it is the only one
 pub IsWrapped-only : (kind : Kind) (x y z : ℤ) → IsWrapped kind x y → IsWrapped kind x z → y ≡ z
 IsWrapped-only kinds.Bool x y z a b = omega (arith, ints, a.in_range.low, a.in_range.high, b.in_range.low, b.in_range.high, a.same.1, b.same.1)
 IsWrapped-only kinds.I8 x y z a b = omega (arith, ints, a.in_range.low, a.in_range.high, b.in_range.low, b.in_range.high, a.same.1, b.same.1)
-IsWrapped-only kinds.U8 x y z a b = omega (arith, ints, a.in_range.low, a.in_range.high, b.in_range.low, b.in_range.high, a.same.1, b.same.1)
+IsWrapped-only kinds.I16 x y z a b = omega (arith, ints, a.in_range.low, a.in_range.high, b.in_range.low, b.in_range.high, a.same.1, b.same.1)
 IsWrapped-only kinds.I32 x y z a b = omega (arith, ints, a.in_range.low, a.in_range.high, b.in_range.low, b.in_range.high, a.same.1, b.same.1)
 IsWrapped-only kinds.I64 x y z a b = omega (arith, ints, a.in_range.low, a.in_range.high, b.in_range.low, b.in_range.high, a.same.1, b.same.1)
+IsWrapped-only kinds.U8 x y z a b = omega (arith, ints, a.in_range.low, a.in_range.high, b.in_range.low, b.in_range.high, a.same.1, b.same.1)
+IsWrapped-only kinds.U16 x y z a b = omega (arith, ints, a.in_range.low, a.in_range.high, b.in_range.low, b.in_range.high, a.same.1, b.same.1)
+IsWrapped-only kinds.U32 x y z a b = omega (arith, ints, a.in_range.low, a.in_range.high, b.in_range.low, b.in_range.high, a.same.1, b.same.1)
+IsWrapped-only kinds.U64 x y z a b = omega (arith, ints, a.in_range.low, a.in_range.high, b.in_range.low, b.in_range.high, a.same.1, b.same.1)
 
 -- numbers that are equal modulo the kind's size wrap to the same
 pub wrapped-same : (kind : Kind) (x y : ℤ) → SameModulo (size_of kind) x y → wrapped kind x ≡ wrapped kind y

@@ -15,9 +15,13 @@ pub deep-Val-le : (v : Val) → deep-Val v ≤ depth (view_val v) + 1
 deep-Val-le (val.Num n) = omega arith
 deep-Val-le (val.List (column.Bool items)) = omega arith
 deep-Val-le (val.List (column.I8 items)) = omega arith
-deep-Val-le (val.List (column.U8 items)) = omega arith
+deep-Val-le (val.List (column.I16 items)) = omega arith
 deep-Val-le (val.List (column.I32 items)) = omega arith
 deep-Val-le (val.List (column.I64 items)) = omega arith
+deep-Val-le (val.List (column.U8 items)) = omega arith
+deep-Val-le (val.List (column.U16 items)) = omega arith
+deep-Val-le (val.List (column.U32 items)) = omega arith
+deep-Val-le (val.List (column.U64 items)) = omega arith
 deep-Val-le (val.List (column.Nest items)) = omega arith
 deep-Val-le (val.Struct fields) = omega arith
 deep-Val-le (val.Dict pairs) = omega arith

@@ -9,9 +9,13 @@ use Rattle.weld_data.specs.Value.{Value, number, list, struct, dict, Values, no_
 abbrev pub same_kind : Kind → Kind → Bool
 same_kind kinds.Bool kinds.Bool = true
 same_kind kinds.I8 kinds.I8 = true
-same_kind kinds.U8 kinds.U8 = true
+same_kind kinds.I16 kinds.I16 = true
 same_kind kinds.I32 kinds.I32 = true
 same_kind kinds.I64 kinds.I64 = true
+same_kind kinds.U8 kinds.U8 = true
+same_kind kinds.U16 kinds.U16 = true
+same_kind kinds.U32 kinds.U32 = true
+same_kind kinds.U64 kinds.U64 = true
 same_kind _ _ = false
 
 abbrev mutual

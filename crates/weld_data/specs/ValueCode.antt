@@ -4,22 +4,30 @@ use Rattle.std.specs.Coded.{Coded, code_by, coded×, coded_list}
 use denote.Struct.Codes.{itself}
 use base.Stored.{Gv, gnil, gnum, gcons, num}
 use Rattle.weld_data.specs.declared.kind.Kind.{Kind}
-use Rattle.weld_data.specs.declared.kind.Kind.TheVariants.{Bool, I8, U8, I32, I64}
+use Rattle.weld_data.specs.declared.kind.Kind.TheVariants.{Bool, I8, I16, I32, I64, U8, U16, U32, U64}
 use Rattle.weld_data.specs.Value.{Value, ValueList, EntryList, number, list, struct, dict, Values, no_values, and_value, Entries, no_entries, and_entry}
 
 abbrev kind_code : Kind → ℕ
 kind_code Bool = 0
 kind_code I8 = 1
-kind_code U8 = 2
+kind_code I16 = 2
 kind_code I32 = 3
 kind_code I64 = 4
+kind_code U8 = 5
+kind_code U16 = 6
+kind_code U32 = 7
+kind_code U64 = 8
 
 abbrev kind_at : ℕ → Kind
 kind_at zero = Bool
 kind_at (suc zero) = I8
-kind_at (suc (suc zero)) = U8
+kind_at (suc (suc zero)) = I16
 kind_at (suc (suc (suc zero))) = I32
-kind_at (suc (suc (suc (suc n)))) = I64
+kind_at (suc (suc (suc (suc zero)))) = I64
+kind_at (suc (suc (suc (suc (suc zero))))) = U8
+kind_at (suc (suc (suc (suc (suc (suc zero)))))) = U16
+kind_at (suc (suc (suc (suc (suc (suc (suc zero))))))) = U32
+kind_at (suc (suc (suc (suc (suc (suc (suc (suc n)))))))) = U64
 
 -- a number: its kind and its sign, and its size
 abbrev number_code : Kind → ℤ → Gv
@@ -89,12 +97,20 @@ number_at-number_code Bool (pos n) = refl
 number_at-number_code Bool (negsuc n) = refl
 number_at-number_code I8 (pos n) = refl
 number_at-number_code I8 (negsuc n) = refl
-number_at-number_code U8 (pos n) = refl
-number_at-number_code U8 (negsuc n) = refl
+number_at-number_code I16 (pos n) = refl
+number_at-number_code I16 (negsuc n) = refl
 number_at-number_code I32 (pos n) = refl
 number_at-number_code I32 (negsuc n) = refl
 number_at-number_code I64 (pos n) = refl
 number_at-number_code I64 (negsuc n) = refl
+number_at-number_code U8 (pos n) = refl
+number_at-number_code U8 (negsuc n) = refl
+number_at-number_code U16 (pos n) = refl
+number_at-number_code U16 (negsuc n) = refl
+number_at-number_code U32 (pos n) = refl
+number_at-number_code U32 (negsuc n) = refl
+number_at-number_code U64 (pos n) = refl
+number_at-number_code U64 (negsuc n) = refl
 
 mutual
   pub value_at-value_code : (v : Value) → value_at (value_code v) ≡ v

@@ -13,9 +13,13 @@ use Rattle.weld_data.specs.Value.{Value, number, list, struct, dict, values, ent
 abbrev pub view_column : Column → List Value
 view_column (column.Bool items) = map (λ (b : Bool). number kinds.Bool (truth b)) items
 view_column (column.I8 items) = map (number kinds.I8) items
-view_column (column.U8 items) = map (λ (n : ℕ). number kinds.U8 (pos n)) items
+view_column (column.I16 items) = map (number kinds.I16) items
 view_column (column.I32 items) = map (number kinds.I32) items
 view_column (column.I64 items) = map (number kinds.I64) items
+view_column (column.U8 items) = map (λ (n : ℕ). number kinds.U8 (pos n)) items
+view_column (column.U16 items) = map (λ (n : ℕ). number kinds.U16 (pos n)) items
+view_column (column.U32 items) = map (λ (n : ℕ). number kinds.U32 (pos n)) items
+view_column (column.U64 items) = map (λ (n : ℕ). number kinds.U64 (pos n)) items
 view_column (column.Nest items) = items
 
 abbrev pub view_val : Val → Value

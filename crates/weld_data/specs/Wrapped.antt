@@ -1,8 +1,8 @@
 -- Wrapping, by this project's profile of Weld: the number of a kind that stands for a whole number.
 use Rattle.std.specs.Prelude.{◌≡◌, ℕ, ◌^◌, ℤ, pos, ◌+ℤ◌, ◌*ℤ◌}
-use Rattle.std.specs.Int.{w8, w32, w64, int_rem_euclid, int_wrap}
+use Rattle.std.specs.Int.{w8, w16, w32, w64, int_rem_euclid, int_wrap}
 use Rattle.weld_data.specs.declared.kind.Kind.{Kind}
-use Rattle.weld_data.specs.declared.kind.Kind.TheVariants.{Bool, I8, U8, I32, I64}
+use Rattle.weld_data.specs.declared.kind.Kind.TheVariants.{Bool, I8, I16, I32, I64, U8, U16, U32, U64}
 use Rattle.weld_data.specs.Kind.{InRange, size_of}
 
 -- x and y differ by a multiple of n
@@ -18,6 +18,10 @@ pub record IsWrapped (kind : Kind) (x y : ℤ) : Type 0 where
 abbrev pub wrapped : Kind → ℤ → ℤ
 wrapped Bool x = int_rem_euclid x (pos 2)
 wrapped I8 x = int_wrap w8 x
-wrapped U8 x = int_rem_euclid x (pos (2 ^ 8))
+wrapped I16 x = int_wrap w16 x
 wrapped I32 x = int_wrap w32 x
 wrapped I64 x = int_wrap w64 x
+wrapped U8 x = int_rem_euclid x (pos (2 ^ 8))
+wrapped U16 x = int_rem_euclid x (pos (2 ^ 16))
+wrapped U32 x = int_rem_euclid x (pos (2 ^ 32))
+wrapped U64 x = int_rem_euclid x (pos (2 ^ 64))

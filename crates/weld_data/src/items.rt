@@ -16,14 +16,26 @@ pub type Bools = Items<bool>;
 /// A list of numbers of kind i8.
 pub type I8s = Items<i8>;
 
-/// A list of numbers of kind u8.
-pub type U8s = Items<u8>;
+/// A list of numbers of kind i16.
+pub type I16s = Items<i16>;
 
 /// A list of numbers of kind i32.
 pub type I32s = Items<i32>;
 
 /// A list of numbers of kind i64.
 pub type I64s = Items<i64>;
+
+/// A list of numbers of kind u8.
+pub type U8s = Items<u8>;
+
+/// A list of numbers of kind u16.
+pub type U16s = Items<u16>;
+
+/// A list of numbers of kind u32.
+pub type U32s = Items<u32>;
+
+/// A list of numbers of kind u64.
+pub type U64s = Items<u64>;
 
 /// A list of texts, as of names.
 pub type Names = Items<Text>;

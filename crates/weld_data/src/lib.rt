@@ -16,7 +16,7 @@ pub mod stop;
 pub mod text;
 pub mod value;
 
-pub use items::{Bools, I8s, I32s, I64s, Items, Names, U8s};
+pub use items::{Bools, I8s, I16s, I32s, I64s, Items, Names, U8s, U16s, U32s, U64s};
 pub use kind::Kind;
 pub use num::Num;
 pub use op::{BinOp, MergeOp};

@@ -37,13 +37,13 @@ impl Num {
         }
     }
 
-    /// The number of kind u8.
-    pub fn of_u8(x: u8) -> Num
-        ensures kind { result.kind ≡ kinds.U8 }
-        ensures value { result.value ≡ pos x }
+    /// The number of kind i16.
+    pub fn of_i16(x: i16) -> Num
+        ensures kind { result.kind ≡ kinds.I16 }
+        ensures value { result.value ≡ x }
     {
         Num {
-            kind: Kind::U8,
+            kind: Kind::I16,
             value: i128::from(x),
         }
     }
@@ -66,6 +66,50 @@ impl Num {
     {
         Num {
             kind: Kind::I64,
+            value: i128::from(x),
+        }
+    }
+
+    /// The number of kind u8.
+    pub fn of_u8(x: u8) -> Num
+        ensures kind { result.kind ≡ kinds.U8 }
+        ensures value { result.value ≡ pos x }
+    {
+        Num {
+            kind: Kind::U8,
+            value: i128::from(x),
+        }
+    }
+
+    /// The number of kind u16.
+    pub fn of_u16(x: u16) -> Num
+        ensures kind { result.kind ≡ kinds.U16 }
+        ensures value { result.value ≡ pos x }
+    {
+        Num {
+            kind: Kind::U16,
+            value: i128::from(x),
+        }
+    }
+
+    /// The number of kind u32.
+    pub fn of_u32(x: u32) -> Num
+        ensures kind { result.kind ≡ kinds.U32 }
+        ensures value { result.value ≡ pos x }
+    {
+        Num {
+            kind: Kind::U32,
+            value: i128::from(x),
+        }
+    }
+
+    /// The number of kind u64.
+    pub fn of_u64(x: u64) -> Num
+        ensures kind { result.kind ≡ kinds.U64 }
+        ensures value { result.value ≡ pos x }
+    {
+        Num {
+            kind: Kind::U64,
             value: i128::from(x),
         }
     }

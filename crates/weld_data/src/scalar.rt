@@ -19,9 +19,13 @@ pub fn wrap(kind: Kind, x: i128) -> i128
     match kind {
         Kind::Bool => unreachable!(),
         Kind::I8 => i128::from((x.rem_euclid(1 << 8) as u8).cast_signed()),
-        Kind::U8 => x.rem_euclid(1 << 8),
+        Kind::I16 => i128::from((x.rem_euclid(1 << 16) as u16).cast_signed()),
         Kind::I32 => i128::from((x.rem_euclid(1 << 32) as u32).cast_signed()),
         Kind::I64 => i128::from((x.rem_euclid(1 << 64) as u64).cast_signed()),
+        Kind::U8 => x.rem_euclid(1 << 8),
+        Kind::U16 => x.rem_euclid(1 << 16),
+        Kind::U32 => x.rem_euclid(1 << 32),
+        Kind::U64 => x.rem_euclid(1 << 64),
     }
 }
 
@@ -89,9 +93,13 @@ fn greatest(kind: Kind) -> i128
     match kind {
         Kind::Bool => 1,
         Kind::I8 => i128::from(i8::MAX),
-        Kind::U8 => i128::from(u8::MAX),
+        Kind::I16 => i128::from(i16::MAX),
         Kind::I32 => i128::from(i32::MAX),
         Kind::I64 => i128::from(i64::MAX),
+        Kind::U8 => i128::from(u8::MAX),
+        Kind::U16 => i128::from(u16::MAX),
+        Kind::U32 => i128::from(u32::MAX),
+        Kind::U64 => i128::from(u64::MAX),
     }
 }
 
@@ -100,10 +108,11 @@ fn least(kind: Kind) -> i128
     ensures { result ≡ kinds.least kind }
 {
     match kind {
-        Kind::Bool | Kind::U8 => 0,
         Kind::I8 => i128::from(i8::MIN),
+        Kind::I16 => i128::from(i16::MIN),
         Kind::I32 => i128::from(i32::MIN),
         Kind::I64 => i128::from(i64::MIN),
+        Kind::Bool | Kind::U8 | Kind::U16 | Kind::U32 | Kind::U64 => 0,
     }
 }
 
@@ -145,7 +154,20 @@ fn product(kind: Kind, x: i128, y: i128) -> i128
     ensures value { result ≡ wrapped kind (x *ℤ y) }
     ensures in_range { InRange kind result }
 {
-    wrap(kind, x * y)
+    match kind {
+        Kind::U64 => widest_product(x, y),
+        _ => wrap(kind, x * y),
+    }
+}
+
+/// The wrapped product of two numbers of kind u64, which may pass an i128.
+fn widest_product(x: i128, y: i128) -> i128
+    requires left { InRange kind_names.U64 x }
+    requires right { InRange kind_names.U64 y }
+    ensures value { result ≡ wrapped kind_names.U64 (x *ℤ y) }
+    ensures in_range { InRange kind_names.U64 result }
+{
+    i128::from((x as u64).wrapping_mul(y as u64))
 }
 
 /// The wrapped quotient, truncated.

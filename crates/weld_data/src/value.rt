@@ -4,7 +4,7 @@ mod copy;
 mod lookup;
 mod order;
 
-use crate::items::{Bools, I8s, I32s, I64s, U8s};
+use crate::items::{Bools, I8s, I16s, I32s, I64s, U8s, U16s, U32s, U64s};
 use crate::num::Num;
 pub use order::compare_keys;
 use std::alloc::{AllocError, Global};
@@ -26,9 +26,13 @@ pub enum Val {
 pub enum Column {
     Bool(Bools),
     I8(I8s),
-    U8(U8s),
+    I16(I16s),
     I32(I32s),
     I64(I64s),
+    U8(U8s),
+    U16(U16s),
+    U32(U32s),
+    U64(U64s),
     Nest(Vals),
 }
 
@@ -256,9 +260,13 @@ impl Column {
         match self {
             Column::Bool(items) => items.len(),
             Column::I8(items) => items.len(),
-            Column::U8(items) => items.len(),
+            Column::I16(items) => items.len(),
             Column::I32(items) => items.len(),
             Column::I64(items) => items.len(),
+            Column::U8(items) => items.len(),
+            Column::U16(items) => items.len(),
+            Column::U32(items) => items.len(),
+            Column::U64(items) => items.len(),
             Column::Nest(items) => items.len(),
         }
     }
@@ -279,9 +287,13 @@ impl Column {
         match self {
             Column::Bool(items) => Num::of_bool(items.as_slice()[index]),
             Column::I8(items) => Num::of_i8(items.as_slice()[index]),
-            Column::U8(items) => Num::of_u8(items.as_slice()[index]),
+            Column::I16(items) => Num::of_i16(items.as_slice()[index]),
             Column::I32(items) => Num::of_i32(items.as_slice()[index]),
             Column::I64(items) => Num::of_i64(items.as_slice()[index]),
+            Column::U8(items) => Num::of_u8(items.as_slice()[index]),
+            Column::U16(items) => Num::of_u16(items.as_slice()[index]),
+            Column::U32(items) => Num::of_u32(items.as_slice()[index]),
+            Column::U64(items) => Num::of_u64(items.as_slice()[index]),
             Column::Nest(items) => match items.at(index) {
                 Val::Num(number) => *number,
                 _ => unreachable!(),
@@ -297,9 +309,13 @@ impl Column {
         match self {
             Column::Bool(items) => Ok(Val::Num(Num::of_bool(items.as_slice()[index]))),
             Column::I8(items) => Ok(Val::Num(Num::of_i8(items.as_slice()[index]))),
-            Column::U8(items) => Ok(Val::Num(Num::of_u8(items.as_slice()[index]))),
+            Column::I16(items) => Ok(Val::Num(Num::of_i16(items.as_slice()[index]))),
             Column::I32(items) => Ok(Val::Num(Num::of_i32(items.as_slice()[index]))),
             Column::I64(items) => Ok(Val::Num(Num::of_i64(items.as_slice()[index]))),
+            Column::U8(items) => Ok(Val::Num(Num::of_u8(items.as_slice()[index]))),
+            Column::U16(items) => Ok(Val::Num(Num::of_u16(items.as_slice()[index]))),
+            Column::U32(items) => Ok(Val::Num(Num::of_u32(items.as_slice()[index]))),
+            Column::U64(items) => Ok(Val::Num(Num::of_u64(items.as_slice()[index]))),
             Column::Nest(items) => items.at(index).copy(alloc),
         }
     }

@@ -91,9 +91,13 @@ fn column(alloc: Global, number: u8) -> Result<Column, AllocError> {
     match number {
         0 => Ok(Column::Bool(Items::copy_of(alloc, &[false, true])?)),
         1 => Ok(Column::I8(Items::copy_of(alloc, &[0, 1])?)),
-        2 => Ok(Column::U8(Items::copy_of(alloc, &[0, 1])?)),
+        2 => Ok(Column::I16(Items::copy_of(alloc, &[0, 1])?)),
         3 => Ok(Column::I32(Items::copy_of(alloc, &[0, 1])?)),
         4 => Ok(Column::I64(Items::copy_of(alloc, &[0, 1])?)),
+        5 => Ok(Column::U8(Items::copy_of(alloc, &[0, 1])?)),
+        6 => Ok(Column::U16(Items::copy_of(alloc, &[0, 1])?)),
+        7 => Ok(Column::U32(Items::copy_of(alloc, &[0, 1])?)),
+        8 => Ok(Column::U64(Items::copy_of(alloc, &[0, 1])?)),
         _ => Ok(Column::Nest(nested(alloc, &[0, 1])?)),
     }
 }
@@ -111,7 +115,7 @@ fn value(alloc: Global, number: u8) -> Result<Val, AllocError> {
 #[test]
 fn each_form_is_copied(rt: HostRuntime) -> Result<(), Fail> {
     let alloc = rt.alloc();
-    for number in 0..9 {
+    for number in 0..13 {
         let value = value(alloc, number)?;
         let copy = value.copy(alloc)?;
         assert_eq!(rt;
@@ -125,7 +129,7 @@ fn each_form_is_copied(rt: HostRuntime) -> Result<(), Fail> {
 #[test]
 fn columns_show_their_elements(rt: HostRuntime) -> Result<(), Fail> {
     let alloc = rt.alloc();
-    for number in 0..6 {
+    for number in 0..10 {
         let column = column(alloc, number)?;
         assert_eq!(rt; (column.len(), column.is_empty()), (2, false));
         let Val::Num(last) = column.copy_at(alloc, 1)? else {

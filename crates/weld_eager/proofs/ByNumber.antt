@@ -70,13 +70,6 @@ kept (tuple ts) v h = is_list (tuple ts) v h
 kept (dictionary t u) v h = is_list (dictionary t u) v h
 kept (build b) v h = is_list (build b) v h
 
-as_keys : (t : TypeTree) (v : Value) → IsKey t → HasValue (vec t) v → IsKeyVector (kind_in t) v
-as_keys (scalar k) v q h = h
-as_keys (vec t) v q h = (vec t, q, h)
-as_keys (tuple ts) v q h = (tuple ts, q, h)
-as_keys (dictionary t u) v q h = (dictionary t u, q, h)
-as_keys (build b) v q h = (build b, q, h)
-
 same_kind : (ts us : List TypeTree) (n : ℕ) (t : TypeTree) (kind : Option Kind) → ts ≡ us → argument n us ≡ vec t → kind ≡ kind_in (item (argument n ts)) → kind_in t ≡ kind
 same_kind ts us n t kind e a k = sym (k ∙ ap (λ xs. kind_in (item (argument n xs))) e ∙ ap (λ u. kind_in (item u)) a)
 
@@ -84,9 +77,8 @@ pub kept_as : (ts us : List TypeTree) (vs : List Value) (n : ℕ) (t : TypeTree)
 kept_as ts us vs n t kind v e h p a k is =
     subst (λ o. IsKeptVector o v) (same_kind ts us n t kind e a k) (kept t v (has_type ts us vs n (vec t) v e h p a is))
 
-pub keys_as : (ts us : List TypeTree) (vs : List Value) (n : ℕ) (t : TypeTree) (kind : Option Kind) (v : Value) → ts ≡ us → AreOf ts vs → n < length us → argument n us ≡ vec t → kind ≡ kind_in (item (argument n ts)) → v ≡ value_at n vs → IsKey t → IsKeyVector kind v
-keys_as ts us vs n t kind v e h p a k is q =
-    subst (λ o. IsKeyVector o v) (same_kind ts us n t kind e a k) (as_keys t v q (has_type ts us vs n (vec t) v e h p a is))
+pub keys_as : (ts us : List TypeTree) (vs : List Value) (n : ℕ) (t : TypeTree) (v : Value) → ts ≡ us → AreOf ts vs → n < length us → argument n us ≡ vec t → v ≡ value_at n vs → IsKey t → IsKeyVector v
+keys_as ts us vs n t v e h p a is q = (t, q, has_type ts us vs n (vec t) v e h p a is)
 
 field_there : (n : ℕ) (us : TypeTrees) (t : TypeTree) (vs : Values) → nth_type n us ≡ Some t → HaveValues us vs → n < length (list_of_values vs)
 field_there n no_types t vs e h = let no : ⊥ = cc in absurd no

@@ -1,5 +1,5 @@
 -- Elements read one after another.
-use Rattle.std.proofs.Common.{◌≡◌, ℕ, zero, suc, ◌+◌, add-one, ℤ, pos, int_eq, Bool, List, [], ◌∷◌, ◌++◌, map, take, slice_get, Some, IfSome, ap, sym, subst, ◌∙◌}
+use Rattle.std.proofs.Common.{◌≡◌, ℕ, zero, suc, ◌+◌, add-one, ℤ, pos, int_eq, Bool, List, [], ◌∷◌, ◌++◌, map, take, slice_get, Some, IfSome, ap, sym, refl, subst, ◌∙◌}
 use Rattle.std.proofs.lemmas.List.{map-append}
 use Rattle.weld_data.specs.declared.kind.Kind.{Kind}
 use Rattle.weld_data.specs.Order.{IsNumber}
@@ -10,7 +10,7 @@ use Rattle.weld_data.specs.Kind.{InRange}
 use Rattle.weld_lists.specs.Lists.{number_in, numbers, truth_in}
 use Rattle.weld_builders.specs.Range.{AllInRange}
 use Rattle.weld_call_laws.proofs.Histograms.{all_in_range}
-use Rattle.weld_pieces.proofs.CellLemmas.{bits, bits_are}
+use Rattle.weld_eager.proofs.Words.{bits, bits_are}
 use Rattle.weld_eager.specs.Reading.{AreNumbers}
 
 one_more : {A : Type 0} (cs : List A) (i : ℕ) (v : A) → slice_get cs i ≡ Some v → take i cs ++ v ∷ [] ≡ take (suc i) cs
@@ -38,9 +38,9 @@ number_there k (v ∷ vs) (suc i) h = number_there k vs i h.1
 pub is_there : (vs : List Value) (i : ℕ) → AreNumbers vs → IfSome (slice_get vs i) IsNumber
 is_there vs i h = number_there h.0 vs i h.1
 
-pub number_more : (cs : List Value) (i : ℕ) (k : Kind) (x r : ℤ) (xs new : List ℤ) → InRange k r → r ≡ x → new ≡ xs ++ bits r ∷ [] → xs ≡ map number_in (take i cs) → slice_get cs i ≡ Some (number k x) → new ≡ map number_in (take (i + 1) cs)
-number_more cs i k x r xs new fits e is so at =
-    mapped_more number_in cs i (number k x) r xs new (is ∙ ap (λ y. xs ++ y ∷ []) (bits_are k r fits)) so at e
+pub number_more : (cs : List Value) (i : ℕ) (k : Kind) (x : ℤ) (xs new : List ℤ) → InRange k x → new ≡ xs ++ bits x ∷ [] → xs ≡ map number_in (take i cs) → slice_get cs i ≡ Some (number k x) → new ≡ map number_in (take (i + 1) cs)
+number_more cs i k x xs new fits is so at =
+    mapped_more number_in cs i (number k x) x xs new (is ∙ ap (λ y. xs ++ y ∷ []) (bits_are k x fits)) so at refl
 
 pub truth_more : (cs : List Value) (i : ℕ) (k : Kind) (x : ℤ) (b : Bool) (bs new : List Bool) → b ≡ int_eq x (pos 1) → new ≡ bs ++ b ∷ [] → bs ≡ map truth_in (take i cs) → slice_get cs i ≡ Some (number k x) → new ≡ map truth_in (take (i + 1) cs)
 truth_more cs i k x b bs new test is so at = mapped_more truth_in cs i (number k x) b bs new is so at test

@@ -1,16 +1,19 @@
 -- Numbers combined and put side by side, one after another.
-use Rattle.std.proofs.Common.{◌≡◌, ℕ, zero, suc, ◌+◌, ◌<◌, ◌≤◌, add-one, length-drop, append_assoc, append-nil, subst, ℤ, pos, List, [], ◌∷◌, ◌++◌, take, drop, length, slice_index_or, Some, None, ap, sym, refl, ◌∙◌, arith}
+use Rattle.std.proofs.Common.{◌≡◌, ℕ, zero, suc, ◌+◌, ◌<◌, ◌≤◌, add-one, length-drop, append_assoc, append-nil, subst, ℤ, pos, ◌*ℤ◌, List, [], ◌∷◌, ◌++◌, map, take, drop, length, slice_index_or, Some, None, ap, sym, refl, ◌∙◌, arith}
+use Rattle.std.proofs.lemmas.List.{take_more, take_all, map-append}
 use Rattle.weld_data.specs.declared.kind.Kind.{Kind}
 use Rattle.weld_data.specs.declared.op.MergeOp.{MergeOp}
+use Rattle.weld_data.specs.declared.op.MergeOp.TheVariants as merges
 use Rattle.weld_data.specs.Operation.{combination}
 use Rattle.weld_data.specs.declared.op.BinOp.{BinOp}
 use Rattle.weld_data.specs.declared.op.BinOp.TheVariants as ops
 use Rattle.weld_data.specs.Kind.{IsInteger, InRange}
+use Rattle.weld_data.specs.Wrapped.{wrapped}
 use Rattle.weld_data.specs.Operation.{TakesKind, operation, answer_kind}
 use Rattle.weld_builders.specs.Outcome.{Outcome, done, fault, and_then, map_out, or_fault}
 use Rattle.weld_builders.specs.Range.{AllInRange}
 use Rattle.weld_calls.specs.CallTypes.{IsArithmetic}
-use Rattle.weld_pieces.proofs.CellLemmas.{bits, cell_in_range, bits_are, all_in_range_at}
+use Rattle.weld_eager.proofs.Words.{bits, bits_are, bits_in_range, all_in_range_at}
 use Rattle.weld_lists.specs.Lists.{paired, each, elementwise}
 use Rattle.weld_call_laws.specs.Folds.{combined_all}
 use Rattle.weld_call_laws.proofs.Outcomes.{and_then-map_out, map_out-and_then, map_out-map_out, and_then-same, map_out-same}
@@ -150,13 +153,21 @@ all_in_range_more k xs new z h r is = subst (AllInRange k) (sym is) (by xs h)
     by [] g = (r, tt)
     by (y ∷ ys) g = (g.0, by ys g.1)
 
-pub total_more : (op : MergeOp) (k : Kind) (o : MergeOp) (m : Kind) (a b r : ℤ) (xs : List ℤ) (i : ℕ) → AllInRange k xs → i < length xs → o ≡ op → m ≡ k → b ≡ combined_all op k a (take i xs)
-    → r ≡ combination o m b (bits (slice_index_or xs i (pos 0))) → r ≡ combined_all op k a (take (i + 1) xs)
-total_more op k o m a b r xs i fits h same_op same_kind e is =
-    combined_more op k a b r xs i fits h e (is ∙ (λ j. combination (same_op j) (same_kind j) b (bits (slice_index_or xs i (pos 0)))))
+pub total_more : (op : MergeOp) (k : Kind) (a b r : ℤ) (xs : List ℤ) (i : ℕ) → AllInRange k xs → i < length xs → b ≡ combined_all op k a (take i xs) → InRange k r
+    → r ≡ combination op k b (bits (slice_index_or xs i (pos 0))) → (bits r ≡ combined_all op k a (take (i + 1) xs)) × InRange k (bits r)
+total_more op k a b r xs i fits h e g is =
+    let same : bits r ≡ r = bits_are k r g in
+    (same ∙ combined_more op k a b r xs i fits h e is, bits_in_range k r g)
 
-pub in_range_at : (k m : Kind) (xs : List ℤ) (i : ℕ) → m ≡ k → AllInRange k xs → i < length xs → InRange m (bits (slice_index_or xs i (pos 0)))
-in_range_at k m xs i e h l = subst (λ j. InRange j (bits (slice_index_or xs i (pos 0)))) (sym e) (cell_in_range k xs i h l)
+pub scaled_more : (k : Kind) (s : ℤ) (xs zs new : List ℤ) (i : ℕ) (z : ℤ) → AllInRange k xs → i < length xs → InRange k z → z ≡ combination merges.Mul k (bits (slice_index_or xs i (pos 0))) s
+    → new ≡ zs ++ bits z ∷ [] → zs ≡ map (λ x. wrapped k (x *ℤ s)) (take i xs) → new ≡ map (λ x. wrapped k (x *ℤ s)) (take (i + 1) xs)
+scaled_more k s xs zs new i z fits h g e is so =
+    let x = slice_index_or xs i (pos 0) in
+    let at : bits z ≡ wrapped k (x *ℤ s) = bits_are k z g ∙ e ∙ ap (λ y. wrapped k (y *ℤ s)) (bits_are k x (all_in_range_at k xs i (pos 0) fits h)) in
+    is ∙ (λ j. so j ++ at j ∷ []) ∙ sym (map-append (λ x. wrapped k (x *ℤ s)) (take i xs) (x ∷ [])) ∙ ap (map (λ x. wrapped k (x *ℤ s))) (sym (take_more xs i (pos 0) h))
+
+pub scaled_all : (k : Kind) (s : ℤ) (xs zs : List ℤ) (i : ℕ) → InRange k s → length xs ≤ i → zs ≡ map (λ x. wrapped k (x *ℤ bits s)) (take i xs) → zs ≡ map (λ x. wrapped k (x *ℤ s)) xs
+scaled_all k s xs zs i g h so = so ∙ (λ j. map (λ x. wrapped k (x *ℤ bits_are k s g j)) (take_all i xs h j))
 
 pub pushed : (k : Kind) (zs new : List ℤ) (z : ℤ) → InRange k z → new ≡ zs ++ bits z ∷ [] → new ≡ zs ++ z ∷ []
 pushed k zs new z h is = is ∙ ap (λ x. zs ++ x ∷ []) (bits_are k z h)

@@ -11,7 +11,7 @@ use Rattle.weld_data.specs.Kind.{InRange}
 use Rattle.weld_data.specs.Wrapped.{wrapped}
 use Rattle.weld_data.specs.Value.{Value, number, list, struct, dict, entries, Values, no_values, and_value, list_of_values}
 use Rattle.weld_data.proofs.Wrapping.{wrapped-in_range}
-use Rattle.weld_tree.specs.TypeTree.{TypeTree, scalar}
+use Rattle.weld_tree.specs.TypeTree.{TypeTree}
 use Rattle.weld_fits.specs.HasValue.{HasValue, AllAre}
 use Rattle.weld_eval_values.specs.Fits.{IsList}
 use Rattle.weld_builders.specs.ValueOrder.{ValueMap}
@@ -20,8 +20,8 @@ use Rattle.weld_builders.specs.Part.{merge_key, combined as combined_number, app
 use Rattle.weld_builders.specs.Range.{AllInRange}
 use Rattle.weld_pieces.specs.Kept.{IsKeptKey}
 use Rattle.weld_pieces.specs.Keyed.{KeysAreKept, HasOneKeyType, itself, shown}
-use Rattle.weld_pieces.proofs.KeptKeys.{start_holds, merge_holds, numbers_have_one_type}
-use Rattle.weld_pieces.proofs.CellLemmas.{bits, bits_are, all_in_range_at}
+use Rattle.weld_pieces.proofs.KeptKeys.{start_holds, merge_holds}
+use Rattle.weld_eager.proofs.Words.{bits, bits_are, all_in_range_at}
 use Rattle.weld_eval_forms.proofs.KeyTypes.{is_key, same_keys}
 use Rattle.weld_lists.specs.Lists.{items, numbers, vector, paired, grouped, wrapped_sum}
 use Rattle.weld_lists.specs.CallMeaning.{group_sum_meaning, group_list_meaning, group_count_meaning}
@@ -42,33 +42,28 @@ key_there P [] i v h e = let no : ⊥ = cc in absurd no
 key_there P (u ∷ vs) zero v h e = let same : u ≡ v = cc in subst P same h.0
 key_there P (u ∷ vs) (suc i) v h e = key_there P vs i v h.1 e
 
-kept_key : (key : Option Kind) (t : TypeTree) (v : Value) → IsKeyOf key t v → IsKeptKey key v
-kept_key (Some k) t (number m x) h = h
-kept_key (Some k) t (list vs) h = h
-kept_key (Some k) t (struct vs) h = h
-kept_key (Some k) t (dict es) h = h
-kept_key None t v h = is_key t v h.1 h.0
-
-pub may_merge : (key made : Option Kind) (vs : List Value) (i : ℕ) (v : Value) → made ≡ key → AreKeys key vs → slice_get vs i ≡ Some v → IsKeptKey made v
-may_merge key made vs i v same h e = subst (λ o. IsKeptKey o v) (sym same) (kept_key key h.0 v (key_there (IsKeyOf key h.0) vs i v h.1 e))
+pub may_merge : (made : Option Kind) (vs : List Value) (i : ℕ) (v : Value) → made ≡ None → AreKeys vs → slice_get vs i ≡ Some v → IsKeptKey made v
+may_merge made vs i v same h e =
+    let k = key_there (IsKeyOf h.0) vs i v h.1 e in
+    subst (λ o. IsKeptKey o v) (sym same) (is_key h.0 v k.1 k.0)
 
 -- what holds of each of the keys holds of each key that is there
-abbrev pub KeysSoFar : {X : Type 0} → Option Kind → List Value → ValueMap X → Type 0
-KeysSoFar key vs m = (t : TypeTree) → AllByRecursion (IsKeyOf key t) vs → AllByRecursion (IsKeyOf key t) (keys_of (finite.entries m))
+abbrev pub KeysSoFar : {X : Type 0} → List Value → ValueMap X → Type 0
+KeysSoFar vs m = (t : TypeTree) → AllByRecursion (IsKeyOf t) vs → AllByRecursion (IsKeyOf t) (keys_of (finite.entries m))
 
-pub keys_start : (X : Type 0) (key : Option Kind) (vs : List Value) (m : ValueMap X) → m ≡ finite.empty → KeysSoFar key vs m
-keys_start X key vs m e t h = subst (λ n. AllByRecursion (IsKeyOf key t) (keys_of (finite.entries n))) (sym e) (start_holds X (IsKeyOf key t))
+pub keys_start : (X : Type 0) (vs : List Value) (m : ValueMap X) → m ≡ finite.empty → KeysSoFar vs m
+keys_start X vs m e t h = subst (λ n. AllByRecursion (IsKeyOf t) (keys_of (finite.entries n))) (sym e) (start_holds X (IsKeyOf t))
 
-pub keys_more : {X : Type 0} (key : Option Kind) (vs : List Value) (i : ℕ) (v : Value) (f : Option X → X → X) (x : X) (m new : ValueMap X) → slice_get vs i ≡ Some v → new ≡ merge_key f m v x → KeysSoFar key vs m → KeysSoFar key vs new
-keys_more key vs i v f x m new e is so t h =
-    subst (λ n. AllByRecursion (IsKeyOf key t) (keys_of (finite.entries n))) (sym is) (merge_holds (IsKeyOf key t) f m v x (so t h) (key_there (IsKeyOf key t) vs i v h e))
+pub keys_more : {X : Type 0} (vs : List Value) (i : ℕ) (v : Value) (f : Option X → X → X) (x : X) (m new : ValueMap X) → slice_get vs i ≡ Some v → new ≡ merge_key f m v x → KeysSoFar vs m → KeysSoFar vs new
+keys_more vs i v f x m new e is so t h =
+    subst (λ n. AllByRecursion (IsKeyOf t) (keys_of (finite.entries n))) (sym is) (merge_holds (IsKeyOf t) f m v x (so t h) (key_there (IsKeyOf t) vs i v h e))
 
-all_kept : (key : Option Kind) (t : TypeTree) (vs : List Value) → AllByRecursion (IsKeyOf key t) vs → AllByRecursion (IsKeptKey key) vs
-all_kept key t [] h = tt
-all_kept key t (v ∷ vs) h = (kept_key key t v h.0, all_kept key t vs h.1)
+all_kept : (t : TypeTree) (vs : List Value) → AllByRecursion (IsKeyOf t) vs → AllByRecursion (IsKeptKey None) vs
+all_kept t [] h = tt
+all_kept t (v ∷ vs) h = (is_key t v h.0.1 h.0.0, all_kept t vs h.1)
 
-pub keys_kept : {X : Type 0} (key made : Option Kind) (vs : List Value) (m : ValueMap X) → made ≡ key → AreKeys key vs → KeysSoFar key vs m → KeysAreKept made m
-keys_kept key made vs m same h so = subst (λ o. KeysAreKept o m) (sym same) (all_kept key h.0 (keys_of (finite.entries m)) (so h.0 h.1))
+pub keys_kept : {X : Type 0} (made : Option Kind) (vs : List Value) (m : ValueMap X) → made ≡ None → AreKeys vs → KeysSoFar vs m → KeysAreKept made m
+keys_kept made vs m same h so = subst (λ o. KeysAreKept o m) (sym same) (all_kept h.0 (keys_of (finite.entries m)) (so h.0 h.1))
 
 key_at : {X : Type 0} (P : Value → Type 0) (es : List (Value × X)) (i : ℕ) (d : Value × X) → AllByRecursion P (keys_of es) → i < length es → P (slice_index_or es i d).0
 key_at P [] i d h l = absurd (none i l)
@@ -78,40 +73,31 @@ key_at P [] i d h l = absurd (none i l)
 key_at P (e ∷ es) zero d h l = h.0
 key_at P (e ∷ es) (suc i) d h l = key_at P es i d h.1 (omega (arith, l))
 
-pub keys_agree : {X : Type 0} (key : Option Kind) (vs : List Value) (m : ValueMap X) → AreKeys key vs → KeysSoFar key vs m → HasOneKeyType m
-keys_agree (Some k) vs m h so = numbers_have_one_type k m (all_kept (Some k) h.0 (keys_of (finite.entries m)) (so h.0 h.1))
-keys_agree None vs m h so = λ i j d l n.
+pub keys_agree : {X : Type 0} (vs : List Value) (m : ValueMap X) → AreKeys vs → KeysSoFar vs m → HasOneKeyType m
+keys_agree vs m h so = λ i j d l n.
     let p = so h.0 h.1 in
-    let a = key_at (IsKeyOf None h.0) (finite.entries m) i d p (omega (arith, l, n)) in
-    let b = key_at (IsKeyOf None h.0) (finite.entries m) j d p n in
+    let a = key_at (IsKeyOf h.0) (finite.entries m) i d p (omega (arith, l, n)) in
+    let b = key_at (IsKeyOf h.0) (finite.entries m) j d p n in
     same_keys h.0 _ _ a.1 a.0 b.0
 
 all_as : (P Q : Value → Type 0) (vs : Values) → ((v : Value) → P v → Q v) → AllAre P vs → AllByRecursion Q (list_of_values vs)
 all_as P Q no_values f h = tt
 all_as P Q (and_value v vs) f h = (f v h.0, all_as P Q vs f h.1)
 
-vector_keys : (key : Option Kind) (v : Value) → IsKeyVector key v → AreKeys key (items v)
-vector_keys (Some k) (list vs) h = (scalar k, all_as (HasValue (scalar k)) (IsKeyOf (Some k) (scalar k)) vs (λ v g. g) h)
-vector_keys (Some k) (number m x) h = absurd h
-vector_keys (Some k) (struct vs) h = absurd h
-vector_keys (Some k) (dict es) h = absurd h
-vector_keys None (list vs) h = (h.0, all_as (HasValue h.0) (IsKeyOf None h.0) vs (λ v g. (g, h.1)) h.2)
-vector_keys None (number m x) h = absurd h.2
-vector_keys None (struct vs) h = absurd h.2
-vector_keys None (dict es) h = absurd h.2
+vector_keys : (v : Value) → IsKeyVector v → AreKeys (items v)
+vector_keys (list vs) h = (h.0, all_as (HasValue h.0) (IsKeyOf h.0) vs (λ v g. (g, h.1)) h.2)
+vector_keys (number m x) h = absurd h.2
+vector_keys (struct vs) h = absurd h.2
+vector_keys (dict es) h = absurd h.2
 
-pub key_column : (key : Option Kind) (v : Value) (cs : List Value) → IsKeyVector key v → items v ≡ cs → AreKeys key cs
-key_column key v cs h e = subst (AreKeys key) e (vector_keys key v h)
+pub key_column : (v : Value) (cs : List Value) → IsKeyVector v → items v ≡ cs → AreKeys cs
+key_column v cs h e = subst AreKeys e (vector_keys v h)
 
-pub keys_are_list : (key : Option Kind) (v : Value) → IsKeyVector key v → IsList v
-keys_are_list (Some k) (list vs) h = tt
-keys_are_list (Some k) (number m x) h = absurd h
-keys_are_list (Some k) (struct vs) h = absurd h
-keys_are_list (Some k) (dict es) h = absurd h
-keys_are_list None (list vs) h = tt
-keys_are_list None (number m x) h = absurd h.2
-keys_are_list None (struct vs) h = absurd h.2
-keys_are_list None (dict es) h = absurd h.2
+pub keys_are_list : (v : Value) → IsKeyVector v → IsList v
+keys_are_list (list vs) h = tt
+keys_are_list (number m x) h = absurd h.2
+keys_are_list (struct vs) h = absurd h.2
+keys_are_list (dict es) h = absurd h.2
 
 -- ---- what is left
 

@@ -11,7 +11,7 @@ use Rattle.weld_builders.specs.Part.{as_number}
 use Rattle.weld_builders.specs.Range.{AllInRange}
 use Rattle.weld_meaning.specs.Evaluation.{elements_of, element_at, part_of, sliced}
 use Rattle.weld_pieces.specs.Answer.{IsOutside}
-use Rattle.weld_pieces.proofs.CellLemmas.{bits, bits_are, all_in_range_at}
+use Rattle.weld_eager.proofs.Words.{bits, bits_are, all_in_range_at}
 use Rattle.weld_calls.specs.CallTypes.{place_type}
 use Rattle.weld_eval_values.specs.Fits.{IsList}
 use Rattle.weld_lists.specs.Lists.{items, number_in, vector, each}

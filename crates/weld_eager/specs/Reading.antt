@@ -40,19 +40,17 @@ IsKeptVector None v = IsList v
 abbrev pub IsPlaceAmong : ℤ → ℕ → ℕ → Type 0
 IsPlaceAmong x place count = (x ≡ pos place) × (place < count)
 
--- a key that is kept as a number of a kind, or as a value of a key's type
-abbrev pub IsKeyOf : Option Kind → TypeTree → Value → Type 0
-IsKeyOf (Some k) t v = HasValue (scalar k) v
-IsKeyOf None t v = HasValue t v × IsKey t
+-- a value of a type that keys may have
+abbrev pub IsKeyOf : TypeTree → Value → Type 0
+IsKeyOf t v = HasValue t v × IsKey t
 
--- keys that are kept so, all of one type
-abbrev pub AreKeys : Option Kind → List Value → Type 0
-AreKeys key vs = (t : TypeTree) × AllByRecursion (IsKeyOf key t) vs
+-- such values, all of one type
+abbrev pub AreKeys : List Value → Type 0
+AreKeys vs = (t : TypeTree) × AllByRecursion (IsKeyOf t) vs
 
--- a vector of numbers of the kind, or of values of one type that keys may have
-abbrev pub IsKeyVector : Option Kind → Value → Type 0
-IsKeyVector (Some k) v = HasValue (vec (scalar k)) v
-IsKeyVector None v = (t : TypeTree) × IsKey t × HasValue (vec t) v
+-- a vector of such values
+abbrev pub IsKeyVector : Value → Type 0
+IsKeyVector v = (t : TypeTree) × IsKey t × HasValue (vec t) v
 
 -- each key has what the rule makes of what stands at its places
 abbrev pub AreGrouped : {A B : Type 0} → (List A → B) → List Value → List A → ValueMap B → Type 0

@@ -95,7 +95,12 @@ pub fn where_(
 
 /// The wrapped sum of the products, place by place; none where there are more of one than of the other.
 #[tactic(auto, using(crate::proofs::Answering::dot_there, crate::proofs::Answering::dot_fault))]
-pub fn dot_of(alloc: Global, kind: Kind, xs: &[i64], ys: &[i64]) -> Result<Option<Num>, AllocError>
+pub fn dot_of(
+    alloc: Global,
+    kind: Kind,
+    xs: &[i128],
+    ys: &[i128],
+) -> Result<Option<Num>, AllocError>
     requires integer { IsInteger kind }
     requires left { AllInRange kind xs.now }
     requires right { AllInRange kind ys.now }

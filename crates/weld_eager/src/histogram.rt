@@ -1,6 +1,6 @@
 //! How often places stand in a vector.
 
-ghost use Rattle.std.specs.Prelude.{IfOk};
+ghost use Rattle.std.specs.Prelude.{IfOk, IfSome};
 ghost use Rattle.weld_data.specs.declared.kind.Kind.TheVariants as kinds;
 ghost use Rattle.weld_data.specs.View.{view_val};
 ghost use Rattle.weld_tree.specs.TypeTree.{vec};
@@ -11,10 +11,11 @@ ghost use Rattle.weld_lists.specs.Lists.{numbers, number_vector};
 ghost use Rattle.weld_lists.specs.CallMeaning.{histogram_meaning};
 ghost use Rattle.weld_eager.specs.Reading.{IsFaultOr};
 
+use crate::make::vector_of;
+use crate::places::place_of;
 use crate::read::numbers_as;
 use std::alloc::{AllocError, Global};
-use weld_data::{Kind, MergeOp, Val};
-use weld_pieces::CellsPart;
+use weld_data::{Kind, MergeOp, Val, combine};
 
 /// Each number of the second vector and how often its place, from 0, stands in the first, wrapped; none
 /// where the first has one that is no place of the second.
@@ -27,22 +28,24 @@ pub fn histogram(alloc: Global, v: &Val, starts: &Val) -> Result<Option<Val>, Al
     let places = numbers_as(alloc, Kind::I64, v)?;
     let numbers = numbers_as(alloc, Kind::I64, starts)?;
     match tally(&places, numbers) {
-        Some(cells) => Ok(Some(Val::List(cells.into_column(alloc)?))),
+        Some(cells) => Ok(Some(vector_of(alloc, Kind::I64, &cells)?)),
         None => Ok(None),
     }
 }
 
-/// The same of plain numbers, as cells.
-fn tally(places: &[i64], starts: Vec<i64>) -> Option<CellsPart>
+/// The same of plain numbers. It takes no memory.
+fn tally(places: &[i128], starts: Vec<i128>) -> Option<Vec<i128>>
     requires places { AllInRange kinds.I64 places.now }
     requires starts { AllInRange kinds.I64 starts.items }
-    ensures { IsFaultOr result (λ c. number_vector c.kind c.cells) (histogram_meaning places.now starts.items) }
+    ensures answer { IsFaultOr result (λ c. number_vector kinds.I64 c.items) (histogram_meaning places.now starts.items) }
+    ensures in_range { IfSome result (λ c. AllInRange kinds.I64 c.items) }
 {
-    let mut cells = CellsPart::from_numbers(MergeOp::Add, Kind::I64, starts);
-    for place in places {
-        let Ok(()) = cells.merge_number(*place, 1) else {
+    let mut cells = starts;
+    for x in places {
+        let Some(place) = place_of(*x, cells.len()) else {
             return None;
         };
+        cells[place] = combine(MergeOp::Add, Kind::I64, cells[place], 1);
     }
     Some(cells)
 }

@@ -6,17 +6,17 @@ ghost use Rattle.weld_builders.specs.Range.{AllInRange};
 ghost use Rattle.weld_lists.specs.Lists.{number_vector, truth_vector};
 
 use std::alloc::{AllocError, Global};
-use weld_data::{Column, Items, Kind, Val};
+use weld_data::{Column, Items, Kind, Num, Val};
 use weld_pieces::ListPart;
 
 /// The vector of these numbers, as a column of their kind.
-pub fn vector_of(alloc: Global, kind: Kind, xs: &[i64]) -> Result<Val, AllocError>
+pub fn vector_of(alloc: Global, kind: Kind, xs: &[i128]) -> Result<Val, AllocError>
     requires { AllInRange kind xs.now }
     ensures { IfOk result (λ v. view_val v ≡ number_vector kind xs.now) }
 {
     let mut list = ListPart::empty(alloc, Some(kind));
     for x in xs {
-        list.push_number(kind, *x)?;
+        list.push(Val::Num(Num { kind, value: *x }))?;
     }
     Ok(Val::List(list.into_column()))
 }

@@ -1,4 +1,4 @@
-//! Numbers of one kind, in 64 bits each, added, combined and compared.
+//! Numbers of one kind, added, combined and compared.
 
 ghost use Rattle.std.specs.Prelude.{◌≡◌, if◌then◌else◌, ◌*ℤ◌, map, IfOk, IfSome};
 ghost use Rattle.weld_data.specs.Kind.{IsInteger, InRange};
@@ -11,30 +11,20 @@ ghost use Rattle.weld_eager.specs.Reading.{IsFaultOr};
 ghost use Rattle.weld_lists.specs.Lists.{elementwise as elementwise_list, chosen as chosen_list, compared as compared_numbers, how_many};
 
 use std::alloc::{AllocError, Global};
-use weld_data::{BinOp, Kind, MergeOp, Num, binary, wrap};
-use weld_pieces::TotalPart;
-
-/// A number of a kind in 64 bits.
-fn narrow(kind: Kind, x: i128) -> i64
-    requires { InRange kind x }
-    ensures value { result ≡ x }
-    ensures in_range { InRange kind result }
-{
-    x as i64
-}
+use weld_data::{BinOp, Kind, MergeOp, Num, binary, combine, neutral};
 
 /// All numbers of an integer kind combined, from the number that a builder of the operator starts with.
-pub fn total(op: MergeOp, kind: Kind, xs: &[i64]) -> Num
+pub fn total(op: MergeOp, kind: Kind, xs: &[i128]) -> Num
     requires integer { IsInteger kind }
     requires in_range { AllInRange kind xs.now }
     ensures kind { result.kind ≡ kind }
     ensures value { result.value ≡ combined_all op kind (start_of op kind) xs.now }
 {
-    let mut total = TotalPart::neutral(op, kind);
+    let mut value = neutral(op, kind);
     for x in xs {
-        total.merge_number(*x);
+        value = combine(op, kind, value, *x);
     }
-    total.number()
+    Num { kind, value }
 }
 
 /// The operator's answers, place by place; none where there are more of one than of the other, and at a
@@ -43,9 +33,9 @@ pub fn elementwise(
     alloc: Global,
     op: BinOp,
     kind: Kind,
-    xs: &[i64],
-    ys: &[i64],
-) -> Result<Option<Vec<i64>>, AllocError>
+    xs: &[i128],
+    ys: &[i128],
+) -> Result<Option<Vec<i128>>, AllocError>
     requires integer { IsInteger kind }
     requires operator { IsArithmetic op }
     requires left { AllInRange kind xs.now }
@@ -68,7 +58,7 @@ pub fn elementwise(
 
 /// The operator's answer on two numbers of an integer kind; none at a zero divisor.
 #[tactic(auto, using(crate::proofs::Combining::takes_integer, crate::proofs::Combining::arithmetic_in_range))]
-fn operated_one(op: BinOp, kind: Kind, x: i64, y: i64) -> Option<i64>
+fn operated_one(op: BinOp, kind: Kind, x: i128, y: i128) -> Option<i128>
     requires integer { IsInteger kind }
     requires operator { IsArithmetic op }
     requires left { InRange kind x }
@@ -76,37 +66,32 @@ fn operated_one(op: BinOp, kind: Kind, x: i64, y: i64) -> Option<i64>
     ensures value { result ≡ operation op kind x y }
     ensures in_range { IfSome result (InRange kind) }
 {
-    match binary(op, kind, i128::from(x), i128::from(y)) {
-        Some(z) => Some(narrow(kind, z)),
-        None => None,
-    }
+    binary(op, kind, x, y)
 }
 
 /// Each number times another, wrapped.
-pub fn scaled(alloc: Global, kind: Kind, xs: &[i64], s: i64) -> Result<Vec<i64>, AllocError>
-    requires { IsInteger kind }
+pub fn scaled(alloc: Global, kind: Kind, xs: &[i128], s: i128) -> Result<Vec<i128>, AllocError>
+    requires integer { IsInteger kind }
+    requires numbers { AllInRange kind xs.now }
+    requires number { InRange kind s }
     ensures value { IfOk result (λ v. v.items ≡ map (λ x. wrapped kind (x *ℤ s)) xs.now) }
 {
-    xs.iter().map(|x| scaled_one(kind, *x, s)).collect(alloc)
-}
-
-/// One number times another, wrapped.
-fn scaled_one(kind: Kind, x: i64, s: i64) -> i64
-    requires { IsInteger kind }
-    ensures { result ≡ wrapped kind (x *ℤ s) }
-{
-    narrow(kind, wrap(kind, i128::from(x) * i128::from(s)))
+    let mut zs = Vec::new(alloc);
+    for x in xs {
+        zs.push(combine(MergeOp::Mul, kind, *x, s))?;
+    }
+    Ok(zs)
 }
 
 /// Whether each number compares so with another.
-pub fn compared(alloc: Global, op: BinOp, xs: &[i64], s: i64) -> Result<Vec<bool>, AllocError>
+pub fn compared(alloc: Global, op: BinOp, xs: &[i128], s: i128) -> Result<Vec<bool>, AllocError>
     ensures { IfOk result (λ v. v.items ≡ map (λ x. compared_numbers op x s) xs.now) }
 {
     xs.iter().map(|x| compared_one(op, *x, s)).collect(alloc)
 }
 
 /// Whether two numbers compare so; by an arithmetic operator no two do.
-fn compared_one(op: BinOp, x: i64, y: i64) -> bool
+fn compared_one(op: BinOp, x: i128, y: i128) -> bool
     ensures { result ≡ compared_numbers op x y }
 {
     match op {
@@ -133,9 +118,9 @@ pub fn chosen(
     alloc: Global,
     kind: Kind,
     marks: &[bool],
-    xs: &[i64],
-    ys: &[i64],
-) -> Result<Option<Vec<i64>>, AllocError>
+    xs: &[i128],
+    ys: &[i128],
+) -> Result<Option<Vec<i128>>, AllocError>
     requires left { AllInRange kind xs.now }
     requires right { AllInRange kind ys.now }
     ensures answer { IfOk result (λ r. IsFaultOr r (λ v. v.items) (chosen_list marks.now xs.now ys.now)) }
@@ -155,7 +140,7 @@ pub fn chosen(
 }
 
 /// The first where the mark is true, else the second.
-fn pick(mark: bool, x: i64, y: i64) -> i64
+fn pick(mark: bool, x: i128, y: i128) -> i128
     ensures { result ≡ if mark then x else y }
 {
     if mark { x } else { y }

@@ -87,7 +87,7 @@ fn taken(
     alloc: Global,
     kind: Option<Kind>,
     column: &Column,
-    places: &[i64],
+    places: &[i128],
 ) -> Result<Option<Column>, AllocError>
     requires kept { AreKept kind (view_column column.now) }
     requires places { AllInRange kinds.I64 places.now }
@@ -105,10 +105,10 @@ fn taken(
 }
 
 /// The place that a number is among so many; none where it is none.
-fn place_of(x: i64, count: usize) -> Option<usize>
+pub(crate) fn place_of(x: i128, count: usize) -> Option<usize>
     ensures { MatchOption result (IsOutside x count) (λ place. IsPlaceAmong x place count) }
 {
-    if x < 0 || x as u64 >= count as u64 {
+    if x < 0 || x >= count as i128 {
         return None;
     }
     Some(x as usize)

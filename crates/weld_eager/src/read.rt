@@ -15,7 +15,7 @@ use weld_data::{Column, Kind, Num, Val};
 
 /// The numbers of a vector of numbers, false being 0 and true 1.
 #[tactic(auto, using(crate::proofs::Columns::listed))]
-pub fn numbers_of(alloc: Global, v: &Val) -> Result<Vec<i64>, AllocError>
+pub fn numbers_of(alloc: Global, v: &Val) -> Result<Vec<i128>, AllocError>
     requires { IsNumberVector (view_val v.now) }
     ensures { IfOk result (λ xs. xs.items ≡ numbers_in (view_val v.now)) }
 {
@@ -27,7 +27,7 @@ pub fn numbers_of(alloc: Global, v: &Val) -> Result<Vec<i64>, AllocError>
 
 /// The numbers of a vector of numbers of a kind, each in its range.
 #[tactic(auto, using(crate::proofs::Columns::vector_in_range))]
-pub fn numbers_as(alloc: Global, kind: Kind, v: &Val) -> Result<Vec<i64>, AllocError>
+pub fn numbers_as(alloc: Global, kind: Kind, v: &Val) -> Result<Vec<i128>, AllocError>
     requires { HasValue (vec (scalar kind)) (view_val v.now) }
     ensures value { IfOk result (λ xs. xs.items ≡ numbers_in (view_val v.now)) }
     ensures in_range { IfOk result (λ xs. AllInRange kind xs.items) }
@@ -37,25 +37,26 @@ pub fn numbers_as(alloc: Global, kind: Kind, v: &Val) -> Result<Vec<i64>, AllocE
 }
 
 /// The number that a value is, false being 0 and true 1. It takes no memory.
-pub fn number_of(kind: Kind, v: &Val) -> i64
+pub fn number_of(kind: Kind, v: &Val) -> i128
     requires { HasValue (scalar kind) (view_val v.now) }
-    ensures { result ≡ number_in (view_val v.now) }
+    ensures value { result ≡ number_in (view_val v.now) }
+    ensures in_range { InRange kind result }
 {
     match v {
-        Val::Num(number) => kept(*number),
+        Val::Num(number) => number.value,
         _ => unreachable!(),
     }
 }
 
 /// The same of a column.
-fn column_numbers(alloc: Global, column: &Column) -> Result<Vec<i64>, AllocError>
+fn column_numbers(alloc: Global, column: &Column) -> Result<Vec<i128>, AllocError>
     requires { AreNumbers (view_column column.now) }
     ensures { IfOk result (λ xs. xs.items ≡ map number_in (view_column column.now)) }
 {
     let count = column.len();
     let mut numbers = Vec::with_capacity(alloc, count)?;
     for place in 0..count {
-        numbers.push(kept(column.number_at(place)))?;
+        numbers.push(column.number_at(place).value)?;
     }
     Ok(numbers)
 }
@@ -83,14 +84,6 @@ fn column_truths(alloc: Global, column: &Column) -> Result<Vec<bool>, AllocError
         truths.push(is_true(column.number_at(place)))?;
     }
     Ok(truths)
-}
-
-/// A number in 64 bits.
-pub fn kept(number: Num) -> i64
-    ensures value { result ≡ number.value }
-    ensures in_range { InRange number.kind result }
-{
-    number.value as i64
 }
 
 /// Whether a number is 1, as true is.

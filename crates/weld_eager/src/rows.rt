@@ -15,7 +15,7 @@ ghost use Rattle.weld_eager.specs.Reading.{IsFaultOr};
 use crate::calls::dot_of;
 use crate::make::vector_of;
 use crate::places::column_of;
-use crate::read::{kept, numbers_as};
+use crate::read::numbers_as;
 use std::alloc::{AllocError, Global};
 use weld_data::{Column, Kind, Val};
 use weld_eval_values::{Element, element_of};
@@ -41,8 +41,8 @@ fn dots(
     alloc: Global,
     kind: Kind,
     rows: &Column,
-    weights: &[i64],
-) -> Result<Option<Vec<i64>>, AllocError>
+    weights: &[i128],
+) -> Result<Option<Vec<i128>>, AllocError>
     requires integer { IsInteger kind }
     requires rows { AllAre (HasValue (vec (scalar kind))) (values (view_column rows.now)) }
     requires weights { AllInRange kind weights.now }
@@ -65,8 +65,8 @@ fn element_dot(
     alloc: Global,
     kind: Kind,
     row: Element,
-    weights: &[i64],
-) -> Result<Option<i64>, AllocError>
+    weights: &[i128],
+) -> Result<Option<i128>, AllocError>
     requires integer { IsInteger kind }
     requires row { HasValue (vec (scalar kind)) (view_element row) }
     requires weights { AllInRange kind weights.now }
@@ -81,7 +81,12 @@ fn element_dot(
 
 /// The dot of one row.
 #[tactic(auto, using(crate::proofs::DotRows::dot_as))]
-fn row_dot(alloc: Global, kind: Kind, row: &Val, weights: &[i64]) -> Result<Option<i64>, AllocError>
+fn row_dot(
+    alloc: Global,
+    kind: Kind,
+    row: &Val,
+    weights: &[i128],
+) -> Result<Option<i128>, AllocError>
     requires integer { IsInteger kind }
     requires row { HasValue (vec (scalar kind)) (view_val row.now) }
     requires weights { AllInRange kind weights.now }
@@ -90,7 +95,7 @@ fn row_dot(alloc: Global, kind: Kind, row: &Val, weights: &[i64]) -> Result<Opti
 {
     let xs = numbers_as(alloc, kind, row)?;
     match dot_of(alloc, kind, &xs, weights)? {
-        Some(number) => Ok(Some(kept(number))),
+        Some(number) => Ok(Some(number.value)),
         None => Ok(None),
     }
 }

@@ -1,7 +1,7 @@
 use crate::both::holds;
 use crate::cases::{
-    ADD_SUB_MUL_COMPARE, ARITH, Case, GROUP_LIST, GROUP_SUM_COUNT, NUMBERS, SLICE_COLUMN,
-    TAKE_FILTER, TOTALS,
+    ADD_SUB_MUL_COMPARE, ARITH, Case, GROUP_LIST, GROUP_SUM_COUNT, NUMBERS, OTHER_KINDS,
+    SLICE_COLUMN, TAKE_FILTER, TOTALS,
 };
 use std::alloc::Global;
 use std::test::Fail;
@@ -54,4 +54,9 @@ fn sums_and_counts_by_keys(rt: HostRuntime) -> Result<(), Fail> {
 #[test]
 fn lists_by_keys(rt: HostRuntime) -> Result<(), Fail> {
     all_hold(rt.alloc(), &GROUP_LIST)
+}
+
+#[test]
+fn numbers_of_the_other_kinds(rt: HostRuntime) -> Result<(), Fail> {
+    all_hold(rt.alloc(), &OTHER_KINDS)
 }

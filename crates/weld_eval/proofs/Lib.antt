@@ -7,3 +7,4 @@ pub mod OwnedNames
 pub mod Pairs
 pub mod RowLists
 pub mod Shorts
+pub mod Starting

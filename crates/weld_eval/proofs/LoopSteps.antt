@@ -7,13 +7,13 @@ use Rattle.weld_tree.specs.Types.{IsBuilder, AreBuilders, IsWellFormed, AreWellF
 use Rattle.weld_tree.specs.ExprTree.{ExprTree, At, LegTrees, loop}
 use Rattle.weld_fits.specs.HasValue.{HasValue}
 use Rattle.weld_builders.specs.Outcome.{Outcome, done, fault, stuck, and_then, map_out}
-use Rattle.weld_builders.specs.Part.{Part, list_part, total_part, cells_part, keyed_part, groups_part}
-use Rattle.weld_builders.specs.Range.{IsInRange}
+use Rattle.weld_builders.specs.Part.{Part, Totals, list_part, total_part, totals_part, cells_part, keyed_part, groups_part}
+use Rattle.weld_builders.specs.Range.{TotalsInRange, IsInRange}
 use Rattle.weld_builders.proofs.Joins.{bare_behind, merge_part-after_part}
 use Rattle.weld_builders.proofs.Shapes.{shape_of-bare}
 use Rattle.weld_meaning.specs.Thing.{Thing, plain, building, several, Things, no_things, more_things, bare_thing, bare_things, after_thing}
 use Rattle.weld_meaning.specs.Typing.{body_types}
-use Rattle.weld_meaning.specs.ThingType.{HasPart, HasThing, HaveBuilders}
+use Rattle.weld_meaning.specs.ThingType.{TotalsFit, AreTotals, HasPart, HasThing, HaveBuilders}
 use Rattle.weld_meaning.specs.Evaluation.{Env, Row, whole_number, with_row}
 use Rattle.weld_meaning.specs.Origin.{origin, own_paths, in_body}
 use Rattle.weld_meaning.specs.Loops.{Site, LawOfLoop}
@@ -91,6 +91,19 @@ module _ (a : At) (ls : LegTrees) (e : ExprTree) (b n x : Binder) (f : ExprTree)
 
 -- ---- builders of one type and shape join
 
+totals_in_range : (xs : Totals) (ts : TypeTrees) → TotalsFit xs ts → TotalsInRange xs
+totals_in_range [] no_types h = tt
+totals_in_range [] (more_types t ts) h = absurd h
+totals_in_range (x ∷ xs) no_types h = absurd h
+totals_in_range (x ∷ xs) (more_types t ts) h = (h.1, totals_in_range xs ts h.2)
+
+are_in_range : (xs : Totals) (t : TypeTree) → AreTotals xs t → TotalsInRange xs
+are_in_range xs (tuple ts) h = totals_in_range xs ts h
+are_in_range xs (scalar k) h = absurd h
+are_in_range xs (vec t) h = absurd h
+are_in_range xs (dict s t) h = absurd h
+are_in_range xs (build b) h = absurd h
+
 in_range : (p : Part) (b : BuildTree) → HasPart p b → IsInRange p
 in_range (list_part vs) b h = tt
 in_range (total_part op k x) (total t o) h = h.2
@@ -98,6 +111,11 @@ in_range (total_part op k x) (list t) h = absurd h
 in_range (total_part op k x) (keyed s t o) h = absurd h
 in_range (total_part op k x) (cells t o) h = absurd h
 in_range (total_part op k x) (groups s t) h = absurd h
+in_range (totals_part op xs) (total t o) h = are_in_range xs t h.1
+in_range (totals_part op xs) (list t) h = absurd h
+in_range (totals_part op xs) (keyed s t o) h = absurd h
+in_range (totals_part op xs) (cells t o) h = absurd h
+in_range (totals_part op xs) (groups s t) h = absurd h
 in_range (cells_part op k xs) (cells t o) h = h.2
 in_range (cells_part op k xs) (list t) h = absurd h
 in_range (cells_part op k xs) (total t o) h = absurd h

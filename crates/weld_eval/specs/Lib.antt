@@ -1,5 +1,6 @@
 pub mod Fit
 pub mod FrameView
+pub mod Fresh
 pub mod LegsView
 pub mod NamesView
 pub mod NumberAnswers
@@ -9,3 +10,4 @@ pub mod ShortView
 pub mod SlotView
 pub mod Takes
 pub mod ThingView
+pub mod Word

@@ -2,7 +2,7 @@
 use Rattle.std.specs.Prelude.{◌≡◌, ℕ, zero, suc, IsSome}
 use Rattle.weld_data.specs.Kind.{InRange, IsInteger as IsIntegerKind}
 use Rattle.weld_tree.specs.TypeTree.{TypeTree, BuildTree, scalar, vec, struct as tuple, dict, build, list, total, keyed, cells, groups}
-use Rattle.weld_tree.specs.Types.{IsWellFormed}
+use Rattle.weld_tree.specs.Types.{IsMergerType, IsWellFormed}
 use Rattle.weld_tree.specs.ExprTree.{ExprTree, Leaf, int, truth, chars, name, fresh, One, Two, binary, and, or, look_up, key_exists, merge, Three}
 use Rattle.weld_builders.specs.Part.{shape_of}
 use Rattle.weld_builders.specs.Range.{IsInRange}
@@ -82,7 +82,7 @@ IsInteger (build b) = ⊥
 -- the builder starts without a value
 abbrev pub IsFresh : BuildTree → Type 0
 IsFresh (list t) = Unit {0}
-IsFresh (total t op) = IsInteger t
+IsFresh (total t op) = IsMergerType t
 IsFresh (keyed k v op) = IsInteger v
 IsFresh (cells t op) = ⊥
 IsFresh (groups k v) = Unit {0}

@@ -29,17 +29,30 @@ pub fn number_at(column: &Column, place: usize) -> Option<Short>
         Column::I64(items) => Some(Short::of_i64(items.as_slice()[place])),
         Column::I32(items) => Some(Short {
             kind: Kind::I32,
-            value: i64::from(items.as_slice()[place]),
+            word: i64::from(items.as_slice()[place]),
         }),
         Column::Bool(items) => Some(Short::of_truth(items.as_slice()[place])),
         Column::I8(items) => Some(Short {
             kind: Kind::I8,
-            value: i64::from(items.as_slice()[place]),
+            word: i64::from(items.as_slice()[place]),
+        }),
+        Column::I16(items) => Some(Short {
+            kind: Kind::I16,
+            word: i64::from(items.as_slice()[place]),
         }),
         Column::U8(items) => Some(Short {
             kind: Kind::U8,
-            value: i64::from(items.as_slice()[place]),
+            word: i64::from(items.as_slice()[place]),
         }),
+        Column::U16(items) => Some(Short {
+            kind: Kind::U16,
+            word: i64::from(items.as_slice()[place]),
+        }),
+        Column::U32(items) => Some(Short {
+            kind: Kind::U32,
+            word: i64::from(items.as_slice()[place]),
+        }),
+        Column::U64(items) => Some(Short::of_u64(items.as_slice()[place])),
         Column::Nest(items) => number_of(items.at(place)),
     }
 }

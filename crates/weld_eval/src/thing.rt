@@ -68,7 +68,7 @@ pub fn bare_thing(x: &Owned, alloc: Global) -> Result<Owned, AllocError>
 {
     match x {
         Owned::Value(v) => Ok(Owned::Value(v.copy(alloc)?)),
-        Owned::Built(b) => Ok(Owned::Built(b.bare(alloc))),
+        Owned::Built(b) => Ok(Owned::Built(b.bare(alloc)?)),
         Owned::Several(fields) => Ok(Owned::Several(bare_fields(fields, alloc)?)),
     }
 }

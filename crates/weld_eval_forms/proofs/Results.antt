@@ -11,7 +11,7 @@ use Rattle.weld_tree.specs.TypeTree.{BuildTree, build, list as list_of, total, k
 use Rattle.weld_tree.specs.Types.{IsWellFormedBuild}
 use Rattle.weld_tree.specs.ExprTree.{finish}
 use Rattle.weld_builders.specs.ValueOrder.{ValueMap}
-use Rattle.weld_builders.specs.Part.{Part, list_part, total_part, cells_part, keyed_part, groups_part}
+use Rattle.weld_builders.specs.Part.{Part, list_part, total_part, totals_part, cells_part, keyed_part, groups_part}
 use Rattle.weld_pieces.specs.Keyed.{KeysAreKept, HasOneKeyType}
 use Rattle.weld_built.specs.Logged.{HasResult}
 use Rattle.weld_meaning.specs.Thing.{Thing, plain, building, several}
@@ -45,6 +45,7 @@ map_has f m r = (keys_kept f (finite.entries m) r.keys, one_type f (finite.entri
 part_has : (p : Part) (b : BuildTree) → IsWellFormedBuild b → HasPart p b → HasResult p
 part_has (list_part vs) b w h = tt
 part_has (total_part op k x) b w h = tt
+part_has (totals_part op xs) b w h = tt
 part_has (cells_part op k xs) b w h = tt
 part_has (keyed_part op k m) (keyed s t o) w h =
     map_has (number k) m (subst Rises (list_of_entries-entries (map (with_value (number k)) (finite.entries m))) (result_has key_laws (keyed_part op k m) (keyed s t o) w h).1)

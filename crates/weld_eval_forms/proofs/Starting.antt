@@ -1,27 +1,32 @@
 -- Builders that start from values: a total from a number, cells from a vector of numbers.
-use Rattle.std.proofs.Common.{◌≡◌, ℕ, zero, suc, ℤ, pos, ◌+◌, ◌≤◌, List, [], ◌∷◌, length, Some, slice_get, slice_set, IfSome, refl, ap, sym, subst, ◌∙◌, arith}
+use Rattle.std.proofs.Common.{◌≡◌, ℕ, zero, suc, ℤ, pos, ◌+◌, ◌≤◌, List, [], ◌∷◌, length, Some, slice_get, slice_set, map, IfSome, refl, ap, sym, subst, ◌∙◌, arith}
 use Rattle.weld_data.specs.declared.kind.Kind.{Kind}
 use Rattle.weld_data.specs.declared.kind.Kind.TheVariants as kinds
+use Rattle.weld_data.specs.declared.num.Num.{Num}
 use Rattle.weld_data.specs.declared.op.MergeOp.{MergeOp}
 use Rattle.weld_data.specs.Kind.{InRange, IsInteger}
 use Rattle.weld_data.specs.Operation.{start_of, combination}
 use Rattle.weld_data.specs.Order.{IsNumber}
 use Rattle.weld_data.specs.Value.{Value, number, list, struct, dict, Values, no_values, and_value, values, list_of_values, list_of_values-values}
 use Rattle.weld_data.proofs.Operations.{combination-start_left}
-use Rattle.weld_tree.specs.TypeTree.{TypeTree, scalar, vec, struct as tuple, dict as mapping, build, list as list_of, total, keyed, cells, groups}
-use Rattle.weld_tree.specs.Types.{IsIntegerType}
+use Rattle.weld_tree.specs.TypeTree.{TypeTree, TypeTrees, no_types, more_types, scalar, vec, struct as tuple, dict as mapping, build, list as list_of, total, keyed, cells, groups}
+use Rattle.weld_tree.specs.Types.{IsIntegerType, AreIntegerTypes, IsMergerType}
 use Rattle.weld_tree.specs.ExprTree.{started}
-use Rattle.weld_fits.specs.HasValue.{HasValue, AllAre}
-use Rattle.weld_builders.specs.Outcome.{done, map_out, or_fault}
-use Rattle.weld_builders.specs.Part.{Part, cells_part, start_part, cells_shape, repeated, as_number_list, as_numbers, merge_cell, merge_part}
+use Rattle.weld_fits.specs.HasValue.{HasValue, HaveValues, AllAre}
+use Rattle.weld_builders.specs.Outcome.{done, and_then, map_out, or_fault}
+use Rattle.weld_builders.specs.Part.{Part, Totals, totals_part, totals_builder, kinds_of, with_kinds, start, cells_part, start_part, cells_shape, repeated, as_number_list, as_numbers, merge_cell, merge_part}
+use Rattle.weld_pieces.specs.Totals.{totals_in, number_in as number_of_total, AreIntegers}
+use Rattle.weld_built.specs.Fields.{AreSomeNumbers}
 use Rattle.weld_built.specs.Logged.{IsItemOf}
+use Rattle.weld_meaning.proofs.Good.{free_value_type}
+use Rattle.weld_meaning.proofs.WellFormed.{merger_free}
 use Rattle.weld_meaning.specs.Thing.{Thing, plain, building}
 use Rattle.weld_meaning.specs.ThingType.{HasThing}
-use Rattle.weld_meaning.specs.Evaluation.{one_thing, started_builder}
+use Rattle.weld_meaning.specs.Evaluation.{one_thing, kinds_in, started_builder}
 use Rattle.weld_eval_values.specs.Fits.{IsIntegerNumber}
 use Rattle.weld_eval.specs.Takes.{OneTakes, IsPlain, IsScalar}
 use Rattle.weld_eval_forms.specs.Legs.{elements_of_value}
-use Rattle.weld_eval_forms.specs.Starts.{number_in, numbers_in, total_from_value, filled, pair_value}
+use Rattle.weld_eval_forms.specs.Starts.{number_in, numbers_in, totals_among, AreIntegerNumbers, MayStartTotal, total_from_value, filled, pair_value}
 use Rattle.weld_eval_forms.proofs.Shapes.{plain_of_type, value_has}
 
 -- ---- which builders start from a value
@@ -37,12 +42,8 @@ groups_starts k v x h = h.rule.1
 
 -- ---- totals
 
-integer_plain : (t : TypeTree) (x : Thing) → IsIntegerType t → HasThing x t → IsPlain x
-integer_plain (scalar k) x w h = plain_of_type (scalar k) x tt h
-integer_plain (vec t) x w h = absurd w
-integer_plain (tuple ts) x w h = absurd w
-integer_plain (mapping k v) x w h = absurd w
-integer_plain (build b) x w h = absurd w
+merger_plain : (t : TypeTree) (x : Thing) → IsMergerType t → HasThing x t → IsPlain x
+merger_plain t x w h = plain_of_type t x (free_value_type t (merger_free t w)) h
 
 integer_number : (t : TypeTree) (v : Value) → IsIntegerType t → HasValue t v → IsIntegerNumber v
 integer_number (scalar k) v w h = (k, w, h)
@@ -51,19 +52,79 @@ integer_number (tuple ts) v w h = absurd w
 integer_number (mapping k m) v w h = absurd w
 integer_number (build b) v w h = absurd w
 
+integers_are : (ts : TypeTrees) (vs : Values) → AreIntegerTypes ts → HaveValues ts vs → AreIntegerNumbers vs
+integers_are no_types no_values w h = tt
+integers_are no_types (and_value v vs) w h = absurd h
+integers_are (more_types t ts) no_values w h = absurd h
+integers_are (more_types t ts) (and_value v vs) w h = (integer_number t v w.0 h.0, integers_are ts vs w.1 h.1)
+
+may_start : (t : TypeTree) (v : Value) → IsMergerType t → HasValue t v → MayStartTotal v
+may_start (scalar k) (number m x) w h = integer_number (scalar k) (number m x) w h
+may_start (scalar k) (list vs) w h = absurd h
+may_start (scalar k) (struct vs) w h = absurd h
+may_start (scalar k) (dict es) w h = absurd h
+may_start (vec t) v w h = absurd w
+may_start (tuple ts) (number m x) w h = absurd h
+may_start (tuple ts) (list vs) w h = absurd h
+may_start (tuple ts) (struct vs) w h = integers_are ts vs w.1 h
+may_start (tuple ts) (dict es) w h = absurd h
+may_start (mapping k m) v w h = absurd w
+may_start (build b) v w h = absurd w
+
 pub total_plain : (t : TypeTree) (op : MergeOp) (x : Thing) → OneTakes (started (total t op)) x → IsPlain x
-total_plain t op x h = integer_plain t x h.rule.0 (subst (HasThing x) h.rule.1 h.has)
+total_plain t op x h = merger_plain t x h.rule.0 (subst (HasThing x) h.rule.1 h.has)
 
-pub total_number : (t : TypeTree) (op : MergeOp) (x : Thing) (v : Value) → OneTakes (started (total t op)) x → x ≡ plain v → IsIntegerNumber v
-total_number t op x v h e = integer_number t v h.rule.0 (value_has t x v (subst (HasThing x) h.rule.1 h.has) e)
+pub total_number : (t : TypeTree) (op : MergeOp) (x : Thing) (v : Value) → OneTakes (started (total t op)) x → x ≡ plain v → MayStartTotal v
+total_number t op x v h e = may_start t v h.rule.0 (value_has t x v (subst (HasThing x) h.rule.1 h.has) e)
 
-total_of : (t : TypeTree) (op : MergeOp) (v : Value) → IsIntegerType t → HasValue t v → started_builder (total t op) (Some v) ≡ done (building (total_from_value op v))
+-- a struct of numbers
+kinds_done : (ts : TypeTrees) (vs : Values) → AreIntegerTypes ts → HaveValues ts vs → kinds_in ts ≡ done (kinds_of (totals_among vs))
+kinds_done no_types no_values w h = refl
+kinds_done no_types (and_value v vs) w h = absurd h
+kinds_done (more_types t ts) no_values w h = absurd h
+kinds_done (more_types (scalar k) ts) (and_value (number m x) vs) w h =
+    ap (map_out (λ ks. k ∷ ks)) (kinds_done ts vs w.1 h.1) ∙ ap (λ j. done (j ∷ kinds_of (totals_among vs))) (sym h.0.0)
+kinds_done (more_types (scalar k) ts) (and_value (list ws) vs) w h = absurd h.0
+kinds_done (more_types (scalar k) ts) (and_value (struct ws) vs) w h = absurd h.0
+kinds_done (more_types (scalar k) ts) (and_value (dict es) vs) w h = absurd h.0
+kinds_done (more_types (vec t) ts) (and_value v vs) w h = absurd w.0
+kinds_done (more_types (tuple us) ts) (and_value v vs) w h = absurd w.0
+kinds_done (more_types (mapping s t) ts) (and_value v vs) w h = absurd w.0
+kinds_done (more_types (build b) ts) (and_value v vs) w h = absurd w.0
+
+numbers_done : (ts : TypeTrees) (vs : Values) → AreIntegerTypes ts → HaveValues ts vs → as_numbers vs ≡ done (map (λ (t : Kind × ℤ). t.1) (totals_among vs))
+numbers_done no_types no_values w h = refl
+numbers_done no_types (and_value v vs) w h = absurd h
+numbers_done (more_types t ts) no_values w h = absurd h
+numbers_done (more_types (scalar k) ts) (and_value (number m x) vs) w h = ap (map_out (λ xs. x ∷ xs)) (numbers_done ts vs w.1 h.1)
+numbers_done (more_types (scalar k) ts) (and_value (list ws) vs) w h = absurd h.0
+numbers_done (more_types (scalar k) ts) (and_value (struct ws) vs) w h = absurd h.0
+numbers_done (more_types (scalar k) ts) (and_value (dict es) vs) w h = absurd h.0
+numbers_done (more_types (vec t) ts) (and_value v vs) w h = absurd w.0
+numbers_done (more_types (tuple us) ts) (and_value v vs) w h = absurd w.0
+numbers_done (more_types (mapping s t) ts) (and_value v vs) w h = absurd w.0
+numbers_done (more_types (build b) ts) (and_value v vs) w h = absurd w.0
+
+with_done : (xs : Totals) → with_kinds (kinds_of xs) (map (λ (t : Kind × ℤ). t.1) xs) ≡ done xs
+with_done [] = refl
+with_done (x ∷ xs) = ap (map_out (λ rest. x ∷ rest)) (with_done xs)
+
+fields_start : (ts : TypeTrees) (op : MergeOp) (vs : Values) → AreIntegerTypes ts → HaveValues ts vs → started_builder (total (tuple ts) op) (Some (struct vs)) ≡ done (building (totals_part op (totals_among vs)))
+fields_start ts op vs w h =
+    ap (λ o. and_then (map_out (totals_builder op) o) (λ f. map_out building (start f (Some (struct vs))))) (kinds_done ts vs w h)
+    ∙ ap (λ o. map_out building (map_out (totals_part op) (and_then o (with_kinds (kinds_of (totals_among vs)))))) (numbers_done ts vs w h)
+    ∙ ap (λ o. map_out building (map_out (totals_part op) o)) (with_done (totals_among vs))
+
+total_of : (t : TypeTree) (op : MergeOp) (v : Value) → IsMergerType t → HasValue t v → started_builder (total t op) (Some v) ≡ done (building (total_from_value op v))
 total_of (scalar k) op (number m x) w h = ap (λ j. done (building (total_from_value op (number j x)))) (sym h.0)
 total_of (scalar k) op (list vs) w h = absurd h
 total_of (scalar k) op (struct vs) w h = absurd h
 total_of (scalar k) op (dict es) w h = absurd h
 total_of (vec t) op v w h = absurd w
-total_of (tuple ts) op v w h = absurd w
+total_of (tuple ts) op (number m x) w h = absurd h
+total_of (tuple ts) op (list vs) w h = absurd h
+total_of (tuple ts) op (struct vs) w h = fields_start ts op vs w.1 h
+total_of (tuple ts) op (dict es) w h = absurd h
 total_of (mapping k m) op v w h = absurd w
 total_of (build b) op v w h = absurd w
 
@@ -73,6 +134,33 @@ total_starts t op x v h e =
 
 pub integer_of : (k : Kind) (x : ℤ) → IsIntegerNumber (number k x) → IsInteger k
 integer_of k x h = subst IsInteger (sym h.2.0) h.1
+
+-- ---- the numbers of a struct in the code
+
+all_kinds : (vs : List Value) → AreIntegerNumbers (values vs) → AreSomeNumbers vs
+all_kinds [] h = ([], tt)
+all_kinds (number k x ∷ vs) h = let r = all_kinds vs h.1 in (k ∷ r.0, ((refl, subst (λ j. InRange j x) (sym h.0.2.0) h.0.2.1), r.1))
+all_kinds (list ws ∷ vs) h = absurd h.0.2
+all_kinds (struct ws ∷ vs) h = absurd h.0.2
+all_kinds (dict es ∷ vs) h = absurd h.0.2
+
+pub some_numbers : (v : Value) (vs : List Value) → MayStartTotal v → v ≡ struct (values vs) → AreSomeNumbers vs
+some_numbers v vs h e = all_kinds vs (subst MayStartTotal e h)
+
+integers_in : (ts : Totals) → AreIntegerNumbers (values (map number_of_total ts)) → AreIntegers (kinds_of ts)
+integers_in [] h = tt
+integers_in (t ∷ ts) h = (subst IsInteger (sym h.0.2.0) h.0.1, integers_in ts h.1)
+
+pub integers_there : (v : Value) (vs : List Value) (ns : List Num) → MayStartTotal v → v ≡ struct (values vs) → map number_of_total (totals_in ns) ≡ vs → AreIntegers (kinds_of (totals_in ns))
+integers_there v vs ns h e g = integers_in (totals_in ns) (subst (λ ws. AreIntegerNumbers (values ws)) (sym g) (subst MayStartTotal e h))
+
+among_all : (ts : Totals) → totals_among (values (map number_of_total ts)) ≡ ts
+among_all [] = refl
+among_all (t ∷ ts) = ap (λ us. t ∷ us) (among_all ts)
+
+pub totals_from : (op : MergeOp) (v : Value) (vs : List Value) (ns : List Num) (p : Part) → v ≡ struct (values vs) → map number_of_total (totals_in ns) ≡ vs → p ≡ totals_part op (totals_in ns) → p ≡ total_from_value op v
+totals_from op v vs ns p e g is =
+    is ∙ ap (totals_part op) (sym (among_all (totals_in ns))) ∙ ap (λ ws. totals_part op (totals_among (values ws))) g ∙ ap (total_from_value op) (sym e)
 
 -- ---- cells
 

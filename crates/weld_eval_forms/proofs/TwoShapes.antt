@@ -1,19 +1,19 @@
 -- What the two things are that a form takes, by the types that they have.
-use Rattle.std.proofs.Common.{◌≡◌, ◌⊎◌, inl, inr, subst}
+use Rattle.std.proofs.Common.{◌≡◌, ◌⊎◌, inl, inr, [], ◌∷◌, subst}
 use Rattle.weld_data.specs.declared.kind.Kind.{Kind}
 use Rattle.weld_data.specs.declared.kind.Kind.TheVariants as kinds
 use Rattle.weld_data.specs.declared.op.BinOp.{BinOp}
 use Rattle.weld_data.specs.Order.{IsKey as IsKeyValue}
-use Rattle.weld_data.specs.Value.{Value, number, list, struct, dict, no_values, and_value}
-use Rattle.weld_tree.specs.TypeTree.{TypeTree, BuildTree, scalar, vec, dict as mapping, build, list as list_of, total, keyed, cells, groups}
+use Rattle.weld_data.specs.Value.{Value, number, list, struct, dict, Values, no_values, and_value}
+use Rattle.weld_tree.specs.TypeTree.{TypeTree, BuildTree, TypeTrees, no_types, more_types, scalar, vec, struct as tuple, dict as mapping, build, list as list_of, total, keyed, cells, groups}
 use Rattle.weld_tree.specs.Types.{IsKey, IsWellFormed, IsWellFormedBuild, pair_of, takes}
 use Rattle.weld_tree.specs.ExprTree.{binary, look_up, key_exists, merge}
-use Rattle.weld_fits.specs.HasValue.{HasValue}
-use Rattle.weld_builders.specs.Part.{Part, list_part, total_part, cells_part, keyed_part, groups_part}
-use Rattle.weld_pieces.specs.Kept.{IsNumberOf, IsPair}
+use Rattle.weld_fits.specs.HasValue.{HasValue, HaveValues}
+use Rattle.weld_builders.specs.Part.{Part, Totals, list_part, total_part, totals_part, kinds_of, cells_part, keyed_part, groups_part}
+use Rattle.weld_pieces.specs.Kept.{IsNumberOf, AreNumbersOf, IsStructOfNumbers, IsPair}
 use Rattle.weld_built.specs.Logged.{IsItemOf}
 use Rattle.weld_meaning.specs.Thing.{Thing, plain, building, several, Things}
-use Rattle.weld_meaning.specs.ThingType.{HasThing, HasPart}
+use Rattle.weld_meaning.specs.ThingType.{TotalsFit, AreTotals, HasThing, HasPart}
 use Rattle.weld_meaning.specs.Typing.{place_type}
 use Rattle.weld_meaning.proofs.Good.{free_value_type}
 use Rattle.weld_meaning.proofs.WellFormed.{key_free, takes_free}
@@ -114,6 +114,24 @@ pair_item P Q s t p q (dict es) h = absurd h
 scalar_item : (k : Kind) (t : TypeTree) → t ≡ scalar k → (v : Value) → HasValue t v → IsNumberOf k v
 scalar_item k t e v h = number_item k v (subst (λ u. HasValue u v) e h)
 
+fields_item : (xs : Totals) (ts : TypeTrees) (vs : Values) → TotalsFit xs ts → HaveValues ts vs → AreNumbersOf (kinds_of xs) vs
+fields_item [] no_types no_values h g = tt
+fields_item [] no_types (and_value v vs) h g = absurd g
+fields_item [] (more_types t ts) vs h g = absurd h
+fields_item (x ∷ xs) no_types vs h g = absurd h
+fields_item (x ∷ xs) (more_types t ts) no_values h g = absurd g
+fields_item (x ∷ xs) (more_types t ts) (and_value v vs) h g = (scalar_item x.0 t h.0 v g.0, fields_item xs ts vs h.2 g.1)
+
+struct_item : (xs : Totals) (t : TypeTree) → AreTotals xs t → (v : Value) → HasValue t v → IsStructOfNumbers (kinds_of xs) v
+struct_item xs (tuple ts) h (number k x) g = absurd g
+struct_item xs (tuple ts) h (list vs) g = absurd g
+struct_item xs (tuple ts) h (struct vs) g = fields_item xs ts vs h g
+struct_item xs (tuple ts) h (dict es) g = absurd g
+struct_item xs (scalar k) h v g = absurd h
+struct_item xs (vec t) h v g = absurd h
+struct_item xs (mapping s t) h v g = absurd h
+struct_item xs (build b) h v g = absurd h
+
 item_of : (p : Part) (b : BuildTree) (v : Value) → IsWellFormedBuild b → HasPart p b → HasValue (takes b) v → IsItemOf p v
 item_of (list_part vs) b v w h g = tt
 item_of (total_part op k x) (total t o) v w h g = scalar_item k t h.1 v g
@@ -121,6 +139,11 @@ item_of (total_part op k x) (list_of t) v w h g = absurd h
 item_of (total_part op k x) (keyed s t o) v w h g = absurd h
 item_of (total_part op k x) (cells t o) v w h g = absurd h
 item_of (total_part op k x) (groups s t) v w h g = absurd h
+item_of (totals_part op xs) (total t o) v w h g = struct_item xs t h.1 v g
+item_of (totals_part op xs) (list_of t) v w h g = absurd h
+item_of (totals_part op xs) (keyed s t o) v w h g = absurd h
+item_of (totals_part op xs) (cells t o) v w h g = absurd h
+item_of (totals_part op xs) (groups s t) v w h g = absurd h
 item_of (cells_part op k xs) (cells t o) v w h g = pair_item (IsNumberOf kinds.I64) (IsNumberOf k) place_type t (number_item kinds.I64) (scalar_item k t h.1) v g
 item_of (cells_part op k xs) (list_of t) v w h g = absurd h
 item_of (cells_part op k xs) (total t o) v w h g = absurd h

@@ -5,8 +5,9 @@ use Rattle.weld_data.specs.declared.kind.Kind.TheVariants as kinds
 use Rattle.weld_data.specs.declared.num.Num.{Num}
 use Rattle.weld_data.specs.declared.op.MergeOp.{MergeOp}
 use Rattle.weld_data.specs.Operation.{start_of}
-use Rattle.weld_data.specs.Value.{Value, number, list, struct, dict, no_values, and_value}
-use Rattle.weld_builders.specs.Part.{Part, list_part, total_part}
+use Rattle.weld_data.specs.Value.{Value, number, list, struct, dict, Values, no_values, and_value}
+use Rattle.weld_eval_values.specs.Fits.{IsIntegerNumber}
+use Rattle.weld_builders.specs.Part.{Part, Totals, list_part, total_part, totals_part}
 
 -- the number that a value is
 abbrev pub number_in : Value → ℤ
@@ -19,11 +20,31 @@ abbrev pub numbers_in : List Value → List ℤ
 numbers_in [] = []
 numbers_in (v ∷ vs) = number_in v ∷ numbers_in vs
 
--- the total that starts with the number
+-- the numbers among fields, each with its kind
+abbrev pub totals_among : Values → Totals
+totals_among no_values = []
+totals_among (and_value (number k x) vs) = (k, x) ∷ totals_among vs
+totals_among (and_value (list ws) vs) = totals_among vs
+totals_among (and_value (struct ws) vs) = totals_among vs
+totals_among (and_value (dict es) vs) = totals_among vs
+
+-- each field is a number of an integer kind
+abbrev pub AreIntegerNumbers : Values → Type 0
+AreIntegerNumbers no_values = Unit {0}
+AreIntegerNumbers (and_value v vs) = IsIntegerNumber v × AreIntegerNumbers vs
+
+-- a merger starts from the value: a number of an integer kind, or a struct of such
+abbrev pub MayStartTotal : Value → Type 0
+MayStartTotal (number k x) = IsIntegerNumber (number k x)
+MayStartTotal (list vs) = ⊥
+MayStartTotal (struct vs) = AreIntegerNumbers vs
+MayStartTotal (dict es) = ⊥
+
+-- the total that starts with the number, or the totals that start with the fields
 abbrev pub total_from_value : MergeOp → Value → Part
 total_from_value op (number k x) = total_part op k x
 total_from_value op (list vs) = list_part []
-total_from_value op (struct vs) = list_part []
+total_from_value op (struct vs) = totals_part op (totals_among vs)
 total_from_value op (dict es) = list_part []
 
 -- the first so many numbers, and for the others the neutral one

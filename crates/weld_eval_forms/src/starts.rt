@@ -2,7 +2,7 @@
 
 ghost use Rattle.std.specs.Prelude.{◌≡◌, IfOk};
 ghost use Rattle.weld_data.specs.Kind.{IsInteger};
-ghost use Rattle.weld_data.specs.Value.{list, values};
+ghost use Rattle.weld_data.specs.Value.{list, struct, values};
 ghost use Rattle.weld_data.specs.View.{view_val, view_column};
 ghost use Rattle.weld_tree.specs.TypeTree.{scalar, vec, cells};
 ghost use Rattle.weld_tree.specs.TypeView.{view_build};
@@ -11,16 +11,17 @@ ghost use Rattle.weld_fits.specs.HasValue.{HasValue, AllAre};
 ghost use Rattle.weld_builders.specs.Part.{cells_part};
 ghost use Rattle.weld_meaning.specs.Evaluation.{one_thing};
 ghost use Rattle.weld_eval_values.specs.Answers.{Answers};
-ghost use Rattle.weld_eval_values.specs.Fits.{IsIntegerNumber};
 ghost use Rattle.weld_eval.specs.Takes.{OneTakes, IsScalar};
 ghost use Rattle.weld_eval.specs.ThingView.{held_of};
 ghost use Rattle.weld_eval_forms.specs.Legs.{elements_of_value};
-ghost use Rattle.weld_eval_forms.specs.Starts.{numbers_in, total_from_value, pair_value, PlaceNumber};
+ghost use Rattle.weld_eval_forms.specs.Starts.{numbers_in, MayStartTotal, total_from_value, pair_value, PlaceNumber};
 
 use std::alloc::{AllocError, Global};
 use weld_built::Built;
+use weld_built::totals::numbers_of;
 use weld_data::{Column, Kind, MergeOp, Num, Stop, Val, Vals};
 use weld_eval::thing::{Held, Owned, value_of};
+use weld_pieces::TotalsPart;
 use weld_tree::{BuildTy, Ty, TyForm};
 
 /// A builder that starts from a value: a total from a number, cells from a vector of numbers.
@@ -30,22 +31,36 @@ pub(crate) fn started<'a>(build: &BuildTy, x: Held<'a>, alloc: Global) -> Result
     ensures { Answers held_of result (one_thing (started_form (view_build build.now)) (held_of x.entry)) }
 {
     match build {
-        BuildTy::Total(_, op) => Ok(Held::Made(Owned::Built(total_from(*op, value_of(&x))))),
+        BuildTy::Total(_, op) => match total_from(alloc, *op, value_of(&x)) {
+            Ok(built) => Ok(Held::Made(Owned::Built(built))),
+            Err(_) => Err(Stop::Memory),
+        },
         BuildTy::Cells(ty, op) => started_cells(ty, *op, x, alloc),
         BuildTy::List(_) | BuildTy::Keyed(_, _, _) | BuildTy::Groups(_, _) => unreachable!(),
     }
 }
 
-/// The total that starts with a number.
+/// The total that starts with a number, or the totals that start with the fields of a struct.
 #[tactic(auto, using(crate::proofs::Starting::integer_of))]
-fn total_from(op: MergeOp, v: &Val) -> Built
-    requires { IsIntegerNumber (view_val v.now) }
-    ensures { result ≡ total_from_value op (view_val v.now) }
+fn total_from(alloc: Global, op: MergeOp, v: &Val) -> Result<Built, AllocError>
+    requires { MayStartTotal (view_val v.now) }
+    ensures { IfOk result (λ b. b ≡ total_from_value op (view_val v.now)) }
 {
     match v {
-        Val::Num(number) => Built::total(op, *number),
+        Val::Num(number) => Ok(Built::total(op, *number)),
+        Val::Struct(fields) => totals_from(alloc, op, fields),
         _ => unreachable!(),
     }
+}
+
+/// The totals that start with the fields of a struct.
+#[tactic(auto, using(crate::proofs::Starting::some_numbers, crate::proofs::Starting::integers_there, crate::proofs::Starting::totals_from))]
+fn totals_from(alloc: Global, op: MergeOp, fields: &Vals) -> Result<Built, AllocError>
+    requires { MayStartTotal (struct (values fields.now)) }
+    ensures { IfOk result (λ b. b ≡ total_from_value op (struct (values fields.now))) }
+{
+    let totals = numbers_of(alloc, fields)?;
+    Ok(Built::totals(alloc, TotalsPart::from_numbers(op, totals)))
 }
 
 /// The cells that start with the numbers of a vector.

@@ -39,7 +39,7 @@ some_there None x e = let none : ⊥ = cc in absurd none
 
 fresh_starts : (b : BuildTree) → MayBeFresh b → IsWellFormedBuild b → IsFresh b
 fresh_starts (list t) m w = tt
-fresh_starts (total t op) m w = integer_kind t w
+fresh_starts (total t op) m w = w
 fresh_starts (keyed k v op) m w = integer_kind v w.1
 fresh_starts (cells t op) m w = m
 fresh_starts (groups k v) m w = tt

@@ -26,9 +26,13 @@ takes_operands op k m x y h = subst (TakesKind op) (sym h.2.0) h.1
 same_kind_self : (k : Kind) → same_kind k k ≡ true
 same_kind_self kinds.Bool = refl
 same_kind_self kinds.I8 = refl
-same_kind_self kinds.U8 = refl
+same_kind_self kinds.I16 = refl
 same_kind_self kinds.I32 = refl
 same_kind_self kinds.I64 = refl
+same_kind_self kinds.U8 = refl
+same_kind_self kinds.U16 = refl
+same_kind_self kinds.U32 = refl
+same_kind_self kinds.U64 = refl
 
 operated_is : (op : BinOp) (k m : Kind) (x y : ℤ) → k ≡ m → operated op (number k x) (number m y) ≡ or_fault (option_map (number (answer_kind op k)) (operation op k x y))
 operated_is op k m x y e =

@@ -26,9 +26,13 @@ pub fn element_of<'a>(column: &'a Column, place: usize) -> Element<'a>
     match column {
         Column::Bool(items) => Element::Number(Num::of_bool(items.as_slice()[place])),
         Column::I8(items) => Element::Number(Num::of_i8(items.as_slice()[place])),
-        Column::U8(items) => Element::Number(Num::of_u8(items.as_slice()[place])),
+        Column::I16(items) => Element::Number(Num::of_i16(items.as_slice()[place])),
         Column::I32(items) => Element::Number(Num::of_i32(items.as_slice()[place])),
         Column::I64(items) => Element::Number(Num::of_i64(items.as_slice()[place])),
+        Column::U8(items) => Element::Number(Num::of_u8(items.as_slice()[place])),
+        Column::U16(items) => Element::Number(Num::of_u16(items.as_slice()[place])),
+        Column::U32(items) => Element::Number(Num::of_u32(items.as_slice()[place])),
+        Column::U64(items) => Element::Number(Num::of_u64(items.as_slice()[place])),
         Column::Nest(items) => Element::Lent(items.at(place)),
     }
 }

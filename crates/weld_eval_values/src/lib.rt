@@ -7,5 +7,7 @@ pub mod scalar;
 pub mod vector;
 
 pub use element::{Element, element_of, field_of, has_key, look_up, place_of};
-pub use scalar::{cast, contrary, length, negated, operated, truth_of, whole_number};
+pub use scalar::{
+    cast, cast_number, contrary, length, negated, negated_number, operated, truth_of, whole_number,
+};
 pub use vector::{bytes_of, part_of, strided_part};

@@ -65,17 +65,25 @@ fn answer_kind(op: BinOp, kind: Kind) -> Kind
 }
 
 /// The wrapped opposite of a number of an integer kind. It takes no memory.
-#[tactic(auto, using(crate::proofs::ScalarLemmas::integer_kind))]
 pub fn negated(v: &Val) -> Num
     requires { IsIntegerNumber (view_val v.now) }
     ensures { negated_value (view_val v.now) ≡ done (view_num result) }
 {
     match v {
-        Val::Num(x) => Num {
-            kind: x.kind,
-            value: wrap(x.kind, -x.value),
-        },
+        Val::Num(x) => negated_number(*x),
         _ => unreachable!(),
+    }
+}
+
+/// The same of a number. It takes no memory.
+#[tactic(auto, using(crate::proofs::ScalarLemmas::integer_kind))]
+pub fn negated_number(x: Num) -> Num
+    requires { IsIntegerNumber (number x.kind x.value) }
+    ensures { negated_value (number x.kind x.value) ≡ done (view_num result) }
+{
+    Num {
+        kind: x.kind,
+        value: wrap(x.kind, -x.value),
     }
 }
 
@@ -102,9 +110,17 @@ pub fn cast(kind: Kind, v: &Val) -> Num
     requires number { IsNumber (view_val v.now) }
     ensures { cast_to kind (view_val v.now) ≡ done (view_num result) }
 {
+    cast_number(kind, number_of(v))
+}
+
+/// The same of a number. It takes no memory.
+pub fn cast_number(kind: Kind, x: Num) -> Num
+    requires { IsInteger kind }
+    ensures { cast_to kind (number x.kind x.value) ≡ done (view_num result) }
+{
     Num {
         kind,
-        value: wrap(kind, number_of(v).value),
+        value: wrap(kind, x.value),
     }
 }
 

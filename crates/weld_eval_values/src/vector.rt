@@ -76,9 +76,13 @@ fn elements_from(
     match column {
         Column::Bool(items) => Ok(Column::Bool(items_from(alloc, items, start, count)?)),
         Column::I8(items) => Ok(Column::I8(items_from(alloc, items, start, count)?)),
-        Column::U8(items) => Ok(Column::U8(items_from(alloc, items, start, count)?)),
+        Column::I16(items) => Ok(Column::I16(items_from(alloc, items, start, count)?)),
         Column::I32(items) => Ok(Column::I32(items_from(alloc, items, start, count)?)),
         Column::I64(items) => Ok(Column::I64(items_from(alloc, items, start, count)?)),
+        Column::U8(items) => Ok(Column::U8(items_from(alloc, items, start, count)?)),
+        Column::U16(items) => Ok(Column::U16(items_from(alloc, items, start, count)?)),
+        Column::U32(items) => Ok(Column::U32(items_from(alloc, items, start, count)?)),
+        Column::U64(items) => Ok(Column::U64(items_from(alloc, items, start, count)?)),
         Column::Nest(items) => Ok(Column::Nest(values_from(alloc, items, start, count)?)),
     }
 }

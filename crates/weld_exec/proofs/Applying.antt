@@ -63,6 +63,12 @@ three_all p (more_things w no_things) h = absurd h
 three_all p (more_things w (more_things u no_things)) h = absurd h
 three_all p (more_things w (more_things u (more_things t st))) h = h.0
 
+pub three_left : (p : Three) (st mid low : Things) → TakesThree p st → mid ≡ rest_of st → low ≡ rest_of mid → IsSomething low
+three_left p no_things mid low h m r = absurd h
+three_left p (more_things w no_things) mid low h m r = absurd h
+three_left p (more_things w (more_things u no_things)) mid low h m r = absurd h
+three_left p (more_things w (more_things u (more_things t st))) mid low h m r = subst IsSomething (sym (r ∙ ap rest_of m)) tt
+
 pub three_ready : (p : Three) (st mid low : Things) (x y z : Thing) → TakesThree p st → z ≡ first_of st → mid ≡ rest_of st → y ≡ first_of mid → low ≡ rest_of mid → x ≡ first_of low → ThreeTakes p x y z
 three_ready p no_things mid low x y z h e m f r g = absurd h
 three_ready p (more_things w no_things) mid low x y z h e m f r g = absurd h

@@ -6,7 +6,7 @@ ghost use Rattle.weld_plan.specs.PlanView.{IsPlan};
 use crate::by_tiles::run_by;
 use crate::prepared::{comes_to, prepare};
 use crate::programs::{
-    ABOVE_LOOPS, BODIES, FAULTS, KEYS_AND_CELLS, SEVEN_ROWS, STEPS, TOTALS_AND_LISTS,
+    ABOVE_LOOPS, BODIES, FAULTS, KEYS_AND_CELLS, KINDS, SEVEN_ROWS, STEPS, TOTALS_AND_LISTS,
 };
 use std::alloc::{AllocError, Global};
 use std::test::Fail;
@@ -97,6 +97,11 @@ fn totals_and_lists(rt: HostRuntime) -> Result<(), Fail> {
 #[test]
 fn keys_and_cells(rt: HostRuntime) -> Result<(), Fail> {
     all_hold(&rt, rt.alloc(), &KEYS_AND_CELLS)
+}
+
+#[test]
+fn kinds(rt: HostRuntime) -> Result<(), Fail> {
+    all_hold(&rt, rt.alloc(), &KINDS)
 }
 
 #[test]

@@ -21,9 +21,13 @@ is_fixed a x = is_of (Fixed a) x
 
 abbrev pub starts_int_kind : Class → Bool
 starts_int_kind (classes.Reserved w.I8) = true
-starts_int_kind (classes.Reserved w.U8) = true
+starts_int_kind (classes.Reserved w.I16) = true
 starts_int_kind (classes.Reserved w.I32) = true
 starts_int_kind (classes.Reserved w.I64) = true
+starts_int_kind (classes.Reserved w.U8) = true
+starts_int_kind (classes.Reserved w.U16) = true
+starts_int_kind (classes.Reserved w.U32) = true
+starts_int_kind (classes.Reserved w.U64) = true
 starts_int_kind _ = false
 
 abbrev pub starts_build : Class → Bool

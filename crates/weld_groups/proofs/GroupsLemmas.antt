@@ -1,5 +1,5 @@
 -- Lists by keys, in the map in the code.
-use Rattle.std.proofs.Common.{◌≡◌, ℤ, Some, List, int_cmp, ap, sym, ◌∙◌}
+use Rattle.std.proofs.Common.{◌≡◌, ℤ, Option, Some, None, List, [], ◌∷◌, int_cmp, ap, sym, subst, ◌∙◌}
 use Rattle.std.specs.List.Sorted.{IsStrictlySortedBy}
 use Rattle.std.specs.BTreeMap.{BTreeMap}
 use Rattle.std.specs.Map.{keys_of}
@@ -7,10 +7,11 @@ use Rattle.weld_data.specs.declared.kind.Kind.{Kind}
 use Rattle.weld_data.specs.Value.{Value, number}
 use Rattle.weld_builders.specs.Part.{appended, merge_key, join_maps}
 use Rattle.weld_builders.specs.ValueOrder.{value_cmp}
-use Rattle.weld_pieces.specs.Keyed.{entry_with, entries_with, map_of, itself}
+use Rattle.weld_pieces.specs.Kept.{IsNarrowKey}
+use Rattle.weld_pieces.specs.Keyed.{entry_with, entries_with, map_of, itself, CanKeep}
 use Rattle.weld_pieces.specs.declared.list.ListPart.{ListPart}
 use Rattle.weld_pieces.proofs.CellLemmas.{bits}
-use Rattle.weld_groups.specs.Groups.{lists_in}
+use Rattle.weld_groups.specs.Groups.{lists_in, AreListsOf, CanKeepEach}
 use Rattle.weld_groups.specs.GroupsView.{kind_of_keys, groups_in}
 use Rattle.weld_groups.specs.declared.groups.GroupsMap.{GroupsMap}
 use Rattle.weld_groups.specs.declared.groups.GroupsMap.TheVariants as maps
@@ -18,6 +19,15 @@ use Rattle.weld_groups.proofs.ListLemmas.{numbers_appended, values_appended, num
 
 some_kind : (a b : Kind) → Some a ≡ Some b → a ≡ b
 some_kind a b e = cc
+
+-- keys and items may be kept as those are that they come from
+pub narrow_kept : (key own : Option Kind) → CanKeep key own → IsNarrowKey own → IsNarrowKey key
+narrow_kept None own can h = tt
+narrow_kept (Some kind) own can h = subst IsNarrowKey can h
+
+pub can_keep_each : (items own : Option Kind) (ls : List ListPart) → CanKeep items own → AreListsOf own ls → CanKeepEach items ls
+can_keep_each items own [] can h = tt
+can_keep_each items own (l ∷ ls) can h = (subst (CanKeep items) (sym h.0) can, can_keep_each items own ls can h.1)
 
 pub number_done : (before : GroupsMap) (k key_kind : Kind) (m : BTreeMap ℤ ListPart) (ds : List (ℤ × ListPart)) (key : ℤ) (xs : List Value) → before ≡ maps.Numbers k m → kind_of_keys before ≡ Some key_kind → bits key ≡ key
     → lists_in ds ≡ entry_with int_cmp appended (lists_in m.entries) (bits key) xs → map_of (number k) (lists_in ds) ≡ merge_key appended (groups_in before) (number key_kind key) xs

@@ -5,6 +5,7 @@ use Rattle.weld_data.specs.declared.kind.Kind.{Kind}
 use Rattle.weld_data.specs.Value.{Value, number}
 use Rattle.weld_builders.specs.ValueOrder.{ValueMap}
 use Rattle.weld_pieces.specs.declared.list.ListPart.{ListPart}
+use Rattle.weld_pieces.specs.Kept.{IsNarrowKey}
 use Rattle.weld_pieces.specs.Keyed.{map_of, itself}
 use Rattle.weld_groups.specs.Groups.{lists_in, AreListsOf}
 use Rattle.weld_groups.specs.declared.groups.GroupsMap.{GroupsMap}
@@ -23,6 +24,7 @@ abbrev pub all_lists : GroupsMap → List ListPart
 all_lists (maps.Numbers k m) = values_of m.entries
 all_lists (maps.Values m) = values_of m.entries
 
--- each list keeps its items so
-abbrev pub AreGroupsOf : Option Kind → GroupsMap → Type 0
-AreGroupsOf items m = AreListsOf items (all_lists m)
+-- each list keeps its items so, and keys that are numbers lie within an i64
+pub record AreGroupsOf (items : Option Kind) (m : GroupsMap) : Type 0 where
+  pub lists : AreListsOf items (all_lists m)
+  pub narrow : IsNarrowKey (kind_of_keys m)

@@ -1,6 +1,6 @@
 ghost use Rattle.std.specs.Prelude.{◌≡◌, ◌∷◌, [], Some, None, IfOk, OnOk, OnErr};
 ghost use Rattle.std.specs.Map.{keys_of, values_of};
-ghost use Rattle.weld_data.specs.Kind.{InRange};
+ghost use Rattle.weld_data.specs.Kind.{IsNarrow, InRange};
 ghost use Rattle.weld_data.specs.Order.{IsKey};
 ghost use Rattle.weld_data.specs.Value.{number};
 ghost use Rattle.weld_data.specs.View.{view_val};
@@ -22,7 +22,8 @@ use weld_pieces::key::Key;
 use weld_pieces::{ListPart, Part};
 
 /// Lists of items by keys, the items of a key in the order of their merges. Keys that are one number
-/// are kept as numbers, and the items of each list as numbers of one kind or as values.
+/// of a kind whose numbers lie within an i64 are kept as numbers, and the items of each list as
+/// numbers of one kind or as values.
 #[derive(Drop)]
 pub struct GroupsPart {
     alloc: Global,
@@ -58,7 +59,7 @@ impl GroupsPart {
     ghost use Rattle.weld_data.specs.Value.{number};
     ghost use Rattle.weld_data.specs.View.{view_val};
     ghost use Rattle.weld_builders.specs.Part.{appended, merge_key, join_maps};
-    ghost use Rattle.weld_pieces.specs.Kept.{IsKeptAs, IsKeptKey};
+    ghost use Rattle.weld_pieces.specs.Kept.{IsKeptAs, IsKeptKey, IsNarrowKey};
     ghost use Rattle.weld_pieces.specs.Items.{items_of_list, kind_of_items};
     ghost use Rattle.weld_pieces.specs.Keyed.{KeysAreKept, HasOneKeyType, itself, shown, CanKeep};
     ghost use Rattle.weld_groups.specs.Groups.{list_value};
@@ -66,6 +67,7 @@ impl GroupsPart {
     /// The map without keys, which are to be numbers of a kind, or other values; the items of the
     /// lists are to be kept so. It takes no memory.
     pub fn empty(alloc: Global, key: Option<Kind>, items: Option<Kind>) -> GroupsPart
+        requires { IsNarrowKey key }
         ensures key { result.key ≡ key }
         ensures items { result.items ≡ items }
         ensures groups { result.groups ≡ finite.empty }
@@ -79,7 +81,8 @@ impl GroupsPart {
 
     /// How the keys are kept: as numbers of a kind, or as values. It takes no memory.
     pub fn key(&self) -> Option<Kind>
-        ensures { result ≡ self.now.key }
+        ensures key { result ≡ self.now.key }
+        ensures narrow { IsNarrowKey self.now.key }
     {
         match &self.map {
             GroupsMap::Numbers(kind, _) => Some(*kind),
@@ -119,8 +122,9 @@ impl GroupsPart {
         ensures items { IfOk result (λ copy. copy.items ≡ items) }
         ensures groups { IfOk result (λ copy. copy.groups ≡ self.now.groups) }
     {
+        let map = &self.map;
         let mut copy = GroupsPart::empty(alloc, key, items);
-        match add_map(&mut copy, alloc, &self.map) {
+        match add_map(&mut copy, alloc, map) {
             Ok(()) => Ok(copy),
             Err(e) => Err(e),
         }
@@ -141,7 +145,7 @@ impl GroupsPart {
                     &mut self.map,
                     self.items,
                     kind,
-                    n.value as i64,
+                    narrow(kind, n.value),
                     list,
                 ),
                 _ => unreachable!(),
@@ -176,7 +180,7 @@ impl GroupsPart {
     {
         match self.key() {
             Some(kind) => match key {
-                Val::Num(n) => self.push_at_number(kind, n.value as i64, item),
+                Val::Num(n) => self.push_at_number(kind, narrow(kind, n.value), item),
                 _ => unreachable!(),
             },
             None => value_in(&mut self.map, self.alloc, self.items, key, item),
@@ -457,6 +461,15 @@ fn add_copy(
     part.append_at_value(value, copy)
 }
 
+/// A number of a kind that lies within an i64.
+fn narrow(kind: Kind, x: i128) -> i64
+    requires narrow { IsNarrow kind }
+    requires in_range { InRange kind x }
+    ensures { result ≡ x }
+{
+    x as i64
+}
+
 /// A list of the same items, which are to be kept so.
 fn copy_of(alloc: Global, list: &ListPart, items: Option<Kind>) -> Result<ListPart, AllocError>
     requires { CanKeep items (kind_of_items list.now) }
@@ -490,7 +503,7 @@ impl Part for GroupsPart {
     ghost use Rattle.weld_builders.specs.Builder.{one_part, item};
     ghost use Rattle.weld_groups.specs.Groups.{part_of_groups};
     ghost use Rattle.weld_pieces.specs.Keyed.{KeysAreKept, HasOneKeyType};
-    ghost use Rattle.weld_pieces.specs.Kept.{kept_groups};
+    ghost use Rattle.weld_pieces.specs.Kept.{kept_groups, IsNarrowKey};
 
     type Shape = GroupsShape;
 
@@ -504,7 +517,7 @@ impl Part for GroupsPart {
 
     ghost kept_from = { λ s. kept_groups s.key s.items };
 
-    ghost is_shape = { λ _. Unit {0} };
+    ghost is_shape = { λ s. IsNarrowKey s.key };
 
     ghost as_item = { λ i. item (struct (and_value (view_val i.key) (and_value (view_val i.value) no_values))) };
 

@@ -1,12 +1,12 @@
 -- Small guarded merges, by which the definitions are checked: which are, which stay, and what takes their place.
 use Rattle.std.proofs.Common.{◌≡◌, pos, negsuc, true, false, refl}
-use Rattle.weld_data.specs.declared.kind.Kind.TheVariants.{U8, I32, I64}
+use Rattle.weld_data.specs.declared.kind.Kind.TheVariants.{Bool, U8, I32, I64}
 use Rattle.weld_data.specs.declared.op.BinOp.TheVariants as ops
 use Rattle.weld_data.specs.declared.op.MergeOp.TheVariants.{Add, Max}
 use Rattle.weld_tree.specs.declared.known.Known.TheVariants.{Blank}
 use Rattle.weld_tree.specs.declared.place.Place.{Place}
-use Rattle.weld_tree.specs.TypeTree.{TypeTree, scalar, build, total, keyed, cells}
-use Rattle.weld_tree.specs.ExprTree.{At, ExprTree, leaf, one, two, three, int, name, field, cast, binary, look_up, merge, if_else, select}
+use Rattle.weld_tree.specs.TypeTree.{TypeTree, scalar, struct, build, total, keyed, cells, no_types, more_types}
+use Rattle.weld_tree.specs.ExprTree.{At, ExprTree, leaf, one, two, three, many, no_exprs, more_exprs, make_struct, int, name, field, cast, binary, look_up, merge, if_else, select}
 use Rattle.weld_guarded.specs.Neutral.{node_of, neutral}
 use Rattle.weld_guarded.specs.Guard.{is_guard, unguarded}
 
@@ -70,6 +70,18 @@ numbers_by_places_stay = refl
 without_a_note_it_stays : is_guard (guarded (merged (leaf node (name 1)) item) (leaf node (name 1))) ≡ false
 without_a_note_it_stays = refl
 
+abbrev pair : TypeTree
+pair = struct (more_types (scalar I64) (more_types (scalar U8) no_types))
+
+abbrev sum_of_pairs : TypeTree
+sum_of_pairs = build (total pair Add)
+
+a_sum_of_pairs : is_guard (guarded (merged (builder sum_of_pairs) item) (builder sum_of_pairs)) ≡ true
+a_sum_of_pairs = refl
+
+of_truth_values_stays : is_guard (guarded (merged (builder (build (total (struct (more_types (scalar Bool) no_types)) Add))) item) (builder sum_of)) ≡ false
+of_truth_values_stays = refl
+
 -- ---- what takes their place
 
 abbrev zero_of_sum : ExprTree
@@ -86,8 +98,11 @@ merges_where_it_does_not = refl
 abbrev cast_of : ExprTree → ExprTree
 cast_of e = one (node_of place (scalar U8)) (cast U8) e
 
-the_least_is_neutral_to_max : neutral place Max I32 ≡ leaf (node_of place (scalar I32)) (int I32 (negsuc 2147483647))
+the_least_is_neutral_to_max : neutral place Max (scalar I32) ≡ leaf (node_of place (scalar I32)) (int I32 (negsuc 2147483647))
 the_least_is_neutral_to_max = refl
 
-a_small_kind_is_cast : neutral place Add U8 ≡ cast_of (leaf (node_of place (scalar I32)) (int I32 (pos 0)))
+a_small_kind_is_cast : neutral place Add (scalar U8) ≡ cast_of (leaf (node_of place (scalar I32)) (int I32 (pos 0)))
 a_small_kind_is_cast = refl
+
+of_a_pair : neutral place Add pair ≡ many (node_of place pair) make_struct (more_exprs zero_of_sum (more_exprs (cast_of (leaf (node_of place (scalar I32)) (int I32 (pos 0)))) no_exprs))
+of_a_pair = refl

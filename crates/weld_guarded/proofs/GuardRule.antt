@@ -1,26 +1,24 @@
 -- A guarded merge may be rewritten to the merge of what the condition chooses.
-use Rattle.std.proofs.Common.{◌≡◌, ℕ, ℤ, Bool, true, false, ◌&&◌, ◌||◌, if◌then◌else◌, ◌++◌, Option, Some, None, length, refl, ap, sym, subst, ◌∙◌, arith, length-append, inl, inr}
-use Rattle.weld_data.specs.declared.kind.Kind.{Kind}
+use Rattle.std.proofs.Common.{◌≡◌, ℕ, Bool, true, false, ◌&&◌, ◌||◌, if◌then◌else◌, ◌++◌, Option, Some, None, length, refl, ap, sym, subst, ◌∙◌, arith, length-append, inl, inr}
 use Rattle.weld_data.specs.declared.op.MergeOp.{MergeOp}
-use Rattle.weld_data.specs.Kind.{InRange}
-use Rattle.weld_data.specs.Operation.{start_of}
-use Rattle.weld_data.specs.Value.{Value, number, list as list_value, struct as struct_value, dict as dict_value}
-use Rattle.weld_data.proofs.Operations.{combination-start_right}
-use Rattle.weld_tree.specs.TypeTree.{TypeTree, BuildTree, scalar, build, total}
-use Rattle.weld_tree.specs.Types.{takes as taken_type}
+use Rattle.weld_data.specs.Value.{Value}
+use Rattle.weld_tree.specs.TypeTree.{TypeTree, BuildTree, build, total}
+use Rattle.weld_tree.specs.Types.{takes as taken_type, IsMergerType}
 use Rattle.weld_tree.specs.ExprTree.{At, ExprTree, leaf, one, two, three, many, let_in, loop, iterate, binary, and, or, look_up, key_exists, merge, if_else, select, slice}
 use Rattle.weld_tree.specs.Program.{bound}
-use Rattle.weld_builders.specs.Outcome.{Outcome, done, fault, stuck, and_then}
-use Rattle.weld_builders.specs.Part.{list_part, total_part, cells_part, keyed_part, groups_part}
+use Rattle.weld_builders.specs.Outcome.{Outcome, done, fault, stuck, and_then, map_out}
+use Rattle.weld_builders.specs.Part.{Part}
 use Rattle.weld_meaning.specs.Environment.{Named}
 use Rattle.weld_meaning.specs.Thing.{Thing, plain, building, several}
-use Rattle.weld_meaning.specs.ThingType.{HasThing, EnvFits}
+use Rattle.weld_meaning.specs.ThingType.{HasPart, HasThing, EnvFits}
 use Rattle.weld_meaning.specs.Evaluation.{Env, chosen, merged, eval}
 use Rattle.weld_meaning.specs.Meaning.{GivesOrFaults}
 use Rattle.weld_meaning.specs.Typing.{Types, truth_type, HasType}
 use Rattle.weld_meaning.specs.Origin.{Path, Origin}
 use Rattle.weld_meaning.specs.Available.{Taken, Apart, chain_of, takes}
 use Rattle.weld_meaning.specs.Names.{IsFree}
+use Rattle.weld_meaning.proofs.Good.{free_value_type, value_of_thing}
+use Rattle.weld_meaning.proofs.WellFormed.{merger_free}
 use Rattle.weld_meaning.proofs.OneType.{one_type}
 use Rattle.weld_meaning.proofs.PartsGood.{KeyLaws}
 use Rattle.weld_meaning.proofs.NeverStuck.{never_stuck}
@@ -39,9 +37,9 @@ use Rattle.weld_putting.proofs.Following.{and_true}
 use Rattle.weld_putting.proofs.PlainFacts.{plain_gives}
 use Rattle.weld_guarded.specs.Neutral.{node_of, neutral}
 use Rattle.weld_guarded.specs.Guard.{Merger, merger_of, same_chain, is_some_merger, is_guarded, is_guard, chosen_value, always_merged, unguarded}
-use Rattle.weld_guarded.proofs.Neutrals.{IsNeutral, neutral_is}
-use Rattle.weld_guarded.proofs.Same.{one_origin, one_thing, one_taking, chains_are, IsMerger, merger_is, kind_integer, note_there}
-use Rattle.weld_guarded.proofs.Merging.{PartsPlaced, merge_placed, with_number, merge_gives}
+use Rattle.weld_guarded.proofs.Neutrals.{IsNeutral, neutral_is, neutral_value, merge_neutral}
+use Rattle.weld_guarded.proofs.Same.{one_origin, one_thing, one_taking, chains_are, IsMerger, merger_is, item_mergeable, note_there}
+use Rattle.weld_guarded.proofs.Merging.{PartsPlaced, merge_placed, with_value, merge_gives}
 
 -- ---- what the test says
 
@@ -68,28 +66,11 @@ guarded_of b v other h =
 
 -- ---- things
 
--- a thing of a `merger` is its total
-total_of : (op : MergeOp) (k : Kind) (x : Thing) → HasThing x (build (total (scalar k) op)) → (n : ℤ) × (x ≡ building (total_part op k n)) × InRange k n
-total_of op k (plain (number m n)) h = absurd h
-total_of op k (plain (list_value vs)) h = absurd h
-total_of op k (plain (struct_value vs)) h = absurd h
-total_of op k (plain (dict_value es)) h = absurd h
-total_of op k (building (list_part vs)) h = absurd h.1
-total_of op k (building (total_part o m n)) h =
-    let kinds : m ≡ k = let e = h.1.1 in cc in
-    (n, (λ i. building (total_part (sym h.1.0 i) (kinds i) n)), subst (λ j. InRange j n) kinds h.1.2)
-total_of op k (building (cells_part o m xs)) h = absurd h.1
-total_of op k (building (keyed_part o m es)) h = absurd h.1
-total_of op k (building (groups_part m)) h = absurd h.1
-total_of op k (several ts) h = absurd h
-
-number_of : (k : Kind) (x : Thing) → HasThing x (scalar k) → (n : ℤ) × (x ≡ plain (number k n))
-number_of k (plain (number m n)) h = (n, λ i. plain (number (h.0 i) n))
-number_of k (plain (list_value vs)) h = absurd h
-number_of k (plain (struct_value vs)) h = absurd h
-number_of k (plain (dict_value es)) h = absurd h
-number_of k (building p) h = absurd h
-number_of k (several ts) h = absurd h
+-- a thing of a builder is a part
+part_of : (c : BuildTree) (x : Thing) → HasThing x (build c) → (p : Part) × (x ≡ building p) × HasPart p c
+part_of c (plain v) h = absurd h
+part_of c (building p) h = (p, refl, h.1)
+part_of c (several ts) h = absurd h
 
 given : {A : Type 0} (P : A → Type 0) (o : Outcome A) → GivesOrFaults P o → (o ≡ fault → ⊥) → (x : A) × (o ≡ done x) × P x
 given P (done x) h k = (x, refl, h)
@@ -140,23 +121,26 @@ builders_one : (c d : BuildTree) → build c ≡ build d → c ≡ d
 builders_one c d e = cc
 
 module _ (a m : At) (c b v other : ExprTree) (w : Guarded b v other) where
-  abbrev k : Kind
-  k = w.merger.kind
+  abbrev item : TypeTree
+  item = w.merger.item
 
   abbrev op : MergeOp
   op = w.merger.op
 
   abbrev builder_type : TypeTree
-  builder_type = build (total (scalar k) op)
+  builder_type = build (total item op)
 
   abbrev none : ExprTree
-  none = neutral a.place op k
+  none = neutral a.place op item
 
   abbrev arm : ExprTree
   arm = two m merge b v
 
-  neutral_none : IsNeutral op k none
-  neutral_none = neutral_is a.place op k (kind_integer (noted b) w.merger w.known)
+  mergeable : IsMergerType item
+  mergeable = item_mergeable (noted b) w.merger w.known
+
+  neutral_none : IsNeutral op item none
+  neutral_none = neutral_is a.place op item mergeable
 
   -- the arms and the condition in their places
   record Arms (types : Types) (g : Named Origin) (t : TypeTree) : Type 0 where
@@ -169,8 +153,8 @@ module _ (a m : At) (c b v other : ExprTree) (w : Guarded b v other) where
   -- what is known of the parts then
   record Parts (types : Types) (g : Named Origin) (t : TypeTree) : Type 0 where
     pub builder : IsPlaced b types g builder_type
-    pub number : IsPlaced v types g (scalar k)
-    pub neutral : IsPlaced none types g (scalar k)
+    pub value : IsPlaced v types g item
+    pub neutral : IsPlaced none types g item
     pub type : t ≡ builder_type
     pub none_taken : (s : ℕ) (q : Path) → takes v g s q ≡ false
 
@@ -182,11 +166,11 @@ module _ (a m : At) (c b v other : ExprTree) (w : Guarded b v other) where
       let n = note_there b types pb.noted in
       let is : IsMerger n.0 w.merger = merger_is (noted b) w.merger n.0 w.known n.1 in
       let type : h.0 ≡ builder_type = one_type b types h.0 n.0 pb.typed n.2 ∙ is.type in
-      let same : h.4.0 ≡ total (scalar k) op = builders_one h.4.0 (total (scalar k) op) (sym h.4.1 ∙ type) in
-      let number : h.1 ≡ scalar k = h.4.2 ∙ ap taken_type same in
+      let same : h.4.0 ≡ total item op = builders_one h.4.0 (total item op) (sym h.4.1 ∙ type) in
+      let value : h.1 ≡ item = h.4.2 ∙ ap taken_type same in
       record {
         builder = subst (IsPlaced b types g) type pb;
-        number = subst (IsPlaced v types g) number pv;
+        value = subst (IsPlaced v types g) value pv;
         neutral = record {
           formed = pb.formed;
           forms = pb.forms;
@@ -202,13 +186,13 @@ module _ (a m : At) (c b v other : ExprTree) (w : Guarded b v other) where
 
   -- ---- in its place
 
-  in_first : (types : Types) (g : Named Origin) (t : TypeTree) → Arms types g t → PartsPlaced k op b c v none types g
+  in_first : (types : Types) (g : Named Origin) (t : TypeTree) → Arms types g t → PartsPlaced item op b c v none types g
   in_first types g t p =
       let q = parts_of types g t p in
       record {
         builder = q.builder;
         condition = p.condition;
-        first = q.number;
+        first = q.value;
         second = q.neutral;
         builder_condition = apart_back _ _ (apart_less (takes c g) (takes arm g) (takes b g) (λ s r. or_first (takes b g s r) (takes v g s r)) p.apart);
         builder_first = p.merges.splits.2;
@@ -218,7 +202,7 @@ module _ (a m : At) (c b v other : ExprTree) (w : Guarded b v other) where
         first_second = apart_none (takes v g) (takes none g) (neutral_none.takes_none g);
       }
 
-  in_second : (types : Types) (g : Named Origin) (t : TypeTree) → Arms types g t → PartsPlaced k op b c none v types g
+  in_second : (types : Types) (g : Named Origin) (t : TypeTree) → Arms types g t → PartsPlaced item op b c none v types g
   in_second types g t p =
       let q = in_first types g t p in
       record {
@@ -237,31 +221,31 @@ module _ (a m : At) (c b v other : ExprTree) (w : Guarded b v other) where
   -- ---- what the arms come to
 
   record Things (env : Env) : Type 0 where
-    pub total : ℤ
-    pub number : ℤ
-    pub builder_is : eval b env ≡ done (building (total_part op k total))
-    pub number_is : eval v env ≡ done (plain (Rattle.weld_data.specs.Value.number k number))
-    pub merges_to : eval arm env ≡ with_number op k total number
-    pub stays_at : eval other env ≡ with_number op k total (start_of op k)
+    pub part : Part
+    pub value : Value
+    pub builder_is : eval b env ≡ done (building part)
+    pub value_is : eval v env ≡ done (plain value)
+    pub merges_to : eval arm env ≡ with_value part value
+    pub stays_at : eval other env ≡ with_value part (neutral_value op item)
 
   things_of : KeyLaws → (types : Types) (g : Named Origin) (t : TypeTree) (env : Env) → Arms types g t → EnvFits types env → Things env
   things_of laws types g t env p fit =
       let q = parts_of types g t p in
       let good = never_stuck laws b types builder_type env q.builder.typed q.builder.formed fit in
       let x = given (λ y. HasThing y builder_type) (eval b env) good.fits (plain_gives env b (chain_plain b w.chain w.here)) in
-      let n = total_of op k x.0 x.2 in
+      let n = part_of (total item op) x.0 x.2 in
       let safe : Laws = record { fits = λ e h u later i formed fits. (never_stuck laws e h u later i formed fits).fits; one = one_type } in
-      let y = valued safe v types (scalar k) env q.number.formed fit q.number.typed q.number.noted w.safe in
-      let i = number_of k y.0 y.2 in
-      let eb : eval b env ≡ done (building (total_part op k n.0)) = x.1 ∙ ap done n.1 in
-      let ev : eval v env ≡ done (plain (number k i.0)) = y.1 ∙ ap done i.1 in
+      let y = valued safe v types item env q.value.formed fit q.value.typed q.value.noted w.safe in
+      let i = value_of_thing item y.0 (free_value_type item (merger_free item mergeable)) y.2 in
+      let eb : eval b env ≡ done (building n.0) = x.1 ∙ ap done n.1 in
+      let ev : eval v env ≡ done (plain i.0) = y.1 ∙ ap done i.1 in
       record {
-        total = n.0;
-        number = i.0;
+        part = n.0;
+        value = i.0;
         builder_is = eb;
-        number_is = ev;
+        value_is = ev;
         merges_to = λ j. and_then (eb j) (λ z. merged z (ev j));
-        stays_at = one_thing env other b w.chain w.there w.here ∙ eb ∙ ap (λ z. done (building (total_part op k z))) (sym (combination-start_right op k n.0 n.2));
+        stays_at = one_thing env other b w.chain w.there w.here ∙ eb ∙ sym (ap (map_out building) (merge_neutral n.0 item op n.2));
       }
 
   -- ---- the merge where the condition holds
@@ -270,7 +254,7 @@ module _ (a m : At) (c b v other : ExprTree) (w : Guarded b v other) where
   pattern = three a if_else c arm other
 
   abbrev answer : ExprTree
-  answer = two a merge b (three (node_of a.place (scalar k)) select c v none)
+  answer = two a merge b (three (node_of a.place item) select c v none)
 
   arms_first : (types : Types) (g : Named Origin) (t : TypeTree) → IsPlaced pattern types g t → Arms types g t
   arms_first types g t p = record {
@@ -286,7 +270,7 @@ module _ (a m : At) (c b v other : ExprTree) (w : Guarded b v other) where
       let arms = arms_first types g t p in
       let q = parts_of types g t arms in
       subst (IsPlaced answer types g) (sym q.type)
-      (merge_placed a a.place k op b c v none types g pattern (in_first types g t arms) p.noted.3 (subst (HasType pattern types) q.type p.typed)
+      (merge_placed a a.place item op b c v none types g pattern (in_first types g t arms) (merger_free item mergeable) p.noted.3 (subst (HasType pattern types) q.type p.typed)
       (λ u h. one_type pattern types u t h p.typed ∙ q.type))
 
   first_taken : (types : Types) (g : Named Origin) (t : TypeTree) → IsPlaced pattern types g t → takes answer g ≡ takes pattern g
@@ -299,7 +283,7 @@ module _ (a m : At) (c b v other : ExprTree) (w : Guarded b v other) where
   first_means : KeyLaws → (types : Types) (g : Named Origin) (t : TypeTree) (env : Env) → IsPlaced pattern types g t → EnvFits types env → eval answer env ≡ eval pattern env
   first_means laws types g t env p fit =
       let x = things_of laws types g t env (arms_first types g t p) fit in
-      merge_gives a a.place op k x.total x.number (start_of op k) b c v none env x.builder_is x.number_is (neutral_none.gives env)
+      merge_gives a (node_of a.place item) x.part x.value (neutral_value op item) b c v none env x.builder_is x.value_is (neutral_none.gives env)
       ∙ (λ i. and_then (eval c env) (λ tc. chosen tc (sym x.merges_to i) (sym x.stays_at i)))
 
   -- ---- the merge where it doesn't
@@ -308,7 +292,7 @@ module _ (a m : At) (c b v other : ExprTree) (w : Guarded b v other) where
   mirrored = three a if_else c other arm
 
   abbrev mirrored_answer : ExprTree
-  mirrored_answer = two a merge b (three (node_of a.place (scalar k)) select c none v)
+  mirrored_answer = two a merge b (three (node_of a.place item) select c none v)
 
   arms_second : (types : Types) (g : Named Origin) (t : TypeTree) → IsPlaced mirrored types g t → Arms types g t
   arms_second types g t p = record {
@@ -324,7 +308,7 @@ module _ (a m : At) (c b v other : ExprTree) (w : Guarded b v other) where
       let arms = arms_second types g t p in
       let q = parts_of types g t arms in
       subst (IsPlaced mirrored_answer types g) (sym q.type)
-      (merge_placed a a.place k op b c none v types g mirrored (in_second types g t arms) p.noted.3 (subst (HasType mirrored types) q.type p.typed)
+      (merge_placed a a.place item op b c none v types g mirrored (in_second types g t arms) (merger_free item mergeable) p.noted.3 (subst (HasType mirrored types) q.type p.typed)
       (λ u h. one_type mirrored types u t h p.typed ∙ q.type))
 
   second_taken : (types : Types) (g : Named Origin) (t : TypeTree) → IsPlaced mirrored types g t → takes mirrored_answer g ≡ takes mirrored g
@@ -337,7 +321,7 @@ module _ (a m : At) (c b v other : ExprTree) (w : Guarded b v other) where
   second_means : KeyLaws → (types : Types) (g : Named Origin) (t : TypeTree) (env : Env) → IsPlaced mirrored types g t → EnvFits types env → eval mirrored_answer env ≡ eval mirrored env
   second_means laws types g t env p fit =
       let x = things_of laws types g t env (arms_second types g t p) fit in
-      merge_gives a a.place op k x.total (start_of op k) x.number b c none v env x.builder_is (neutral_none.gives env) x.number_is
+      merge_gives a (node_of a.place item) x.part (neutral_value op item) x.value b c none v env x.builder_is (neutral_none.gives env) x.value_is
       ∙ (λ i. and_then (eval c env) (λ tc. chosen tc (sym x.stays_at i) (sym x.merges_to i)))
 
   -- ---- what is counted

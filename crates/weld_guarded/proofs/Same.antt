@@ -1,12 +1,13 @@
 -- One name with the same field accesses is one thing, wherever it stands; and what is noted of a `merger`.
-use Rattle.std.proofs.Common.{◌≡◌, ℕ, ◌==◌, true, false, [], ◌∷◌, Option, Some, None, refl, ap, sym, subst, ◌∙◌, eqb-true}
+use Rattle.std.proofs.Common.{◌≡◌, ℕ, ◌==◌, Bool, true, false, if◌then◌else◌, [], ◌∷◌, Option, Some, None, refl, ap, sym, subst, ◌∙◌, eqb-true}
 use Rattle.weld_data.specs.declared.kind.Kind.{Kind}
 use Rattle.weld_data.specs.declared.kind.Kind.TheVariants as kinds
 use Rattle.weld_data.specs.declared.op.MergeOp.{MergeOp}
 use Rattle.weld_data.specs.Kind.{IsInteger}
 use Rattle.weld_tree.specs.declared.known.Known.{Known}
 use Rattle.weld_tree.specs.declared.known.Known.TheVariants.{Blank, Is}
-use Rattle.weld_tree.specs.TypeTree.{TypeTree, scalar, vec, struct, dict, build, list, total, keyed, cells, groups}
+use Rattle.weld_tree.specs.TypeTree.{TypeTree, TypeTrees, scalar, vec, struct, dict, build, list, total, keyed, cells, groups, no_types, more_types}
+use Rattle.weld_tree.specs.Types.{HasTypes, IsIntegerType, AreIntegerTypes, IsMergerType}
 use Rattle.weld_tree.specs.ExprTree.{ExprTree, leaf, one, two, three, many, let_in, loop, iterate}
 use Rattle.weld_builders.specs.Outcome.{Outcome, and_then}
 use Rattle.weld_meaning.specs.Environment.{Named, look_for}
@@ -20,7 +21,8 @@ use Rattle.weld_replacing.proofs.Forms.{takes_chain}
 use Rattle.weld_putting.specs.Redex.{noted}
 use Rattle.weld_putting.proofs.Chains.{chain_by}
 use Rattle.weld_putting.proofs.Following.{and_true}
-use Rattle.weld_guarded.specs.Guard.{Merger, of_kind, of_type, merger_of, same_chain}
+use Rattle.weld_types.specs.Tests.{is_integer_kind, is_integer, are_integers, has_types, is_mergeable}
+use Rattle.weld_guarded.specs.Guard.{Merger, of_item, of_type, merger_of, same_chain}
 
 -- ---- chains
 
@@ -66,17 +68,50 @@ chains_are (Some c) (Some d) h =
 
 -- ---- mergers
 
--- the builder of the type, whose kind is one of integers
-pub record IsMerger (t : TypeTree) (m : Merger) : Type 0 where
-  pub type : t ≡ build (total (scalar m.kind) m.op)
-  pub integer : IsInteger m.kind
+integer_kind : (k : Kind) → is_integer_kind k ≡ true → IsInteger k
+integer_kind kinds.Bool h = let nothing : ⊥ = cc in absurd nothing
+integer_kind kinds.I8 h = tt
+integer_kind kinds.I16 h = tt
+integer_kind kinds.I32 h = tt
+integer_kind kinds.I64 h = tt
+integer_kind kinds.U8 h = tt
+integer_kind kinds.U16 h = tt
+integer_kind kinds.U32 h = tt
+integer_kind kinds.U64 h = tt
 
-kind_is : (k : Kind) (op : MergeOp) (m : Merger) → of_kind k op ≡ Some m → IsMerger (build (total (scalar k) op)) m
-kind_is kinds.Bool op m h = let nothing : ⊥ = cc in absurd nothing
-kind_is kinds.I8 op m h = let same : record { kind = kinds.I8; op = op } ≡ m = cc in subst (IsMerger (build (total (scalar kinds.I8) op))) same (record { type = refl; integer = tt })
-kind_is kinds.U8 op m h = let same : record { kind = kinds.U8; op = op } ≡ m = cc in subst (IsMerger (build (total (scalar kinds.U8) op))) same (record { type = refl; integer = tt })
-kind_is kinds.I32 op m h = let same : record { kind = kinds.I32; op = op } ≡ m = cc in subst (IsMerger (build (total (scalar kinds.I32) op))) same (record { type = refl; integer = tt })
-kind_is kinds.I64 op m h = let same : record { kind = kinds.I64; op = op } ≡ m = cc in subst (IsMerger (build (total (scalar kinds.I64) op))) same (record { type = refl; integer = tt })
+integer_type : (t : TypeTree) → is_integer t ≡ true → IsIntegerType t
+integer_type (scalar k) h = integer_kind k h
+integer_type (vec t) h = let nothing : ⊥ = cc in absurd nothing
+integer_type (struct ts) h = let nothing : ⊥ = cc in absurd nothing
+integer_type (dict k v) h = let nothing : ⊥ = cc in absurd nothing
+integer_type (build b) h = let nothing : ⊥ = cc in absurd nothing
+
+integer_types : (ts : TypeTrees) → are_integers ts ≡ true → AreIntegerTypes ts
+integer_types no_types h = tt
+integer_types (more_types t ts) h = let k = and_true (is_integer t) (are_integers ts) h in (integer_type t k.0, integer_types ts k.1)
+
+some_types : (ts : TypeTrees) → has_types ts ≡ true → HasTypes ts
+some_types no_types h = let nothing : ⊥ = cc in absurd nothing
+some_types (more_types t ts) h = tt
+
+pub merger_type : (t : TypeTree) → is_mergeable t ≡ true → IsMergerType t
+merger_type (scalar k) h = integer_kind k h
+merger_type (vec t) h = let nothing : ⊥ = cc in absurd nothing
+merger_type (struct ts) h = let k = and_true (has_types ts) (are_integers ts) h in (some_types ts k.0, integer_types ts k.1)
+merger_type (dict k v) h = let nothing : ⊥ = cc in absurd nothing
+merger_type (build b) h = let nothing : ⊥ = cc in absurd nothing
+
+-- the builder of the type, which combines what a `merger` may
+pub record IsMerger (t : TypeTree) (m : Merger) : Type 0 where
+  pub type : t ≡ build (total m.item m.op)
+  pub mergeable : IsMergerType m.item
+
+item_is : (t : TypeTree) (op : MergeOp) (m : Merger) → of_item t op ≡ Some m → IsMerger (build (total t op)) m
+item_is t op m h = by (is_mergeable t) refl h
+  where
+    by : (b : Bool) → is_mergeable t ≡ b → (if b then Some (record { item = t; op = op }) else None) ≡ Some m → IsMerger (build (total t op)) m
+    by true q e = let same : record { item = t; op = op } ≡ m = cc in subst (IsMerger (build (total t op))) same (record { type = refl; mergeable = merger_type t q })
+    by false q e = let nothing : ⊥ = cc in absurd nothing
 
 type_is : (t : TypeTree) (m : Merger) → of_type t ≡ Some m → IsMerger t m
 type_is (scalar k) m h = let nothing : ⊥ = cc in absurd nothing
@@ -84,11 +119,7 @@ type_is (vec t) m h = let nothing : ⊥ = cc in absurd nothing
 type_is (struct ts) m h = let nothing : ⊥ = cc in absurd nothing
 type_is (dict k v) m h = let nothing : ⊥ = cc in absurd nothing
 type_is (build (list t)) m h = let nothing : ⊥ = cc in absurd nothing
-type_is (build (total (scalar k) op)) m h = kind_is k op m h
-type_is (build (total (vec t) op)) m h = let nothing : ⊥ = cc in absurd nothing
-type_is (build (total (struct ts) op)) m h = let nothing : ⊥ = cc in absurd nothing
-type_is (build (total (dict k v) op)) m h = let nothing : ⊥ = cc in absurd nothing
-type_is (build (total (build b) op)) m h = let nothing : ⊥ = cc in absurd nothing
+type_is (build (total t op)) m h = item_is t op m h
 type_is (build (keyed k v op)) m h = let nothing : ⊥ = cc in absurd nothing
 type_is (build (cells t op)) m h = let nothing : ⊥ = cc in absurd nothing
 type_is (build (groups k v)) m h = let nothing : ⊥ = cc in absurd nothing
@@ -96,9 +127,9 @@ type_is (build (groups k v)) m h = let nothing : ⊥ = cc in absurd nothing
 pub merger_is : (known : Known) (m : Merger) (t : TypeTree) → merger_of known ≡ Some m → known ≡ Is t → IsMerger t m
 merger_is known m t h e = type_is t m (sym (ap merger_of e) ∙ h)
 
-pub kind_integer : (known : Known) (m : Merger) → merger_of known ≡ Some m → IsInteger m.kind
-kind_integer Blank m h = let nothing : ⊥ = cc in absurd nothing
-kind_integer (Is t) m h = (type_is t m h).integer
+pub item_mergeable : (known : Known) (m : Merger) → merger_of known ≡ Some m → IsMergerType m.item
+item_mergeable Blank m h = let nothing : ⊥ = cc in absurd nothing
+item_mergeable (Is t) m h = (type_is t m h).mergeable
 
 -- ---- the note of a node itself
 

@@ -1,8 +1,6 @@
--- Guarded merges: an `if` that merges a number or leaves the builder, and the merge that takes its place (this project's
--- profile): `if(c, merge(b, v), b)` becomes `merge(b, select(c, v, n))`, n being the neutral value.
+-- Guarded merges: an `if` that merges a number or a struct of numbers or leaves the builder, and the merge that takes its
+-- place (this project's profile): `if(c, merge(b, v), b)` becomes `merge(b, select(c, v, n))`, n being the neutral value.
 use Rattle.std.specs.Prelude.{ℕ, ◌==◌, if◌then◌else◌, Bool, true, false, ◌&&◌, ◌||◌, Option, Some, None}
-use Rattle.weld_data.specs.declared.kind.Kind.{Kind}
-use Rattle.weld_data.specs.declared.kind.Kind.TheVariants as kinds
 use Rattle.weld_data.specs.declared.op.MergeOp.{MergeOp}
 use Rattle.weld_tree.specs.declared.known.Known.{Known}
 use Rattle.weld_tree.specs.declared.known.Known.TheVariants.{Blank, Is}
@@ -11,34 +9,24 @@ use Rattle.weld_tree.specs.TypeTree.{TypeTree, BuildTree, scalar, vec, struct, d
 use Rattle.weld_tree.specs.ExprTree.{At, ExprTree, leaf, one, two, three, many, let_in, loop, iterate, Two, binary, and, or, look_up, key_exists, merge, Three, if_else, select, slice}
 use Rattle.weld_meaning.specs.Origin.{Path}
 use Rattle.weld_meaning.specs.Available.{same_path, chain_of}
+use Rattle.weld_types.specs.Tests.{is_mergeable}
 use Rattle.weld_safe.specs.Test.{is_safe}
 use Rattle.weld_putting.specs.Redex.{noted}
 use Rattle.weld_guarded.specs.Neutral.{node_of, neutral}
 
 -- ---- what is noted of a builder
 
--- a `merger`'s kind and operator
+-- what a `merger` combines and by which operator
 pub record Merger : Type 0 where
-  pub kind : Kind
+  pub item : TypeTree
   pub op : MergeOp
 
-abbrev pub of_kind : Kind → MergeOp → Option Merger
-of_kind kinds.Bool op = None
-of_kind kinds.I8 op = Some (record { kind = kinds.I8; op = op })
-of_kind kinds.U8 op = Some (record { kind = kinds.U8; op = op })
-of_kind kinds.I32 op = Some (record { kind = kinds.I32; op = op })
-of_kind kinds.I64 op = Some (record { kind = kinds.I64; op = op })
-
-abbrev pub of_number : TypeTree → MergeOp → Option Merger
-of_number (scalar k) op = of_kind k op
-of_number (vec t) op = None
-of_number (struct ts) op = None
-of_number (dict k v) op = None
-of_number (build b) op = None
+abbrev pub of_item : TypeTree → MergeOp → Option Merger
+of_item t op = if is_mergeable t then Some (record { item = t; op = op }) else None
 
 abbrev pub of_builder : BuildTree → Option Merger
 of_builder (list t) = None
-of_builder (total t op) = of_number t op
+of_builder (total t op) = of_item t op
 of_builder (keyed k v op) = None
 of_builder (cells t op) = None
 of_builder (groups k v) = None
@@ -106,8 +94,8 @@ is_guard (iterate a e b f) = false
 -- the value where the condition is as it is to be, else the neutral value of the `merger`
 abbrev pub chosen_value : Place → ExprTree → Bool → ExprTree → Option Merger → ExprTree
 chosen_value place c wanted v None = v
-chosen_value place c true v (Some m) = three (node_of place (scalar m.kind)) select c v (neutral place m.op m.kind)
-chosen_value place c false v (Some m) = three (node_of place (scalar m.kind)) select c (neutral place m.op m.kind) v
+chosen_value place c true v (Some m) = three (node_of place m.item) select c v (neutral place m.op m.item)
+chosen_value place c false v (Some m) = three (node_of place m.item) select c (neutral place m.op m.item) v
 
 -- the merge of the arm, at the node of the `if`; what isn't one stays
 abbrev pub always_merged : At → ExprTree → Bool → ExprTree → ExprTree

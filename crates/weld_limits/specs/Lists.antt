@@ -3,7 +3,7 @@
 use Rattle.std.specs.Prelude.{ℕ, ◌+◌, ◌-◌, Bool, true, false, ◌||◌, ◌&&◌, ◌==◌, nat_le, if◌then◌else◌, List, [], ◌∷◌, Option, Some, None}
 use Rattle.weld_tree.specs.declared.place.Place.{Place}
 use Rattle.weld_terminals.specs.declared.symbol.Symbol.TheVariants.{LeftParen, LeftBracket, LeftBrace, Comma, Colon, Bar}
-use Rattle.weld_terminals.specs.declared.reserved.Reserved.TheVariants.{Zip, Vec, Dict, Bool as BoolWord, I8, U8, I32, I64, Vecbuilder, Appender, Merger, Dictmerger, Vecmerger, Groupbuilder, Groupmerger}
+use Rattle.weld_terminals.specs.declared.reserved.Reserved.TheVariants.{Zip, Vec, Dict, Bool as BoolWord, I8, I16, I32, I64, U8, U16, U32, U64, Vecbuilder, Appender, Merger, Dictmerger, Vecmerger, Groupbuilder, Groupmerger}
 use Rattle.weld_terminals.specs.declared.class.Class.{Class}
 use Rattle.weld_terminals.specs.declared.class.Class.TheVariants as classes
 use Rattle.weld_terminals.specs.declared.token.Token.{Token}
@@ -44,9 +44,13 @@ is_zip _ = false
 abbrev pub is_kind : Class → Bool
 is_kind (classes.Reserved BoolWord) = true
 is_kind (classes.Reserved I8) = true
-is_kind (classes.Reserved U8) = true
+is_kind (classes.Reserved I16) = true
 is_kind (classes.Reserved I32) = true
 is_kind (classes.Reserved I64) = true
+is_kind (classes.Reserved U8) = true
+is_kind (classes.Reserved U16) = true
+is_kind (classes.Reserved U32) = true
+is_kind (classes.Reserved U64) = true
 is_kind _ = false
 
 -- the word of a builder of one type, or of two

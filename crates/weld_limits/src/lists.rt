@@ -83,9 +83,13 @@ fn is_kind(class: Class) -> bool
     match class {
         Class::Reserved(Reserved::Bool) => true,
         Class::Reserved(Reserved::I8) => true,
-        Class::Reserved(Reserved::U8) => true,
+        Class::Reserved(Reserved::I16) => true,
         Class::Reserved(Reserved::I32) => true,
         Class::Reserved(Reserved::I64) => true,
+        Class::Reserved(Reserved::U8) => true,
+        Class::Reserved(Reserved::U16) => true,
+        Class::Reserved(Reserved::U32) => true,
+        Class::Reserved(Reserved::U64) => true,
         _ => false,
     }
 }

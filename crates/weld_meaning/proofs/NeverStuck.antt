@@ -19,7 +19,7 @@ use Rattle.weld_meaning.specs.Evaluation.{Env, found, byte_value, whole_number, 
 use Rattle.weld_meaning.specs.Loops.{RowsHave}
 use Rattle.weld_meaning.proofs.Good.{Good, good, then_good, map_good, IsValueType, free_value_type, value_of_thing, as_value_good, value_out_good}
 use Rattle.weld_meaning.proofs.ValuesGood.{truth_has, whole_number_has, wrapped_has, truth_of_good, negated_good, contrary_good, cast_good, operated_good, elements_good, length_good, look_up_good, look_key_good, has_key_good, slice_good, strided_good, selected_good, value_field_good, LegsFit, rows_good, turn_type, turns_good}
-use Rattle.weld_meaning.proofs.WellFormed.{key_free, integer_free, takes_free, formed_bind, formed_body, type_formed, types_formed, row_formed}
+use Rattle.weld_meaning.proofs.WellFormed.{key_free, merger_free, takes_free, formed_bind, formed_body, type_formed, types_formed, row_formed}
 use Rattle.weld_meaning.proofs.PartsGood.{KeyLaws, fresh_good, started_good, merge_good, result_has}
 
 -- things of a type
@@ -100,7 +100,7 @@ finish_good laws b (several ts) h = absurd h
 
 start_free : (b : BuildTree) (u : TypeTree) → IsWellFormedBuild b → StartHas b u → IsValueType u
 start_free (list_of t) u w s = absurd s
-start_free (total t op) u w s = subst IsValueType (sym s) (free_value_type t (integer_free t w))
+start_free (total t op) u w s = subst IsValueType (sym s) (free_value_type t (merger_free t w))
 start_free (keyed k t op) u w s = absurd s
 start_free (cells t op) u w s = subst IsValueType (sym s) tt
 start_free (groups k t) u w s = absurd s

@@ -9,7 +9,7 @@ use Rattle.weld_meaning.specs.Thing.{Thing, plain, building, several, Things, no
 use Rattle.weld_meaning.specs.Typing.{Types, AreFormed, place_type, IsField, LeafHas, OneHas, TwoHas, ThreeHas, ManyHas, HasType, HaveTypes, body_types}
 use Rattle.weld_meaning.specs.ThingType.{HasThing, HaveBuilders}
 use Rattle.weld_meaning.specs.Origin.{Path, Origin, value, made, own, outer, named, struct, Origins, no_origins, more_origins, origin_at, field_origin, is_value, are_values, struct_origin, known_origin, origin_of_name, leaf_origin, one_origin, two_origin, three_origin, many_origin, origin, origins, own_below, own_fields, own_paths, from_within, all_from_within, outside, in_body}
-use Rattle.weld_meaning.proofs.WellFormed.{key_free, integer_free, formed_bind, type_formed, types_formed}
+use Rattle.weld_meaning.proofs.WellFormed.{key_free, integer_free, merger_free, formed_bind, type_formed, types_formed}
 use Rattle.weld_meaning.proofs.Before.{at, before, all_before, origin_outside, drop_things, first_of-drop_things, drop_things-suc}
 use Rattle.weld_meaning.proofs.NeverStuck.{no_builder_value}
 
@@ -122,7 +122,7 @@ field_forms n (struct os) us t f h = form_at n os us t f h.1
 
 gives_free : (b : BuildTree) → IsWellFormedBuild b → IsBuilderFree (gives b)
 gives_free (list t) h = h.1
-gives_free (total t op) h = integer_free t h
+gives_free (total t op) h = merger_free t h
 gives_free (keyed k v op) h = (key_free k h.0, integer_free v h.1)
 gives_free (cells t op) h = integer_free t h
 gives_free (groups k v) h = (key_free k h.0, h.2)

@@ -17,17 +17,17 @@ use Rattle.weld_data.specs.Order.{AreNumbers, IsKeyField as IsKeyFieldValue, Are
 use Rattle.weld_data.specs.Value.{Value, number, list, struct, dict, Values, no_values, and_value, values, entries, list_of_entries-entries}
 use Rattle.weld_data.proofs.Operations.{InRange-combination}
 use Rattle.weld_tree.specs.TypeTree.{TypeTree, BuildTree, TypeTrees, scalar, vec, struct as tuple, dict as mapping, build, list as list_of, total, keyed, cells, groups, no_types, more_types}
-use Rattle.weld_tree.specs.Types.{HasTypes, IsScalarType, IsIntegerType, IsKeyField, AreKeyFields, IsKey, IsWellFormedBuild, pair_of, takes, gives}
+use Rattle.weld_tree.specs.Types.{HasTypes, IsScalarType, IsIntegerType, AreIntegerTypes, IsMergerType, IsKeyField, AreKeyFields, IsKey, IsWellFormedBuild, pair_of, takes, gives}
 use Rattle.weld_tree.specs.Program.{MayBeFresh}
 use Rattle.weld_fits.specs.HasValue.{HasValue, HaveValues, IsNumber, AllAre, AllEntriesAre}
-use Rattle.weld_builders.specs.Outcome.{or_fault}
+use Rattle.weld_builders.specs.Outcome.{or_fault, map_out}
 use Rattle.weld_builders.specs.ValueOrder.{value_cmp, ValueMap}
 use Rattle.weld_builders.specs.Range.{AllInRange}
-use Rattle.weld_builders.specs.Part.{Part, list_part, total_part, cells_part, keyed_part, groups_part, combined, appended, merge_cell, merge_part, as_numbers, as_number_list, result_of, repeated, bare}
+use Rattle.weld_builders.specs.Part.{Part, Totals, list_part, total_part, totals_part, totals_builder, BuilderForm, start, with_kinds, neutral_totals, kinds_of, merge_totals, as_fields, cells_part, keyed_part, groups_part, combined, appended, merge_cell, merge_part, as_numbers, as_number_list, result_of, repeated, bare}
 use Rattle.weld_meaning.specs.Thing.{building}
 use Rattle.weld_meaning.specs.Typing.{StartHas, place_type}
-use Rattle.weld_meaning.specs.ThingType.{EntriesHave, HasPart, HasThing}
-use Rattle.weld_meaning.specs.Evaluation.{started_builder}
+use Rattle.weld_meaning.specs.ThingType.{EntriesHave, TotalsFit, AreTotals, HasPart, HasThing}
+use Rattle.weld_meaning.specs.Evaluation.{started_builder, kinds_in}
 use Rattle.weld_meaning.proofs.Good.{Good, good, good_fault, then_good, map_good, by_number, by_list, by_struct}
 use Rattle.weld_meaning.proofs.ValuesGood.{least_below, greatest_above, as_number_good, all_append}
 
@@ -221,17 +221,86 @@ start_in_range : (op : MergeOp) (k : Kind) → InRange k (start_of op k)
 start_in_range ops.Add k = record { low = least_below k; high = greatest_above k }
 start_in_range ops.Mul kinds.Bool = record { low = omega (arith, ints); high = omega (arith, ints) }
 start_in_range ops.Mul kinds.I8 = record { low = omega (arith, ints); high = omega (arith, ints) }
-start_in_range ops.Mul kinds.U8 = record { low = omega (arith, ints); high = omega (arith, ints) }
+start_in_range ops.Mul kinds.I16 = record { low = omega (arith, ints); high = omega (arith, ints) }
 start_in_range ops.Mul kinds.I32 = record { low = omega (arith, ints); high = omega (arith, ints) }
 start_in_range ops.Mul kinds.I64 = record { low = omega (arith, ints); high = omega (arith, ints) }
+start_in_range ops.Mul kinds.U8 = record { low = omega (arith, ints); high = omega (arith, ints) }
+start_in_range ops.Mul kinds.U16 = record { low = omega (arith, ints); high = omega (arith, ints) }
+start_in_range ops.Mul kinds.U32 = record { low = omega (arith, ints); high = omega (arith, ints) }
+start_in_range ops.Mul kinds.U64 = record { low = omega (arith, ints); high = omega (arith, ints) }
 start_in_range ops.Min k = record { low = omega (arith, ints, least_below k, greatest_above k); high = omega (arith, ints) }
 start_in_range ops.Max k = record { low = omega (arith, ints); high = omega (arith, ints, least_below k, greatest_above k) }
+
+-- kinds, one for each field
+abbrev KindsFit : List Kind → TypeTrees → Type 0
+KindsFit [] no_types = Unit {0}
+KindsFit [] (more_types t ts) = ⊥
+KindsFit (k ∷ ks) no_types = ⊥
+KindsFit (k ∷ ks) (more_types t ts) = (t ≡ scalar k) × KindsFit ks ts
+
+kinds_good : (ts : TypeTrees) → AreIntegerTypes ts → Good (λ ks. KindsFit ks ts) (kinds_in ts)
+kinds_good no_types h = good tt
+kinds_good (more_types (scalar k) ts) h = map_good _ (kinds_good ts h.1) (λ ks f. (refl, f))
+kinds_good (more_types (vec t) ts) h = absurd h.0
+kinds_good (more_types (tuple us) ts) h = absurd h.0
+kinds_good (more_types (mapping s t) ts) h = absurd h.0
+kinds_good (more_types (build b) ts) h = absurd h.0
+
+neutral_fits : (op : MergeOp) (ks : List Kind) (ts : TypeTrees) → KindsFit ks ts → TotalsFit (neutral_totals op ks) ts
+neutral_fits op [] no_types h = tt
+neutral_fits op [] (more_types t ts) h = absurd h
+neutral_fits op (k ∷ ks) no_types h = absurd h
+neutral_fits op (k ∷ ks) (more_types t ts) h = (h.0, start_in_range op k, neutral_fits op ks ts h.1)
+
+-- a number in range for each
+abbrev AreFor : Totals → List ℤ → Type 0
+AreFor [] [] = Unit {0}
+AreFor [] (y ∷ ys) = ⊥
+AreFor (x ∷ xs) [] = ⊥
+AreFor (x ∷ xs) (y ∷ ys) = InRange x.0 y × AreFor xs ys
+
+fields_good : (xs : Totals) (ts : TypeTrees) (vs : Values) → TotalsFit xs ts → HaveValues ts vs → Good (AreFor xs) (as_numbers vs)
+fields_good [] no_types no_values h g = good tt
+fields_good [] no_types (and_value v vs) h g = absurd g
+fields_good [] (more_types t ts) vs h g = absurd h
+fields_good (x ∷ xs) no_types vs h g = absurd h
+fields_good (x ∷ xs) (more_types t ts) no_values h g = absurd g
+fields_good (x ∷ xs) (more_types t ts) (and_value v vs) h g =
+    then_good _ (as_number_good x.0 v (subst (λ u. HasValue u v) h.0 g.0)) (λ y r. map_good _ (fields_good xs ts vs h.2 g.1) (λ ys rs. (r, rs)))
+
+struct_good : (xs : Totals) (ts : TypeTrees) (v : Value) → TotalsFit xs ts → HasValue (tuple ts) v → Good (AreFor xs) (as_fields v)
+struct_good xs ts v h g = by_struct (λ a. Good (AreFor xs) (as_fields a)) (HaveValues ts) v g (λ vs k. fields_good xs ts vs h k)
+
+with_kinds_good : (op : MergeOp) (ks : List Kind) (ts : TypeTrees) (ys : List ℤ) → KindsFit ks ts → AreFor (neutral_totals op ks) ys → Good (λ xs. TotalsFit xs ts) (with_kinds ks ys)
+with_kinds_good op [] no_types [] f h = good tt
+with_kinds_good op [] no_types (y ∷ ys) f h = absurd h
+with_kinds_good op [] (more_types t ts) ys f h = absurd f
+with_kinds_good op (k ∷ ks) no_types ys f h = absurd f
+with_kinds_good op (k ∷ ks) (more_types t ts) [] f h = absurd h
+with_kinds_good op (k ∷ ks) (more_types t ts) (y ∷ ys) f h = map_good _ (with_kinds_good op ks ts ys f.1 h.1) (λ xs g. (f.0, h.0, g))
+
+-- the form of a merger of structs
+abbrev IsTotalsForm : MergeOp → TypeTrees → BuilderForm → Type 0
+IsTotalsForm op ts f = (ks : List Kind) × (f ≡ totals_builder op ks) × KindsFit ks ts
+
+totals_form_good : (op : MergeOp) (ts : TypeTrees) → AreIntegerTypes ts → Good (IsTotalsForm op ts) (map_out (totals_builder op) (kinds_in ts))
+totals_form_good op ts h = map_good _ (kinds_good ts h) (λ ks f. (ks, refl, f))
+
+fresh_totals : (op : MergeOp) (ts : TypeTrees) (f : BuilderForm) → IsWellFormedBuild (total (tuple ts) op) → IsTotalsForm op ts f → Good (λ x. HasThing x (build (total (tuple ts) op))) (map_out building (start f None))
+fresh_totals op ts f w g =
+    subst (λ c. Good (λ x. HasThing x (build (total (tuple ts) op))) (map_out building (start c None))) (sym g.1) (good (w, (refl, neutral_fits op g.0 ts g.2)))
+
+started_totals : (op : MergeOp) (ts : TypeTrees) (v : Value) (f : BuilderForm) → IsWellFormedBuild (total (tuple ts) op) → HasValue (tuple ts) v → IsTotalsForm op ts f → Good (λ x. HasThing x (build (total (tuple ts) op))) (map_out building (start f (Some v)))
+started_totals op ts v f w h g =
+    subst (λ c. Good (λ x. HasThing x (build (total (tuple ts) op))) (map_out building (start c (Some v)))) (sym g.1)
+    (map_good {P = λ p. HasPart p (total (tuple ts) op)} building
+    (map_good _ (then_good (with_kinds g.0) (struct_good (neutral_totals op g.0) ts v (neutral_fits op g.0 ts g.2) h) (λ ys r. with_kinds_good op g.0 ts ys g.2 r)) (λ xs r. (refl, r))) (λ p q. (w, q)))
 
 pub fresh_good : (b : BuildTree) → MayBeFresh b → IsWellFormedBuild b → Good (λ x. HasThing x (build b)) (started_builder b None)
 fresh_good (list_of t) m w = good (w, tt)
 fresh_good (total (scalar k) op) m w = good (w, (refl, refl, start_in_range op k))
 fresh_good (total (vec t) op) m w = absurd w
-fresh_good (total (tuple ts) op) m w = absurd w
+fresh_good (total (tuple ts) op) m w = then_good _ (totals_form_good op ts w.1) (λ f g. fresh_totals op ts f w g)
 fresh_good (total (mapping k v) op) m w = absurd w
 fresh_good (total (build b) op) m w = absurd w
 fresh_good (keyed s (scalar k) op) m w = good (w, (refl, refl, entries_empty (HasValue s) (InRange k)))
@@ -246,10 +315,10 @@ numbers_good : (k : Kind) (vs : Values) → AllAre (HasValue (scalar k)) vs → 
 numbers_good k no_values h = good tt
 numbers_good k (and_value v vs) h = then_good _ (as_number_good k v h.0) (λ x r. map_good _ (numbers_good k vs h.1) (λ xs rs. (r, rs)))
 
-total_start_good : (t : TypeTree) (op : MergeOp) (v : Value) → IsIntegerType t → HasValue t v → Good (λ x. HasThing x (build (total t op))) (started_builder (total t op) (Some v))
+total_start_good : (t : TypeTree) (op : MergeOp) (v : Value) → IsMergerType t → HasValue t v → Good (λ x. HasThing x (build (total t op))) (started_builder (total t op) (Some v))
 total_start_good (scalar k) op v w h = map_good building (map_good _ (as_number_good k v h) (λ x r. (refl, refl, r))) (λ p g. (w, g))
 total_start_good (vec t) op v w h = absurd w
-total_start_good (tuple ts) op v w h = absurd w
+total_start_good (tuple ts) op v w h = then_good _ (totals_form_good op ts w.1) (λ f g. started_totals op ts v f w h g)
 total_start_good (mapping s t) op v w h = absurd w
 total_start_good (build b) op v w h = absurd w
 
@@ -315,12 +384,31 @@ groups_merge_good : IsTotalOrder value_cmp → (m : ValueMap (List Value)) (s t 
 groups_merge_good law m s t v h g = by_pair (λ a. Good (λ q. HasPart q (groups s t)) (merge_part (groups_part m) a)) s t v g (λ x y p q.
     good (entries_insert (HasValue s) (λ vs. AllAre (HasValue t) (values vs)) law m x _ h p (appended_all (HasValue t) (finite.get m x) y (get_has (HasValue s) (λ vs. AllAre (HasValue t) (values vs)) m x h) q)))
 
+merge_totals_good : (op : MergeOp) (xs : Totals) (ts : TypeTrees) (ys : List ℤ) → TotalsFit xs ts → AreFor xs ys → Good (λ zs. TotalsFit zs ts) (merge_totals op xs ys)
+merge_totals_good op [] no_types [] f h = good tt
+merge_totals_good op [] no_types (y ∷ ys) f h = absurd h
+merge_totals_good op [] (more_types t ts) ys f h = absurd f
+merge_totals_good op (x ∷ xs) no_types ys f h = absurd f
+merge_totals_good op (x ∷ xs) (more_types t ts) [] f h = absurd h
+merge_totals_good op (x ∷ xs) (more_types t ts) (y ∷ ys) f h =
+    map_good _ (merge_totals_good op xs ts ys f.2 h.1) (λ zs g. (f.0, InRange-combination op x.0 x.1 y f.1 h.0, g))
+
+totals_merge_good : (op o : MergeOp) (xs : Totals) (t : TypeTree) (v : Value) → HasPart (totals_part op xs) (total t o) → HasValue t v → Good (λ q. HasPart q (total t o)) (merge_part (totals_part op xs) v)
+totals_merge_good op o xs (tuple ts) v h g =
+    then_good _ (struct_good xs ts v h.1 g) (λ ys r. map_good (totals_part op) (merge_totals_good op xs ts ys h.1 r) (λ zs f. (h.0, f)))
+totals_merge_good op o xs (scalar k) v h g = absurd h.1
+totals_merge_good op o xs (vec t) v h g = absurd h.1
+totals_merge_good op o xs (mapping s t) v h g = absurd h.1
+totals_merge_good op o xs (build b) v h g = absurd h.1
+
 pub merge_good : IsTotalOrder value_cmp → (p : Part) (b : BuildTree) (v : Value) → HasPart p b → HasValue (takes b) v → Good (λ q. HasPart q b) (merge_part p v)
 merge_good law (list_part vs) (list_of t) v h g = good (all_append (HasValue t) vs (v ∷ []) h (g, tt))
 merge_good law (list_part vs) _ v h g = absurd h
 merge_good law (total_part op k x) (total t o) v h g =
     map_good _ (as_number_good k v (subst (λ u. HasValue u v) h.1 g)) (λ y r. (h.0, h.1, InRange-combination op k x y h.2 r))
 merge_good law (total_part op k x) _ v h g = absurd h
+merge_good law (totals_part op xs) (total t o) v h g = totals_merge_good op o xs t v h g
+merge_good law (totals_part op xs) _ v h g = absurd h
 merge_good law (cells_part op k xs) (cells t o) v h g = cells_merge_good op o k xs t v h g
 merge_good law (cells_part op k xs) _ v h g = absurd h
 merge_good law (keyed_part op k m) (keyed s t o) v h g = keyed_merge_good law op o k m s t v h g
@@ -334,11 +422,26 @@ numbers_have : (k : Kind) (xs : List ℤ) → AllInRange k xs → AllAre (HasVal
 numbers_have k [] h = tt
 numbers_have k (x ∷ xs) h = ((refl, h.0), numbers_have k xs h.1)
 
+totals_have : (xs : Totals) (ts : TypeTrees) → TotalsFit xs ts → HaveValues ts (values (map (λ (x : Kind × ℤ). number x.0 x.1) xs))
+totals_have [] no_types h = tt
+totals_have [] (more_types t ts) h = absurd h
+totals_have (x ∷ xs) no_types h = absurd h
+totals_have (x ∷ xs) (more_types t ts) h = (subst (λ u. HasValue u (number x.0 x.1)) (sym h.0) (refl, h.1), totals_have xs ts h.2)
+
+totals_result : (op : MergeOp) (xs : Totals) (t : TypeTree) → AreTotals xs t → HasValue t (result_of (totals_part op xs))
+totals_result op xs (tuple ts) h = totals_have xs ts h
+totals_result op xs (scalar k) h = absurd h
+totals_result op xs (vec t) h = absurd h
+totals_result op xs (mapping s t) h = absurd h
+totals_result op xs (build b) h = absurd h
+
 pub result_has : KeyLaws → (p : Part) (b : BuildTree) → IsWellFormedBuild b → HasPart p b → HasValue (gives b) (result_of p)
 result_has laws (list_part vs) (list_of t) w h = h
 result_has laws (list_part vs) _ w h = absurd h
 result_has laws (total_part op k x) (total t o) w h = subst (λ u. HasValue u (number k x)) (sym h.1) (refl, h.2)
 result_has laws (total_part op k x) _ w h = absurd h
+result_has laws (totals_part op xs) (total t o) w h = totals_result op xs t h.1
+result_has laws (totals_part op xs) _ w h = absurd h
 result_has laws (cells_part op k xs) (cells t o) w h = subst (λ u. HasValue (vec u) (list (values (map (number k) xs)))) (sym h.1) (numbers_have k xs h.2)
 result_has laws (cells_part op k xs) _ w h = absurd h
 result_has laws (keyed_part op k m) (keyed s t o) w h =
@@ -353,11 +456,26 @@ repeated_in_range : (k : Kind) (x : ℤ) (n : ℕ) → InRange k x → AllInRang
 repeated_in_range k x zero r = tt
 repeated_in_range k x (suc n) r = (r, repeated_in_range k x n r)
 
+neutral_totals_fit : (op : MergeOp) (xs : Totals) (ts : TypeTrees) → TotalsFit xs ts → TotalsFit (neutral_totals op (kinds_of xs)) ts
+neutral_totals_fit op [] no_types h = tt
+neutral_totals_fit op [] (more_types t ts) h = absurd h
+neutral_totals_fit op (x ∷ xs) no_types h = absurd h
+neutral_totals_fit op (x ∷ xs) (more_types t ts) h = (h.0, start_in_range op x.0, neutral_totals_fit op xs ts h.2)
+
+neutral_totals_are : (op : MergeOp) (xs : Totals) (t : TypeTree) → AreTotals xs t → AreTotals (neutral_totals op (kinds_of xs)) t
+neutral_totals_are op xs (tuple ts) h = neutral_totals_fit op xs ts h
+neutral_totals_are op xs (scalar k) h = absurd h
+neutral_totals_are op xs (vec t) h = absurd h
+neutral_totals_are op xs (mapping s t) h = absurd h
+neutral_totals_are op xs (build b) h = absurd h
+
 pub bare_has : (p : Part) (b : BuildTree) → HasPart p b → HasPart (bare p) b
 bare_has (list_part vs) (list_of t) h = tt
 bare_has (list_part vs) _ h = absurd h
 bare_has (total_part op k x) (total t o) h = (h.0, h.1, start_in_range op k)
 bare_has (total_part op k x) _ h = absurd h
+bare_has (totals_part op xs) (total t o) h = (h.0, neutral_totals_are op xs t h.1)
+bare_has (totals_part op xs) _ h = absurd h
 bare_has (cells_part op k xs) (cells t o) h = (h.0, h.1, repeated_in_range k (start_of op k) (length xs) (start_in_range op k))
 bare_has (cells_part op k xs) _ h = absurd h
 bare_has (keyed_part op k m) (keyed s t o) h = (h.0, h.1, entries_empty (HasValue s) (InRange k))

@@ -6,7 +6,7 @@ use Rattle.weld_data.specs.Value.{Value, Values}
 use Rattle.weld_tree.specs.declared.binder.Binder.{Binder}
 use Rattle.weld_tree.specs.ExprTree.{ExprTree, leaf, one, two, three, many, let_in, loop, iterate, ExprTrees, no_exprs, more_exprs, Leaf, int, truth, chars, name, fresh, One, neg, not, cast, len, field, finish, started, Two, binary, and, or, look_up, key_exists, merge, Three, if_else, select, slice, Many, make_vec, make_struct}
 use Rattle.weld_builders.specs.Outcome.{Outcome, done, fault, stuck, and_then, map_out, or_fault}
-use Rattle.weld_builders.specs.Part.{Part, list_part, total_part, cells_part, keyed_part, groups_part, cells_shape, shape_of, merge_cell, merge_part, as_number, as_pair}
+use Rattle.weld_builders.specs.Part.{Part, Totals, list_part, total_part, totals_part, totals_shape, kinds_of, merge_totals, as_fields, cells_part, keyed_part, groups_part, cells_shape, shape_of, merge_cell, merge_part, as_number, as_pair}
 use Rattle.weld_meaning.specs.Environment.{Named, look_for}
 use Rattle.weld_meaning.specs.Thing.{Thing, plain, building, several, Things, no_things, more_things, as_value, as_values, struct_from, struct_of, thing_at, value_field, field_of, nothing, fields_of, first_of, rest_of}
 use Rattle.weld_meaning.specs.Evaluation.{Env, found, value_out, truth_of, merged, leaf_thing, one_thing, two_thing, three_thing, many_thing, chosen, Row, number_from, rows_of, run, with_row, whole_number, eval, eval_all, eval_legs}
@@ -69,9 +69,17 @@ cell_keeps : (op : MergeOp) (k : Kind) (xs : List ℤ) (i y : ℤ) → Ends (λ 
 cell_keeps op k xs (pos i) y = map_ends {P = λ x. Unit {0}} _ (anyhow (or_fault (slice_get xs i)) (λ x. tt)) (λ x u. length-slice_set xs i _)
 cell_keeps op k xs (negsuc i) y = record { holds = tt }
 
+totals_keep : (op : MergeOp) (xs : Totals) (ys : List ℤ) → Ends (λ zs. kinds_of zs ≡ kinds_of xs) (merge_totals op xs ys)
+totals_keep op [] [] = ends refl
+totals_keep op [] (y ∷ ys) = record { holds = tt }
+totals_keep op (x ∷ xs) [] = record { holds = tt }
+totals_keep op (x ∷ xs) (y ∷ ys) = map_ends _ (totals_keep op xs ys) (λ zs h i. x.0 ∷ h i)
+
 merge_keeps : (p : Part) (v : Value) → Ends (λ q. shape_of q ≡ shape_of p) (merge_part p v)
 merge_keeps (list_part vs) v = ends refl
 merge_keeps (total_part op k x) v = map_ends {P = λ y. Unit {0}} _ (anyhow (as_number v) (λ y. tt)) (λ y u. refl)
+merge_keeps (totals_part op xs) v =
+    after_anything (as_fields v) _ (λ ys. map_ends (totals_part op) (totals_keep op xs ys) (λ zs h. ap (totals_shape op) h))
 merge_keeps (cells_part op k xs) v =
     after_anything (as_pair v) _ (λ e. after_anything (as_number e.0) _ (λ i. after_anything (as_number e.1) _ (λ y. map_ends (cells_part op k) (cell_keeps op k xs i y) (λ ys h. ap (cells_shape op k) h))))
 merge_keeps (keyed_part op k m) v =

@@ -27,16 +27,24 @@ use Rattle.weld_meaning.proofs.Good.{Good, good, good_fault, then_good, map_good
 pub least_below : (k : Kind) → least k ≤ℤ pos 0
 least_below kinds.Bool = omega (arith, ints)
 least_below kinds.I8 = omega (arith, ints)
-least_below kinds.U8 = omega (arith, ints)
+least_below kinds.I16 = omega (arith, ints)
 least_below kinds.I32 = omega (arith, ints)
 least_below kinds.I64 = omega (arith, ints)
+least_below kinds.U8 = omega (arith, ints)
+least_below kinds.U16 = omega (arith, ints)
+least_below kinds.U32 = omega (arith, ints)
+least_below kinds.U64 = omega (arith, ints)
 
 pub greatest_above : (k : Kind) → pos 0 ≤ℤ greatest k
 greatest_above kinds.Bool = omega (arith, ints)
 greatest_above kinds.I8 = omega (arith, ints)
-greatest_above kinds.U8 = omega (arith, ints)
+greatest_above kinds.I16 = omega (arith, ints)
 greatest_above kinds.I32 = omega (arith, ints)
 greatest_above kinds.I64 = omega (arith, ints)
+greatest_above kinds.U8 = omega (arith, ints)
+greatest_above kinds.U16 = omega (arith, ints)
+greatest_above kinds.U32 = omega (arith, ints)
+greatest_above kinds.U64 = omega (arith, ints)
 
 rem_in_range : (k : Kind) (x y : ℤ) → InRange k x → InRange k (int_rem x y)
 rem_in_range k (pos a) y r = record {
@@ -76,9 +84,13 @@ cast_good k m v h = map_good _ (as_number_good m v h) (λ x r. wrapped_has k x)
 same_kind_refl : (k : Kind) → same_kind k k ≡ true
 same_kind_refl kinds.Bool = refl
 same_kind_refl kinds.I8 = refl
-same_kind_refl kinds.U8 = refl
+same_kind_refl kinds.I16 = refl
 same_kind_refl kinds.I32 = refl
 same_kind_refl kinds.I64 = refl
+same_kind_refl kinds.U8 = refl
+same_kind_refl kinds.U16 = refl
+same_kind_refl kinds.U32 = refl
+same_kind_refl kinds.U64 = refl
 
 -- unless the divisor is zero
 unless_good : (k : Kind) (b : Bool) (z : ℤ) → InRange k z → Good (HasValue (scalar k)) (or_fault (option_map (number k) (if b then None else Some z)))

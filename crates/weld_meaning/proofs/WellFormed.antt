@@ -2,7 +2,7 @@
 use Rattle.std.proofs.Common.{◌≡◌, ℕ, zero, suc, sym, subst, Bool, true, false, if◌then◌else◌, Option, Some, ◌∷◌, inl, inr, ◌==◌}
 use Rattle.weld_tree.specs.declared.binder.Binder.{Binder}
 use Rattle.weld_tree.specs.TypeTree.{TypeTree, BuildTree, TypeTrees, scalar, vec, struct, dict, build, list, total, keyed, cells, groups, no_types, more_types}
-use Rattle.weld_tree.specs.Types.{IsBuilderFree, AreBuilderFree, HasTypes, IsScalarType, IsIntegerType, IsKeyField, AreKeyFields, IsKey, IsWellFormed, IsWellFormedBuild, AreWellFormed, takes, gives}
+use Rattle.weld_tree.specs.Types.{IsBuilderFree, AreBuilderFree, HasTypes, IsScalarType, IsIntegerType, AreIntegerTypes, IsMergerType, IsKeyField, AreKeyFields, IsKey, IsWellFormed, IsWellFormedBuild, AreWellFormed, takes, gives}
 use Rattle.weld_tree.specs.ExprTree.{ExprTree, leaf, one, two, three, many, let_in, loop, iterate, ExprTrees, no_exprs, more_exprs, LegTree, whole, strided, LegTrees, no_legs, more_legs, Leaf, int, truth, chars, name, fresh, One, neg, not, cast, len, field, finish, started, Two, binary, and, or, look_up, key_exists, merge, Three, if_else, select, slice, Many, make_vec, make_struct}
 use Rattle.weld_meaning.specs.Environment.{look_for}
 use Rattle.weld_meaning.specs.Typing.{Types, IsField, AreAll, LeafHas, OneHas, TwoHas, ThreeHas, ManyHas, RowHas, AreFormed, HasType, HaveTypes, LegHas, LegsHave, body_types}
@@ -22,6 +22,28 @@ integer_well_formed (vec t) h = absurd h
 integer_well_formed (struct ts) h = absurd h
 integer_well_formed (dict k v) h = absurd h
 integer_well_formed (build b) h = absurd h
+
+integers_free : (ts : TypeTrees) → AreIntegerTypes ts → AreBuilderFree ts
+integers_free no_types h = tt
+integers_free (more_types t ts) h = (integer_free t h.0, integers_free ts h.1)
+
+integers_well_formed : (ts : TypeTrees) → AreIntegerTypes ts → AreWellFormed ts
+integers_well_formed no_types h = tt
+integers_well_formed (more_types t ts) h = (integer_well_formed t h.0, integers_well_formed ts h.1)
+
+pub merger_free : (t : TypeTree) → IsMergerType t → IsBuilderFree t
+merger_free (scalar k) h = tt
+merger_free (vec t) h = absurd h
+merger_free (struct ts) h = integers_free ts h.1
+merger_free (dict k v) h = absurd h
+merger_free (build b) h = absurd h
+
+merger_well_formed : (t : TypeTree) → IsMergerType t → IsWellFormed t
+merger_well_formed (scalar k) h = tt
+merger_well_formed (vec t) h = absurd h
+merger_well_formed (struct ts) h = (h.0, integers_well_formed ts h.1, inl (integers_free ts h.1))
+merger_well_formed (dict k v) h = absurd h
+merger_well_formed (build b) h = absurd h
 
 scalar_free : (t : TypeTree) → IsScalarType t → IsBuilderFree t
 scalar_free (scalar k) h = tt
@@ -51,14 +73,14 @@ key_free (build b) h = absurd h
 -- what is merged into a builder is a value
 pub takes_free : (b : BuildTree) → IsWellFormedBuild b → IsBuilderFree (takes b)
 takes_free (list t) h = h.1
-takes_free (total t op) h = integer_free t h
+takes_free (total t op) h = merger_free t h
 takes_free (keyed k v op) h = (key_free k h.0, (integer_free v h.1, tt))
 takes_free (cells t op) h = (tt, (integer_free t h, tt))
 takes_free (groups k v) h = (key_free k h.0, (h.2, tt))
 
 pub gives_well_formed : (b : BuildTree) → IsWellFormedBuild b → IsWellFormed (gives b)
 gives_well_formed (list t) h = h
-gives_well_formed (total t op) h = integer_well_formed t h
+gives_well_formed (total t op) h = merger_well_formed t h
 gives_well_formed (keyed k v op) h = (h.0, integer_well_formed v h.1, integer_free v h.1)
 gives_well_formed (cells t op) h = (integer_well_formed t h, integer_free t h)
 gives_well_formed (groups k v) h = (h.0, (h.1, h.2), h.2)

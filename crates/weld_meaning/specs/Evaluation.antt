@@ -4,15 +4,16 @@ use Rattle.std.specs.Ordering.{int_eq}
 use Rattle.weld_data.specs.declared.kind.Kind.{Kind}
 use Rattle.weld_data.specs.declared.kind.Kind.TheVariants as kinds
 use Rattle.weld_data.specs.declared.op.BinOp.{BinOp}
+use Rattle.weld_data.specs.declared.op.MergeOp.{MergeOp}
 use Rattle.weld_data.specs.Wrapped.{wrapped}
 use Rattle.weld_data.specs.Operation.{truth, operation, answer_kind}
 use Rattle.weld_data.specs.Lookup.{same_kind, value_of_key}
 use Rattle.weld_data.specs.Value.{Value, number, list, struct, dict, Values, no_values, and_value, values, list_of_values, list_of_entries}
 use Rattle.weld_tree.specs.declared.binder.Binder.{Binder}
-use Rattle.weld_tree.specs.TypeTree.{TypeTree, BuildTree, scalar, vec, struct as tuple, dict as mapping, build, list as list_builder_type, total, keyed, cells, groups}
+use Rattle.weld_tree.specs.TypeTree.{TypeTree, BuildTree, TypeTrees, no_types, more_types, scalar, vec, struct as tuple, dict as mapping, build, list as list_builder_type, total, keyed, cells, groups}
 use Rattle.weld_tree.specs.ExprTree.{ExprTree, leaf, one, two, three, many, let_in, loop, iterate, ExprTrees, no_exprs, more_exprs, LegTree, whole, strided, LegTrees, no_legs, more_legs, Leaf, int, truth as truth_leaf, chars, name, fresh, One, neg, not as not_of, cast, len, field, finish, started, Two, binary, and, or, look_up, key_exists, merge, Three, if_else, select, slice, Many, make_vec, make_struct}
 use Rattle.weld_builders.specs.Outcome.{Outcome, done, fault, stuck, and_then, map_out, or_fault}
-use Rattle.weld_builders.specs.Part.{BuilderForm, list_builder, total_builder, cells_builder, keyed_builder, groups_builder, start, merge_part, result_of, as_number}
+use Rattle.weld_builders.specs.Part.{BuilderForm, list_builder, total_builder, totals_builder, cells_builder, keyed_builder, groups_builder, start, merge_part, result_of, as_number}
 use Rattle.weld_meaning.specs.Environment.{Named, look_for}
 use Rattle.weld_meaning.specs.Thing.{Thing, plain, building, several, Things, no_things, more_things, as_value, as_values, struct_of, value_field, field_of}
 
@@ -27,9 +28,13 @@ whole_number n = number kinds.I64 (wrapped kinds.I64 (pos n))
 abbrev pub truth_of : Value → Outcome Bool
 truth_of (number kinds.Bool x) = done (int_eq x (pos 1))
 truth_of (number kinds.I8 x) = stuck
-truth_of (number kinds.U8 x) = stuck
+truth_of (number kinds.I16 x) = stuck
 truth_of (number kinds.I32 x) = stuck
 truth_of (number kinds.I64 x) = stuck
+truth_of (number kinds.U8 x) = stuck
+truth_of (number kinds.U16 x) = stuck
+truth_of (number kinds.U32 x) = stuck
+truth_of (number kinds.U64 x) = stuck
 truth_of (list vs) = stuck
 truth_of (struct vs) = stuck
 truth_of (dict es) = stuck
@@ -139,9 +144,21 @@ kind_of (tuple ts) = stuck
 kind_of (mapping k v) = stuck
 kind_of (build b) = stuck
 
+abbrev pub kinds_in : TypeTrees → Outcome (List Kind)
+kinds_in no_types = done []
+kinds_in (more_types t ts) = and_then (kind_of t) (λ k. map_out (λ ks. k ∷ ks) (kinds_in ts))
+
+-- a merger of numbers of a kind, or of structs of numbers
+abbrev pub total_form : MergeOp → TypeTree → Outcome BuilderForm
+total_form op (scalar k) = done (total_builder op k)
+total_form op (vec t) = stuck
+total_form op (tuple ts) = map_out (totals_builder op) (kinds_in ts)
+total_form op (mapping k v) = stuck
+total_form op (build b) = stuck
+
 abbrev pub builder_form : BuildTree → Outcome BuilderForm
 builder_form (list_builder_type t) = done list_builder
-builder_form (total t op) = map_out (total_builder op) (kind_of t)
+builder_form (total t op) = total_form op t
 builder_form (keyed k v op) = map_out (keyed_builder op) (kind_of v)
 builder_form (cells t op) = map_out (cells_builder op) (kind_of t)
 builder_form (groups k v) = done groups_builder

@@ -281,17 +281,25 @@ head a x e h = let P : Class → Type 0 = Head in subst P (sym (of_fixed a x.cla
 abbrev is_whole : Reserved → Bool
 is_whole w.Bool = true
 is_whole w.I8 = true
-is_whole w.U8 = true
+is_whole w.I16 = true
 is_whole w.I32 = true
 is_whole w.I64 = true
+is_whole w.U8 = true
+is_whole w.U16 = true
+is_whole w.U32 = true
+is_whole w.U64 = true
 is_whole _ = false
 
 whole_word : (a : Reserved) → is_whole a ≡ true → Whole (classes.Reserved a)
 whole_word w.Bool e = (record { begun = refl; done = refl }, λ n. refl, λ b. refl)
 whole_word w.I8 e = (record { begun = refl; done = refl }, λ n. refl, λ b. refl)
-whole_word w.U8 e = (record { begun = refl; done = refl }, λ n. refl, λ b. refl)
+whole_word w.I16 e = (record { begun = refl; done = refl }, λ n. refl, λ b. refl)
 whole_word w.I32 e = (record { begun = refl; done = refl }, λ n. refl, λ b. refl)
 whole_word w.I64 e = (record { begun = refl; done = refl }, λ n. refl, λ b. refl)
+whole_word w.U8 e = (record { begun = refl; done = refl }, λ n. refl, λ b. refl)
+whole_word w.U16 e = (record { begun = refl; done = refl }, λ n. refl, λ b. refl)
+whole_word w.U32 e = (record { begun = refl; done = refl }, λ n. refl, λ b. refl)
+whole_word w.U64 e = (record { begun = refl; done = refl }, λ n. refl, λ b. refl)
 whole_word _ e = absurd (false≢true e)
 
 whole : (a : Reserved) (x : Token) → is_whole a ≡ true → is_of (Fixed a) x.class ≡ true → Whole x.class
@@ -443,9 +451,13 @@ mutual
   runs : (t : Tree Token) (n b : ℕ) → IsOf (item (OfRule r.AnyType)) (seen t) → Runs t n b
   runs (node (here (node (here (leaf x))))) n b h = of_scalar x n b (whole w.Bool x refl h)
   runs (node (here (node (there (here (node (here (leaf x)))))))) n b h = of_scalar x n b (whole w.I8 x refl h.0)
-  runs (node (here (node (there (here (node (there (here (leaf x))))))))) n b h = of_scalar x n b (whole w.U8 x refl h.0.0)
+  runs (node (here (node (there (here (node (there (here (leaf x))))))))) n b h = of_scalar x n b (whole w.I16 x refl h.0.0)
   runs (node (here (node (there (here (node (there (there (here (leaf x)))))))))) n b h = of_scalar x n b (whole w.I32 x refl h.0.0.0)
   runs (node (here (node (there (here (node (there (there (there (here (leaf x))))))))))) n b h = of_scalar x n b (whole w.I64 x refl h.0.0.0.0)
+  runs (node (here (node (there (here (node (there (there (there (there (here (leaf x)))))))))))) n b h = of_scalar x n b (whole w.U8 x refl h.0.0.0.0.0)
+  runs (node (here (node (there (here (node (there (there (there (there (there (here (leaf x))))))))))))) n b h = of_scalar x n b (whole w.U16 x refl h.0.0.0.0.0.0)
+  runs (node (here (node (there (here (node (there (there (there (there (there (there (here (leaf x)))))))))))))) n b h = of_scalar x n b (whole w.U32 x refl h.0.0.0.0.0.0.0)
+  runs (node (here (node (there (here (node (there (there (there (there (there (there (there (here (leaf x))))))))))))))) n b h = of_scalar x n b (whole w.U64 x refl h.0.0.0.0.0.0.0.0)
   runs (node (there (here (node (pair (leaf x) (pair (leaf y) (pair t (pair (leaf z) empty)))))))) n b h =
       let is = h.0 in bracket_one x y t (pair (leaf z) empty) n b (head w.Vec x refl is.0) is.1.0 (runs t (n + 1) (b + 1) is.1.1.0) (with_last z b is.1.1.1.0)
   runs (node (there (there (here (node (pair (leaf x) (pair t (pair more (pair (leaf z) empty))))))))) n b h =

@@ -18,9 +18,9 @@ fn is_optimised(alloc: Global, text: &str, answer: &str) -> Result<bool, Fail> {
     }
 }
 
-/// Guarded merges: into totals of each operator and kind, either arm; and those that stay, since the
-/// value may fault or the builder is none of one number.
-static GUARDS: [(&str, &str); 6] = [
+/// Guarded merges: into totals of operators and kinds and of pairs, either arm; and those that stay, since the
+/// value may fault or the builder is no `merger`.
+static GUARDS: [(&str, &str); 8] = [
     (
         "|v: vec[i64]| result(for(v, merger[i64,+], |b, i, x| if(x > 2L, merge(b, x), b)))",
         "|x0: vec[i64]| result(for(x0, merger[i64,+], |x1, x2, x3| merge(x1, select(x3 > 2L, x3, 0L))))",
@@ -32,6 +32,14 @@ static GUARDS: [(&str, &str); 6] = [
     (
         "|v: vec[u8]| result(for(v, merger[u8,*], |b, i, x| if(x > u8(2), merge(b, x), b)))",
         "|x0: vec[u8]| result(for(x0, merger[u8,*], |x1, x2, x3| merge(x1, select(x3 > u8(2), x3, u8(1)))))",
+    ),
+    (
+        "|v: vec[{i64,u8}]| result(for(v, merger[{i64,u8},+], |b, i, x| if(x.$0 > 3L, merge(b, x), b)))",
+        "|x0: vec[{i64,u8}]| result(for(x0, merger[{i64,u8},+], |x1, x2, x3| merge(x1, select(x3.$0 > 3L, x3, {0L, u8(0)}))))",
+    ),
+    (
+        "|v: vec[{i32,u64}]| result(for(v, merger[{i32,u64},min], |b, i, x| if(x.$0 > 3, b, merge(b, x))))",
+        "|x0: vec[{i32,u64}]| result(for(x0, merger[{i32,u64},min], |x1, x2, x3| merge(x1, select(x3.$0 > 3, {2147483647, u64(-1)}, x3))))",
     ),
     (
         "|v: vec[i64]| let r = for(v, {merger[i64,+], merger[i64,+]}, |b, i, x| {if(x > 0L, merge(b.$0, x), b.$0), merge(b.$1, 1L)}); result(r.$0) / result(r.$1)",

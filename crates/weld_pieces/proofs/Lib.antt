@@ -1,7 +1,8 @@
 pub mod CellLemmas
-pub mod MapLemmas
-pub mod KeyedLemmas
-pub mod PairLemmas
-pub mod KeptKeys
-pub mod ListLemmas
 pub mod FieldLemmas
+pub mod KeptKeys
+pub mod KeyedLemmas
+pub mod ListLemmas
+pub mod MapLemmas
+pub mod PairLemmas
+pub mod TotalLemmas

@@ -7,6 +7,7 @@ use Rattle.weld_data.specs.Value.{number}
 use Rattle.weld_builders.specs.ValueOrder.{ValueMap}
 use Rattle.weld_builders.specs.Range.{AllInRange}
 use Rattle.weld_pieces.specs.Keyed.{map_of, itself}
+use Rattle.weld_pieces.specs.Kept.{IsNarrowKey}
 use Rattle.weld_pieces.specs.declared.keyed.KeyedMap.{KeyedMap}
 use Rattle.weld_pieces.specs.declared.keyed.KeyedMap.TheVariants as maps
 
@@ -23,7 +24,8 @@ abbrev pub values_in : KeyedMap → List ℤ
 values_in (maps.Numbers k m) = values_of m.entries
 values_in (maps.Values m) = values_of m.entries
 
--- the kind is one of integers, and the numbers lie in its range
+-- the kind is one of integers, and the numbers lie in its range; keys that are numbers lie within an i64
 pub record IsKeyed (kind : Kind) (m : KeyedMap) : Type 0 where
   pub integer : IsInteger kind
   pub in_range : AllInRange kind (values_in m)
+  pub narrow : IsNarrowKey (kind_of_keys m)

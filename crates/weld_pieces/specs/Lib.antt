@@ -6,3 +6,5 @@ pub mod KeyLaws
 pub mod Keyed
 pub mod KeyedView
 pub mod Total
+pub mod Totals
+pub mod Word

@@ -2,16 +2,17 @@ ghost use Rattle.std.specs.Prelude.{◌≡◌, ◌<◌, pos, length, map, IfOk, 
 ghost use Rattle.weld_data.specs.Value.{number};
 ghost use Rattle.weld_pieces.specs.Items.{items_of_list};
 ghost use Rattle.weld_pieces.specs.Answer.{IsOutside};
+ghost use Rattle.weld_pieces.specs.Word.{word};
 ghost use Rattle.weld_data.specs.Kind.{IsInteger, InRange};
 ghost use Rattle.weld_builders.specs.Part.{join_cells};
 ghost use Rattle.weld_builders.specs.Range.{AllInRange};
 
 use crate::list::ListPart;
-use crate::number::{combine_kept, narrow, neutral_kept};
+use crate::number::{combine_words, to_word, wide};
 use crate::part::Part;
 use std::alloc::{AllocError, Global};
 use std::marker::Model;
-use weld_data::{Column, Items, Kind, MergeOp, Num, Stop, Val};
+use weld_data::{Column, Items, Kind, MergeOp, Num, Stop, Val, neutral};
 
 /// The operator, the integer kind and the number of cells.
 #[derive(Clone, Copy, Debug, PartialEq, Eq)]
@@ -28,7 +29,8 @@ pub struct CellItem {
     pub number: Num,
 }
 
-/// Numbers of an integer kind by places, combined by an operator.
+/// Numbers of an integer kind by places, combined by an operator. Each is kept as a word of 64 bits
+/// with a sign, for which those of kind u64 are kept less an offset.
 #[derive(Debug, Drop)]
 pub struct CellsPart {
     op: MergeOp,
@@ -37,28 +39,30 @@ pub struct CellsPart {
 }
 
 impl Model for CellsPart {
+    ghost use Rattle.std.specs.Prelude.{map};
     ghost use Rattle.weld_pieces.specs.Total.{Cells, AreCells};
+    ghost use Rattle.weld_pieces.specs.Word.{word};
 
     ghost Value = { Cells };
 
-    ghost view = { λ c. record { op = c.op; kind = c.kind; cells = c.cells.items } };
+    ghost view = { λ c. record { op = c.op; kind = c.kind; cells = map (word c.kind) c.cells.items } };
 
-    ghost invariant = { λ c. AreCells c.kind c.cells.items };
+    ghost invariant = { λ c. AreCells c.kind (map (word c.kind) c.cells.items) };
 }
 
 impl CellsPart {
     ghost use Rattle.std.specs.Prelude.{◌≡◌, IfOk, map, length};
     ghost use Rattle.weld_data.specs.Value.{number};
     ghost use Rattle.weld_data.specs.View.{view_column};
-    ghost use Rattle.weld_data.specs.Kind.{IsInteger, InRange};
+    ghost use Rattle.weld_data.specs.Kind.{IsInteger, IsNarrow, InRange};
     ghost use Rattle.weld_data.specs.Operation.{combination, start_of};
     ghost use Rattle.weld_builders.specs.Part.{merge_cell, join_cells, repeated};
     ghost use Rattle.weld_builders.specs.Range.{AllInRange};
     ghost use Rattle.weld_pieces.specs.Total.{Cells};
     ghost use Rattle.weld_pieces.specs.Answer.{CellAnswer};
+    ghost use Rattle.weld_pieces.specs.Word.{word};
 
     /// So many cells with the neutral number of the operator.
-    #[tactic(auto, using(crate::proofs::CellLemmas::replicate_is, crate::proofs::CellLemmas::all_in_range_replicate))]
     pub fn neutral(
         alloc: Global,
         op: MergeOp,
@@ -71,7 +75,7 @@ impl CellsPart {
         ensures cells { IfOk result (λ c. c.cells ≡ repeated (start_of op kind) count) }
         ensures count { IfOk result (λ c. length c.cells ≡ count) }
     {
-        let start = neutral_kept(op, kind);
+        let start = to_word(kind, neutral(op, kind));
         let cells = Vec::from_elem(alloc, start, count)?;
         Ok(CellsPart { op, kind, cells })
     }
@@ -79,6 +83,7 @@ impl CellsPart {
     /// The cells that start with numbers of an integer kind, which they keep. It takes no memory.
     pub fn from_numbers(op: MergeOp, kind: Kind, cells: Vec<i64>) -> CellsPart
         requires integer { IsInteger kind }
+        requires narrow { IsNarrow kind }
         requires in_range { AllInRange kind cells.items }
         ensures op { result.op ≡ op }
         ensures kind { result.kind ≡ kind }
@@ -87,10 +92,22 @@ impl CellsPart {
         CellsPart { op, kind, cells }
     }
 
+    /// Merges a number of the cells' kind that lies within an i64 into the cell at an index, from 0.
+    /// It faults exactly where the index is outside, and takes no memory.
+    #[inline(always)]
+    pub fn merge_number(&mut self, index: i64, x: i64) -> Result<(), Stop>
+        requires { InRange self.old.kind x }
+        ensures op { self.new.op ≡ self.old.op }
+        ensures kind { self.new.kind ≡ self.old.kind }
+        ensures cells { CellAnswer result (merge_cell self.old.op self.old.kind self.old.cells index x) self.old.cells self.new.cells }
+    {
+        self.merge_wide(index, i128::from(x))
+    }
+
     /// Merges a number of the cells' kind into the cell at an index, from 0. It faults exactly where
     /// the index is outside, and takes no memory.
     #[inline(always)]
-    pub fn merge_number(&mut self, index: i64, x: i64) -> Result<(), Stop>
+    pub fn merge_wide(&mut self, index: i64, x: i128) -> Result<(), Stop>
         requires { InRange self.old.kind x }
         ensures op { self.new.op ≡ self.old.op }
         ensures kind { self.new.kind ≡ self.old.kind }
@@ -100,7 +117,7 @@ impl CellsPart {
             None => Err(Stop::Fault),
             Some(place) => {
                 let old = self.cells[place];
-                self.cells[place] = combine_kept(self.op, self.kind, old, x);
+                self.cells[place] = combine_words(self.op, self.kind, old, to_word(self.kind, x));
                 Ok(())
             }
         }
@@ -163,14 +180,14 @@ impl CellsPart {
     }
 }
 
-/// Numbers of a kind as a list.
-fn list_of(alloc: Global, kind: Kind, numbers: &[i64]) -> Result<ListPart, AllocError>
-    requires { AllInRange kind numbers.now }
-    ensures { IfOk result (λ list. items_of_list list ≡ map (number kind) numbers.now) }
+/// The numbers that words stand for as a list.
+fn list_of(alloc: Global, kind: Kind, words: &[i64]) -> Result<ListPart, AllocError>
+    requires { AllInRange kind (map (word kind) words.now) }
+    ensures { IfOk result (λ list. items_of_list list ≡ map (number kind) (map (word kind) words.now)) }
 {
     let mut list = ListPart::empty(alloc, Some(kind));
-    for x in numbers {
-        list.push_number(kind, *x)?;
+    for x in words {
+        list.push_wide(kind, wide(kind, *x))?;
     }
     Ok(list)
 }
@@ -189,14 +206,14 @@ fn place_of(index: i64, count: usize) -> Option<usize>
 /// Combines cells with later ones, place by place.
 fn add_cells(op: MergeOp, kind: Kind, cells: &mut [i64], later: &[i64])
     requires integer { IsInteger kind }
-    requires cells { AllInRange kind cells.old }
-    requires later { AllInRange kind later.now }
+    requires cells { AllInRange kind (map (word kind) cells.old) }
+    requires later { AllInRange kind (map (word kind) later.now) }
     requires count { length cells.old ≡ length later.now }
-    ensures cells { cells.new ≡ join_cells op kind cells.old later.now }
-    ensures in_range { AllInRange kind cells.new }
+    ensures cells { map (word kind) cells.new ≡ join_cells op kind (map (word kind) cells.old) (map (word kind) later.now) }
+    ensures in_range { AllInRange kind (map (word kind) cells.new) }
 {
     for i in 0..cells.len() {
-        cells[i] = combine_kept(op, kind, cells[i], later[i]);
+        cells[i] = combine_words(op, kind, cells[i], later[i]);
     }
 }
 
@@ -237,7 +254,7 @@ impl Part for CellsPart {
     }
 
     fn merge(&mut self, item: CellItem) -> Result<(), Stop> {
-        self.merge_number(item.index, narrow(item.number.kind, item.number.value))
+        self.merge_wide(item.index, item.number.value)
     }
 
     fn join(&mut self, later: CellsPart) -> Result<(), AllocError> {

@@ -12,15 +12,15 @@ ghost use Rattle.weld_pieces.specs.KeyedView.{kind_of_keys, numbers_in, IsKeyed}
 use crate::key::Key;
 use crate::number::narrow;
 use crate::ordered::{merge_all, merge_at};
-use crate::pairs::{kept_pairs, number_of, plain_pairs};
+use crate::pairs::{kept_pairs, key_of, plain_pairs};
 use crate::part::Part;
 use std::alloc::{AllocError, Global};
 use std::collections::BTreeMap;
 use std::marker::Model;
 use weld_data::{Kind, MergeOp, Num, Pairs, Stop, Val};
 
-/// Numbers of an integer kind by keys, combined by an operator. Keys that are one number are kept as
-/// numbers, so that a merge at such a key makes no value.
+/// Numbers of an integer kind by keys, combined by an operator. Keys that are one number of a kind
+/// whose numbers lie within an i64 are kept as numbers, so that a merge at such a key makes no value.
 #[derive(Drop)]
 pub struct KeyedPart {
     op: MergeOp,
@@ -30,8 +30,8 @@ pub struct KeyedPart {
 
 #[derive(Drop)]
 enum KeyedMap {
-    Numbers(Kind, BTreeMap<i64, i64>),
-    Values(BTreeMap<Key, i64>),
+    Numbers(Kind, BTreeMap<i64, i128>),
+    Values(BTreeMap<Key, i128>),
 }
 
 impl Model for KeyedPart {
@@ -57,11 +57,12 @@ impl KeyedPart {
     ghost use Rattle.weld_builders.specs.Part.{combined, merge_key, join_maps};
     ghost use Rattle.weld_pieces.specs.Keyed.{Keyed, KeysAreKept, HasOneKeyType, itself, shown, CanKeep};
     ghost use Rattle.weld_data.specs.Order.{IsKey};
-    ghost use Rattle.weld_pieces.specs.Kept.{IsKeptKey};
+    ghost use Rattle.weld_pieces.specs.Kept.{IsKeptKey, IsNarrowKey};
 
     /// The map without keys, which are to be numbers of a kind, or other values. It takes no memory.
     pub fn empty(alloc: Global, key: Option<Kind>, op: MergeOp, kind: Kind) -> KeyedPart
-        requires { IsInteger kind }
+        requires integer { IsInteger kind }
+        requires narrow { IsNarrowKey key }
         ensures key { result.key ≡ key }
         ensures op { result.op ≡ op }
         ensures kind { result.kind ≡ kind }
@@ -76,7 +77,8 @@ impl KeyedPart {
 
     /// How the keys are kept: as numbers of a kind, or as values. It takes no memory.
     pub fn key(&self) -> Option<Kind>
-        ensures { result ≡ self.now.key }
+        ensures key { result ≡ self.now.key }
+        ensures narrow { IsNarrowKey self.now.key }
     {
         match &self.map {
             KeyedMap::Numbers(kind, _) => Some(*kind),
@@ -90,6 +92,7 @@ impl KeyedPart {
         ensures op { result.op ≡ self.now.op }
         ensures kind { result.kind ≡ self.now.kind }
         ensures integer { IsInteger self.now.kind }
+        ensures narrow { IsNarrowKey self.now.key }
     {
         KeyedShape {
             key: self.key(),
@@ -126,7 +129,7 @@ impl KeyedPart {
 
     /// Merges a number at a key that is a number. It takes memory for a new key alone; where that is
     /// wanting, the part stays as it was.
-    pub fn merge_number(&mut self, key_kind: Kind, key: i64, x: i64) -> Result<(), AllocError>
+    pub fn merge_number(&mut self, key_kind: Kind, key: i64, x: i128) -> Result<(), AllocError>
         requires kept { self.old.key ≡ Some key_kind }
         requires key { InRange key_kind key }
         requires in_range { InRange self.old.kind x }
@@ -140,7 +143,7 @@ impl KeyedPart {
     }
 
     /// Merges a number at a key that is kept as a value. Memory is as for a key that is a number.
-    pub fn merge_value(&mut self, key: Val, x: i64) -> Result<(), AllocError>
+    pub fn merge_value(&mut self, key: Val, x: i128) -> Result<(), AllocError>
         requires kept { self.old.key ≡ None }
         requires key { IsKey (view_val key) }
         requires in_range { InRange self.old.kind x }
@@ -154,7 +157,7 @@ impl KeyedPart {
     }
 
     /// Merges a number at a key, however the keys are kept. Memory is as for a key that is a number.
-    pub fn merge_at_value(&mut self, key: Val, x: i64) -> Result<(), AllocError>
+    pub fn merge_at_value(&mut self, key: Val, x: i128) -> Result<(), AllocError>
         requires key { IsKeptKey self.old.key (view_val key) }
         requires in_range { InRange self.old.kind x }
         ensures ok { OnOk result (self.new.numbers ≡ merge_key (combined self.old.op self.old.kind) self.old.numbers (view_val key) x) }
@@ -165,7 +168,7 @@ impl KeyedPart {
     {
         match self.key() {
             Some(kind) => match key {
-                Val::Num(n) => self.merge_number(kind, narrow(n.kind, n.value), x),
+                Val::Num(n) => self.merge_number(kind, narrow(kind, n.value), x),
                 _ => unreachable!(),
             },
             None => self.merge_value(key, x),
@@ -213,7 +216,7 @@ fn number_in(
     kind: Kind,
     key_kind: Kind,
     key: i64,
-    x: i64,
+    x: i128,
 ) -> Result<(), AllocError>
     requires kept { kind_of_keys map.old ≡ Some key_kind }
     requires keyed { IsKeyed kind map.old }
@@ -233,7 +236,13 @@ fn number_in(
 }
 
 /// Merges a number at a key that is kept as a value.
-fn value_in(map: &mut KeyedMap, op: MergeOp, kind: Kind, key: Val, x: i64) -> Result<(), AllocError>
+fn value_in(
+    map: &mut KeyedMap,
+    op: MergeOp,
+    kind: Kind,
+    key: Val,
+    x: i128,
+) -> Result<(), AllocError>
     requires kept { kind_of_keys map.old ≡ None }
     requires keyed { IsKeyed kind map.old }
     requires key { IsKey (view_val key) }
@@ -298,7 +307,7 @@ fn add_map(part: &mut KeyedPart, alloc: Global, map: &KeyedMap) -> Result<(), Al
 fn add_sorted_numbers(
     part: &mut KeyedPart,
     key_kind: Kind,
-    map: &BTreeMap<i64, i64>,
+    map: &BTreeMap<i64, i128>,
 ) -> Result<(), AllocError>
     requires kept { KeysAreKept (Some key_kind) (map_of (number key_kind) map.now.entries) }
     requires values { AllInRange part.old.kind (values_of map.now.entries) }
@@ -316,7 +325,7 @@ fn add_sorted_numbers(
 fn add_sorted_values(
     part: &mut KeyedPart,
     alloc: Global,
-    map: &BTreeMap<Key, i64>,
+    map: &BTreeMap<Key, i128>,
 ) -> Result<(), AllocError>
     requires values { AllInRange part.old.kind (values_of map.now.entries) }
     requires key { part.old.key ≡ None }
@@ -333,7 +342,7 @@ fn add_sorted_values(
 fn add_numbers(
     part: &mut KeyedPart,
     key_kind: Kind,
-    map: &BTreeMap<i64, i64>,
+    map: &BTreeMap<i64, i128>,
 ) -> Result<(), AllocError>
     requires keys { AllInRange key_kind (keys_of map.now.entries) }
     requires values { AllInRange part.old.kind (values_of map.now.entries) }
@@ -344,7 +353,7 @@ fn add_numbers(
     ensures kind { part.new.kind ≡ part.old.kind }
 {
     for (key, x) in map {
-        match part.merge_at_value(number_of(key_kind, *key), *x) {
+        match part.merge_at_value(key_of(key_kind, *key), *x) {
             Ok(()) => {}
             Err(e) => return Err(e),
         }
@@ -356,7 +365,7 @@ fn add_numbers(
 fn add_values(
     part: &mut KeyedPart,
     alloc: Global,
-    map: &BTreeMap<Key, i64>,
+    map: &BTreeMap<Key, i128>,
 ) -> Result<(), AllocError>
     requires values { AllInRange part.old.kind (values_of map.now.entries) }
     requires key { part.old.key ≡ None }
@@ -397,7 +406,7 @@ impl Part for KeyedPart {
     ghost use Rattle.weld_data.specs.View.{view_val};
     ghost use Rattle.weld_builders.specs.Builder.{one_part, item};
     ghost use Rattle.weld_pieces.specs.Keyed.{part_of_keyed, KeysAreKept, HasOneKeyType};
-    ghost use Rattle.weld_pieces.specs.Kept.{kept_keyed};
+    ghost use Rattle.weld_pieces.specs.Kept.{kept_keyed, IsNarrowKey};
 
     type Shape = KeyedShape;
 
@@ -411,7 +420,7 @@ impl Part for KeyedPart {
 
     ghost kept_from = { λ s. kept_keyed s.key s.op s.kind };
 
-    ghost is_shape = { λ s. IsInteger s.kind };
+    ghost is_shape = { λ s. IsInteger s.kind × IsNarrowKey s.key };
 
     ghost as_item = { λ i. item (struct (and_value (view_val i.key) (and_value (number i.number.kind i.number.value) no_values))) };
 
@@ -427,7 +436,7 @@ impl Part for KeyedPart {
 
     fn merge(&mut self, item: KeyedItem) -> Result<(), Stop> {
         let KeyedItem { key, number } = item;
-        match self.merge_at_value(key, narrow(number.kind, number.value)) {
+        match self.merge_at_value(key, number.value) {
             Ok(()) => Ok(()),
             Err(_) => Err(Stop::Memory),
         }

@@ -13,9 +13,11 @@ mod ordered;
 mod pairs;
 pub mod part;
 pub mod total;
+pub mod totals;
 
 pub use cells::{CellItem, CellsPart, CellsShape};
 pub use keyed::KeyedPart;
 pub use list::ListPart;
 pub use part::Part;
 pub use total::{TotalPart, TotalShape};
+pub use totals::TotalsPart;

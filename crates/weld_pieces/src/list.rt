@@ -12,16 +12,20 @@ use weld_data::{Column, Items, Kind, Stop, Val, Vals};
 pub enum ListPart {
     Bool(Vec<bool>),
     I8(Vec<i8>),
-    U8(Vec<u8>),
+    I16(Vec<i16>),
     I32(Vec<i32>),
     I64(Vec<i64>),
+    U8(Vec<u8>),
+    U16(Vec<u16>),
+    U32(Vec<u32>),
+    U64(Vec<u64>),
     Nest(Vec<Val>),
 }
 
 impl ListPart {
     ghost use Rattle.std.specs.Prelude.{◌≡◌, ◌<◌, ◌≤◌, ◌+◌, [], map, Some, None, IsTrue, IsOk, IfOk, OnOk, OnErr, ◌∷◌, ◌++◌};
     ghost use Rattle.weld_data.specs.Value.{number};
-    ghost use Rattle.weld_data.specs.Kind.{InRange};
+    ghost use Rattle.weld_data.specs.Kind.{IsNarrow, InRange};
     ghost use Rattle.weld_data.specs.View.{view_val, view_column};
     ghost use Rattle.weld_builders.specs.Range.{AllInRange};
     ghost use Rattle.weld_pieces.specs.Items.{kind_of_items, items_of_list, spare_of_list};
@@ -36,9 +40,13 @@ impl ListPart {
         match kind {
             Some(Kind::Bool) => ListPart::Bool(Vec::new(alloc)),
             Some(Kind::I8) => ListPart::I8(Vec::new(alloc)),
-            Some(Kind::U8) => ListPart::U8(Vec::new(alloc)),
+            Some(Kind::I16) => ListPart::I16(Vec::new(alloc)),
             Some(Kind::I32) => ListPart::I32(Vec::new(alloc)),
             Some(Kind::I64) => ListPart::I64(Vec::new(alloc)),
+            Some(Kind::U8) => ListPart::U8(Vec::new(alloc)),
+            Some(Kind::U16) => ListPart::U16(Vec::new(alloc)),
+            Some(Kind::U32) => ListPart::U32(Vec::new(alloc)),
+            Some(Kind::U64) => ListPart::U64(Vec::new(alloc)),
             None => ListPart::Nest(Vec::new(alloc)),
         }
     }
@@ -51,9 +59,13 @@ impl ListPart {
         match self {
             ListPart::Bool(_) => Some(Kind::Bool),
             ListPart::I8(_) => Some(Kind::I8),
-            ListPart::U8(_) => Some(Kind::U8),
+            ListPart::I16(_) => Some(Kind::I16),
             ListPart::I32(_) => Some(Kind::I32),
             ListPart::I64(_) => Some(Kind::I64),
+            ListPart::U8(_) => Some(Kind::U8),
+            ListPart::U16(_) => Some(Kind::U16),
+            ListPart::U32(_) => Some(Kind::U32),
+            ListPart::U64(_) => Some(Kind::U64),
             ListPart::Nest(_) => None,
         }
     }
@@ -65,16 +77,20 @@ impl ListPart {
         match self {
             ListPart::Bool(items) => items.is_empty(),
             ListPart::I8(items) => items.is_empty(),
-            ListPart::U8(items) => items.is_empty(),
+            ListPart::I16(items) => items.is_empty(),
             ListPart::I32(items) => items.is_empty(),
             ListPart::I64(items) => items.is_empty(),
+            ListPart::U8(items) => items.is_empty(),
+            ListPart::U16(items) => items.is_empty(),
+            ListPart::U32(items) => items.is_empty(),
+            ListPart::U64(items) => items.is_empty(),
             ListPart::Nest(items) => items.is_empty(),
         }
     }
 
-    /// Appends a number of the list's kind, false being 0 and true 1. With room to spare it takes no
-    /// memory, and there is room for one less afterwards. Where memory is wanting, the list stays as
-    /// it was.
+    /// Appends a number of the list's kind that lies within an i64, false being 0 and true 1. With
+    /// room to spare it takes no memory, and there is room for one less afterwards. Where memory is
+    /// wanting, the list stays as it was.
     pub fn push_number(&mut self, kind: Kind, x: i64) -> Result<(), AllocError>
         requires kind { kind_of_items self.old ≡ Some kind }
         requires in_range { InRange kind x }
@@ -87,9 +103,37 @@ impl ListPart {
         match self {
             ListPart::Bool(items) => append_item(items, x == 1),
             ListPart::I8(items) => append_item(items, x as i8),
-            ListPart::U8(items) => append_item(items, x as u8),
+            ListPart::I16(items) => append_item(items, x as i16),
             ListPart::I32(items) => append_item(items, x as i32),
             ListPart::I64(items) => append_item(items, x),
+            ListPart::U8(items) => append_item(items, x as u8),
+            ListPart::U16(items) => append_item(items, x as u16),
+            ListPart::U32(items) => append_item(items, x as u32),
+            ListPart::U64(items) => append_item(items, x as u64),
+            ListPart::Nest(_) => unreachable!(),
+        }
+    }
+
+    /// The same of any number of the kind.
+    pub fn push_wide(&mut self, kind: Kind, x: i128) -> Result<(), AllocError>
+        requires kind { kind_of_items self.old ≡ Some kind }
+        requires in_range { InRange kind x }
+        ensures ok { OnOk result (items_of_list self.new ≡ items_of_list self.old ++ number kind x ∷ []) }
+        ensures err { OnErr result (items_of_list self.new ≡ items_of_list self.old) }
+        ensures kind { kind_of_items self.new ≡ kind_of_items self.old }
+        ensures room { 0 < spare_of_list self.old → IsOk result }
+        ensures lower { 0 < spare_of_list self.old → spare_of_list self.new + 1 ≡ spare_of_list self.old }
+    {
+        match self {
+            ListPart::Bool(items) => append_item(items, x == 1),
+            ListPart::I8(items) => append_item(items, x as i8),
+            ListPart::I16(items) => append_item(items, x as i16),
+            ListPart::I32(items) => append_item(items, x as i32),
+            ListPart::I64(items) => append_item(items, x as i64),
+            ListPart::U8(items) => append_item(items, x as u8),
+            ListPart::U16(items) => append_item(items, x as u16),
+            ListPart::U32(items) => append_item(items, x as u32),
+            ListPart::U64(items) => append_item(items, x as u64),
             ListPart::Nest(_) => unreachable!(),
         }
     }
@@ -97,6 +141,7 @@ impl ListPart {
     /// Appends numbers of the list's kind, the first one first, false being 0 and true 1.
     pub fn push_numbers(&mut self, kind: Kind, items: &[i64]) -> Result<(), AllocError>
         requires kind { kind_of_items self.old ≡ Some kind }
+        requires narrow { IsNarrow kind }
         requires in_range { AllInRange kind items.now }
         ensures ok { OnOk result (items_of_list self.new ≡ items_of_list self.old ++ map (number kind) items.now) }
         ensures kind { kind_of_items self.new ≡ kind_of_items self.old }
@@ -110,6 +155,7 @@ impl ListPart {
     /// The same, one by one.
     fn push_each(&mut self, kind: Kind, items: &[i64]) -> Result<(), AllocError>
         requires kind { kind_of_items self.old ≡ Some kind }
+        requires narrow { IsNarrow kind }
         requires in_range { AllInRange kind items.now }
         ensures ok { OnOk result (items_of_list self.new ≡ items_of_list self.old ++ map (number kind) items.now) }
         ensures kind { kind_of_items self.new ≡ kind_of_items self.old }
@@ -133,7 +179,7 @@ impl ListPart {
         match self {
             ListPart::Nest(items) => append_item(items, item),
             _ => match item {
-                Val::Num(n) => self.push_number(n.kind, n.value as i64),
+                Val::Num(n) => self.push_wide(n.kind, n.value),
                 _ => unreachable!(),
             },
         }
@@ -150,9 +196,13 @@ impl ListPart {
         match (self, later) {
             (ListPart::Bool(items), ListPart::Bool(more)) => items.extend_from_slice(&more),
             (ListPart::I8(items), ListPart::I8(more)) => items.extend_from_slice(&more),
-            (ListPart::U8(items), ListPart::U8(more)) => items.extend_from_slice(&more),
+            (ListPart::I16(items), ListPart::I16(more)) => items.extend_from_slice(&more),
             (ListPart::I32(items), ListPart::I32(more)) => items.extend_from_slice(&more),
             (ListPart::I64(items), ListPart::I64(more)) => items.extend_from_slice(&more),
+            (ListPart::U8(items), ListPart::U8(more)) => items.extend_from_slice(&more),
+            (ListPart::U16(items), ListPart::U16(more)) => items.extend_from_slice(&more),
+            (ListPart::U32(items), ListPart::U32(more)) => items.extend_from_slice(&more),
+            (ListPart::U64(items), ListPart::U64(more)) => items.extend_from_slice(&more),
             (ListPart::Nest(items), ListPart::Nest(mut more)) => items.append(&mut more),
             _ => unreachable!(),
         }
@@ -166,9 +216,13 @@ impl ListPart {
         match self {
             ListPart::Bool(items) => Ok(ListPart::Bool(Vec::from_slice(alloc, items)?)),
             ListPart::I8(items) => Ok(ListPart::I8(Vec::from_slice(alloc, items)?)),
-            ListPart::U8(items) => Ok(ListPart::U8(Vec::from_slice(alloc, items)?)),
+            ListPart::I16(items) => Ok(ListPart::I16(Vec::from_slice(alloc, items)?)),
             ListPart::I32(items) => Ok(ListPart::I32(Vec::from_slice(alloc, items)?)),
             ListPart::I64(items) => Ok(ListPart::I64(Vec::from_slice(alloc, items)?)),
+            ListPart::U8(items) => Ok(ListPart::U8(Vec::from_slice(alloc, items)?)),
+            ListPart::U16(items) => Ok(ListPart::U16(Vec::from_slice(alloc, items)?)),
+            ListPart::U32(items) => Ok(ListPart::U32(Vec::from_slice(alloc, items)?)),
+            ListPart::U64(items) => Ok(ListPart::U64(Vec::from_slice(alloc, items)?)),
             ListPart::Nest(items) => Ok(ListPart::Nest(copies_of(alloc, items)?)),
         }
     }
@@ -189,9 +243,13 @@ impl ListPart {
         match self {
             ListPart::Bool(items) => Column::Bool(Items::from_vec(items)),
             ListPart::I8(items) => Column::I8(Items::from_vec(items)),
-            ListPart::U8(items) => Column::U8(Items::from_vec(items)),
+            ListPart::I16(items) => Column::I16(Items::from_vec(items)),
             ListPart::I32(items) => Column::I32(Items::from_vec(items)),
             ListPart::I64(items) => Column::I64(Items::from_vec(items)),
+            ListPart::U8(items) => Column::U8(Items::from_vec(items)),
+            ListPart::U16(items) => Column::U16(Items::from_vec(items)),
+            ListPart::U32(items) => Column::U32(Items::from_vec(items)),
+            ListPart::U64(items) => Column::U64(Items::from_vec(items)),
             ListPart::Nest(items) => Column::Nest(Vals::from_vec(items)),
         }
     }
@@ -203,9 +261,13 @@ impl ListPart {
         match self {
             ListPart::Bool(items) => items.capacity() - items.len(),
             ListPart::I8(items) => items.capacity() - items.len(),
-            ListPart::U8(items) => items.capacity() - items.len(),
+            ListPart::I16(items) => items.capacity() - items.len(),
             ListPart::I32(items) => items.capacity() - items.len(),
             ListPart::I64(items) => items.capacity() - items.len(),
+            ListPart::U8(items) => items.capacity() - items.len(),
+            ListPart::U16(items) => items.capacity() - items.len(),
+            ListPart::U32(items) => items.capacity() - items.len(),
+            ListPart::U64(items) => items.capacity() - items.len(),
             ListPart::Nest(items) => items.capacity() - items.len(),
         }
     }
@@ -220,9 +282,13 @@ impl ListPart {
         match self {
             ListPart::Bool(items) => items.reserve(more),
             ListPart::I8(items) => items.reserve(more),
-            ListPart::U8(items) => items.reserve(more),
+            ListPart::I16(items) => items.reserve(more),
             ListPart::I32(items) => items.reserve(more),
             ListPart::I64(items) => items.reserve(more),
+            ListPart::U8(items) => items.reserve(more),
+            ListPart::U16(items) => items.reserve(more),
+            ListPart::U32(items) => items.reserve(more),
+            ListPart::U64(items) => items.reserve(more),
             ListPart::Nest(items) => items.reserve(more),
         }
     }

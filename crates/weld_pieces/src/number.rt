@@ -1,18 +1,50 @@
-//! Numbers of a kind as they are kept here, in 64 bits.
+//! Numbers of a kind as they are kept here.
 
 ghost use Rattle.std.specs.Prelude.{◌≡◌};
-ghost use Rattle.weld_data.specs.Kind.{IsInteger, InRange};
+ghost use Rattle.weld_data.specs.Kind.{IsInteger, IsNarrow, InRange};
 ghost use Rattle.weld_data.specs.declared.kind.Kind.TheVariants as kinds;
-ghost use Rattle.weld_data.specs.Operation.{combination, start_of};
+ghost use Rattle.weld_data.specs.Operation.{combination};
 ghost use Rattle.weld_builders.specs.Range.{AllInRange};
 ghost use Rattle.weld_pieces.specs.Total.{combined_all};
+ghost use Rattle.weld_pieces.specs.Word.{word};
 
-use weld_data::{Kind, MergeOp, combine, neutral};
+use weld_data::{Kind, MergeOp, combine};
 
 /// Two numbers of an integer kind combined by the operator of a builder.
 #[inline(always)]
+pub(crate) fn combine_wide(op: MergeOp, kind: Kind, x: i128, y: i128) -> i128
+    requires integer { IsInteger kind }
+    requires left { InRange kind x }
+    requires right { InRange kind y }
+    ensures value { result ≡ combination op kind x y }
+    ensures in_range { InRange kind result }
+{
+    match kind {
+        Kind::I64 => i128::from(combine_i64(op, x as i64, y as i64)),
+        _ => combine(op, kind, x, y),
+    }
+}
+
+/// The same of the words that stand for them.
+#[inline(always)]
+pub(crate) fn combine_words(op: MergeOp, kind: Kind, x: i64, y: i64) -> i64
+    requires integer { IsInteger kind }
+    requires left { InRange kind (word kind x) }
+    requires right { InRange kind (word kind y) }
+    ensures value { word kind result ≡ combination op kind (word kind x) (word kind y) }
+    ensures in_range { InRange kind (word kind result) }
+{
+    match kind {
+        Kind::I64 => combine_i64(op, x, y),
+        _ => to_word(kind, combine(op, kind, wide(kind, x), wide(kind, y))),
+    }
+}
+
+/// The same of numbers that lie within an i64.
+#[inline(always)]
 pub(crate) fn combine_kept(op: MergeOp, kind: Kind, x: i64, y: i64) -> i64
     requires integer { IsInteger kind }
+    requires narrow { IsNarrow kind }
     requires left { InRange kind x }
     requires right { InRange kind y }
     ensures value { result ≡ combination op kind x y }
@@ -41,6 +73,7 @@ fn combine_i64(op: MergeOp, x: i64, y: i64) -> i64
 /// builder. The operator and the kind are looked at once. It takes no memory.
 pub(crate) fn combine_all(op: MergeOp, kind: Kind, x: i64, items: &[i64]) -> i64
     requires integer { IsInteger kind }
+    requires narrow { IsNarrow kind }
     requires start { InRange kind x }
     requires items { AllInRange kind items.now }
     ensures value { result ≡ combined_all op kind x items.now }
@@ -58,6 +91,7 @@ pub(crate) fn combine_all(op: MergeOp, kind: Kind, x: i64, items: &[i64]) -> i64
 #[inline(always)]
 fn combine_by(op: MergeOp, kind: Kind, x: i64, items: &[i64]) -> i64
     requires integer { IsInteger kind }
+    requires narrow { IsNarrow kind }
     requires start { InRange kind x }
     requires items { AllInRange kind items.now }
     ensures value { result ≡ combined_all op kind x items.now }
@@ -73,6 +107,7 @@ fn combine_by(op: MergeOp, kind: Kind, x: i64, items: &[i64]) -> i64
 #[inline(always)]
 fn combine_each(op: MergeOp, kind: Kind, x: i64, items: &[i64]) -> i64
     requires integer { IsInteger kind }
+    requires narrow { IsNarrow kind }
     requires start { InRange kind x }
     requires items { AllInRange kind items.now }
     ensures value { result ≡ combined_all op kind x items.now }
@@ -85,20 +120,35 @@ fn combine_each(op: MergeOp, kind: Kind, x: i64, items: &[i64]) -> i64
     total
 }
 
-/// The number that a builder of the operator starts with.
-pub(crate) fn neutral_kept(op: MergeOp, kind: Kind) -> i64
-    requires { IsInteger kind }
-    ensures value { result ≡ start_of op kind }
-    ensures in_range { InRange kind result }
-{
-    narrow(kind, neutral(op, kind))
-}
-
-/// A number of a kind in 64 bits.
+/// A number of a kind that lies within an i64.
 #[inline(always)]
 pub(crate) fn narrow(kind: Kind, x: i128) -> i64
-    requires { InRange kind x }
+    requires narrow { IsNarrow kind }
+    requires in_range { InRange kind x }
     ensures { result ≡ x }
 {
     x as i64
+}
+
+/// The number that a word stands for.
+#[inline(always)]
+pub(crate) fn wide(kind: Kind, x: i64) -> i128
+    ensures { result ≡ word kind x }
+{
+    match kind {
+        Kind::U64 => i128::from(x) + (1 << 63),
+        _ => i128::from(x),
+    }
+}
+
+/// The word that stands for a number.
+#[inline(always)]
+pub(crate) fn to_word(kind: Kind, x: i128) -> i64
+    requires { InRange kind x }
+    ensures { word kind result ≡ x }
+{
+    match kind {
+        Kind::U64 => (x - (1 << 63)) as i64,
+        _ => x as i64,
+    }
 }

@@ -8,7 +8,7 @@ ghost use Rattle.weld_builders.specs.Part.{combined};
 ghost use Rattle.weld_builders.specs.Range.{AllInRange};
 ghost use Rattle.weld_pieces.specs.Keyed.{entry_with, entries_with};
 
-use crate::number::combine_kept;
+use crate::number::combine_wide;
 use std::alloc::AllocError;
 use std::collections::BTreeMap;
 use weld_data::{Kind, MergeOp};
@@ -16,11 +16,11 @@ use weld_data::{Kind, MergeOp};
 /// Merges a number at a key. It takes memory for a new key alone; where that is wanting, the map
 /// stays as it was.
 pub(crate) fn merge_at<K: Ord + Drop>(
-    map: &mut BTreeMap<K, i64>,
+    map: &mut BTreeMap<K, i128>,
     op: MergeOp,
     kind: Kind,
     key: K,
-    x: i64,
+    x: i128,
 ) -> Result<(), AllocError>
     requires integer { IsInteger kind }
     requires values { AllInRange kind (values_of map.old.entries) }
@@ -32,7 +32,7 @@ pub(crate) fn merge_at<K: Ord + Drop>(
     match map.get_mut(&key) {
         Some(number) => {
             let before = *number;
-            *number = combine_kept(op, kind, before, x);
+            *number = combine_wide(op, kind, before, x);
             Ok(())
         }
         None => {
@@ -44,10 +44,10 @@ pub(crate) fn merge_at<K: Ord + Drop>(
 
 /// Merges the numbers of a later map at their keys.
 pub(crate) fn merge_all<K: Ord + Drop>(
-    map: &mut BTreeMap<K, i64>,
+    map: &mut BTreeMap<K, i128>,
     op: MergeOp,
     kind: Kind,
-    later: BTreeMap<K, i64>,
+    later: BTreeMap<K, i128>,
 ) -> Result<(), AllocError>
     requires integer { IsInteger kind }
     requires values { AllInRange kind (values_of map.old.entries) }

@@ -19,7 +19,7 @@ fn number_pairs(
     alloc: Global,
     key_kind: Kind,
     kind: Kind,
-    map: BTreeMap<i64, i64>,
+    map: BTreeMap<i64, i128>,
 ) -> Result<Pairs, AllocError>
     requires keys { AllInRange key_kind (keys_of map.entries) }
     requires values { AllInRange kind (values_of map.entries) }
@@ -28,7 +28,7 @@ fn number_pairs(
     let mut items = Vec::with_capacity(alloc, map.len())?;
     for (key, x) in map {
         items.push(Pair {
-            key: number_of(key_kind, key),
+            key: key_of(key_kind, key),
             value: number_of(kind, x),
         })?;
     }
@@ -36,7 +36,7 @@ fn number_pairs(
 }
 
 /// The dictionary of numbers at keys that are kept as values.
-fn value_pairs(alloc: Global, kind: Kind, map: BTreeMap<Key, i64>) -> Result<Pairs, AllocError>
+fn value_pairs(alloc: Global, kind: Kind, map: BTreeMap<Key, i128>) -> Result<Pairs, AllocError>
     requires kept { KeysAreKept None (map_of itself map.entries) }
     requires one_type { HasOneKeyType (map_of itself map.entries) }
     requires values { AllInRange kind (values_of map.entries) }
@@ -57,7 +57,7 @@ pub(crate) fn kept_pairs(
     alloc: Global,
     key_kind: Kind,
     kind: Kind,
-    map: BTreeMap<i64, i64>,
+    map: BTreeMap<i64, i128>,
 ) -> Result<Pairs, AllocError>
     requires keys { KeysAreKept (Some key_kind) (map_of (number key_kind) map.entries) }
     requires values { AllInRange kind (values_of map.entries) }
@@ -71,7 +71,7 @@ pub(crate) fn kept_pairs(
 pub(crate) fn plain_pairs(
     alloc: Global,
     kind: Kind,
-    map: BTreeMap<Key, i64>,
+    map: BTreeMap<Key, i128>,
 ) -> Result<Pairs, AllocError>
     requires kept { KeysAreKept None (map_of itself map.entries) }
     requires one_type { HasOneKeyType (map_of itself map.entries) }
@@ -82,8 +82,8 @@ pub(crate) fn plain_pairs(
     value_pairs(alloc, kind, map)
 }
 
-/// A number of a kind as a value.
-pub(crate) fn number_of(kind: Kind, x: i64) -> Val
+/// A key that is kept as a number as a value.
+pub(crate) fn key_of(kind: Kind, x: i64) -> Val
     requires { InRange kind x }
     ensures { view_val result ≡ number kind x }
 {
@@ -91,4 +91,12 @@ pub(crate) fn number_of(kind: Kind, x: i64) -> Val
         kind,
         value: i128::from(x),
     })
+}
+
+/// A number of a kind as a value.
+fn number_of(kind: Kind, x: i128) -> Val
+    requires { InRange kind x }
+    ensures { view_val result ≡ number kind x }
+{
+    Val::Num(Num { kind, value: x })
 }

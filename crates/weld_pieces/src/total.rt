@@ -1,8 +1,8 @@
-use crate::number::{combine_all, combine_kept, narrow, neutral_kept};
+use crate::number::{combine_all, combine_wide, narrow};
 use crate::part::Part;
 use std::alloc::{AllocError, Global};
 use std::marker::Model;
-use weld_data::{Kind, MergeOp, Num, Stop};
+use weld_data::{Kind, MergeOp, Num, Stop, neutral};
 
 /// The operator and the integer kind of a total.
 #[derive(Clone, Copy, Debug, PartialEq, Eq)]
@@ -16,7 +16,7 @@ pub struct TotalShape {
 pub struct TotalPart {
     op: MergeOp,
     kind: Kind,
-    value: i64,
+    value: i128,
 }
 
 impl Model for TotalPart {
@@ -31,7 +31,7 @@ impl Model for TotalPart {
 
 impl TotalPart {
     ghost use Rattle.std.specs.Prelude.{◌≡◌};
-    ghost use Rattle.weld_data.specs.Kind.{IsInteger, InRange};
+    ghost use Rattle.weld_data.specs.Kind.{IsInteger, IsNarrow, InRange};
     ghost use Rattle.weld_data.specs.Operation.{combination, start_of};
     ghost use Rattle.weld_builders.specs.Range.{AllInRange};
     ghost use Rattle.weld_pieces.specs.Total.{Total, part_of_total, combined_all};
@@ -43,12 +43,12 @@ impl TotalPart {
         ensures kind { result.kind ≡ kind }
         ensures value { result.value ≡ start_of op kind }
     {
-        let value = neutral_kept(op, kind);
+        let value = neutral(op, kind);
         TotalPart { op, kind, value }
     }
 
     /// The total that starts with a number of an integer kind. It takes no memory.
-    pub fn from_number(op: MergeOp, kind: Kind, value: i64) -> TotalPart
+    pub fn from_number(op: MergeOp, kind: Kind, value: i128) -> TotalPart
         requires integer { IsInteger kind }
         requires in_range { InRange kind value }
         ensures op { result.op ≡ op }
@@ -58,7 +58,7 @@ impl TotalPart {
         TotalPart { op, kind, value }
     }
 
-    /// Merges a number of the total's kind. It takes no memory.
+    /// Merges a number of the total's kind that lies within an i64. It takes no memory.
     #[inline(always)]
     pub fn merge_number(&mut self, x: i64)
         requires { InRange self.old.kind x }
@@ -66,17 +66,30 @@ impl TotalPart {
         ensures kind { self.new.kind ≡ self.old.kind }
         ensures value { self.new.value ≡ combination self.old.op self.old.kind self.old.value x }
     {
-        self.value = combine_kept(self.op, self.kind, self.value, x);
+        self.value = combine_wide(self.op, self.kind, self.value, i128::from(x));
+    }
+
+    /// Merges a number of the total's kind. It takes no memory.
+    #[inline(always)]
+    pub fn merge_wide(&mut self, x: i128)
+        requires { InRange self.old.kind x }
+        ensures op { self.new.op ≡ self.old.op }
+        ensures kind { self.new.kind ≡ self.old.kind }
+        ensures value { self.new.value ≡ combination self.old.op self.old.kind self.old.value x }
+    {
+        self.value = combine_wide(self.op, self.kind, self.value, x);
     }
 
     /// Merges numbers of the total's kind, the first one first. It takes no memory.
     pub fn merge_numbers(&mut self, items: &[i64])
-        requires { AllInRange self.old.kind items.now }
+        requires narrow { IsNarrow self.old.kind }
+        requires in_range { AllInRange self.old.kind items.now }
         ensures op { self.new.op ≡ self.old.op }
         ensures kind { self.new.kind ≡ self.old.kind }
         ensures value { self.new.value ≡ combined_all self.old.op self.old.kind self.old.value items.now }
     {
-        self.value = combine_all(self.op, self.kind, self.value, items);
+        let before = narrow(self.kind, self.value);
+        self.value = i128::from(combine_all(self.op, self.kind, before, items));
     }
 
     /// Appends what a later total of the same operator and kind has merged. It takes no memory.
@@ -86,7 +99,7 @@ impl TotalPart {
         ensures kind { self.new.kind ≡ self.old.kind }
         ensures value { self.new.value ≡ combination self.old.op self.old.kind self.old.value later.now.value }
     {
-        self.value = combine_kept(self.op, self.kind, self.value, later.value);
+        self.value = combine_wide(self.op, self.kind, self.value, later.value);
     }
 
     /// The operator. It takes no memory.
@@ -104,7 +117,7 @@ impl TotalPart {
     {
         Num {
             kind: self.kind,
-            value: i128::from(self.value),
+            value: self.value,
         }
     }
 }
@@ -144,7 +157,7 @@ impl Part for TotalPart {
     }
 
     fn merge(&mut self, item: Num) -> Result<(), Stop> {
-        self.merge_number(narrow(item.kind, item.value));
+        self.merge_wide(item.value);
         Ok(())
     }
 

@@ -34,7 +34,7 @@ fn merge_pair(part: &mut KeyedPart, key: i64, x: i64) -> Result<(), AllocError>
     ensures kept { OnOk result (KeysAreKept (Some kinds.I64) part.new.numbers) }
 {
     laws::kept_keys_stay();
-    part.merge_number(Kind::I64, key, x)
+    part.merge_number(Kind::I64, key, i128::from(x))
 }
 
 /// The part of one piece.

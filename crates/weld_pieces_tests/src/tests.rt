@@ -47,6 +47,18 @@ fn totals_join_both_ways(rt: HostRuntime) -> Result<(), Fail> {
 }
 
 #[test]
+fn totals_of_u64_wrap(rt: HostRuntime) -> Result<(), Fail> {
+    let mut product = TotalPart::neutral(MergeOp::Mul, Kind::U64);
+    product.merge_wide(18446744073709551615);
+    product.merge_wide(18446744073709551615);
+    product.merge_number(3);
+    assert_eq!(rt; product.number().value, 3);
+    let least = TotalPart::neutral(MergeOp::Min, Kind::U64);
+    assert_eq!(rt; least.number().value, 18446744073709551615);
+    Ok(())
+}
+
+#[test]
 fn lists_append(rt: HostRuntime) -> Result<(), Fail> {
     let mut part = ListPart::empty(rt.alloc(), Some(Kind::I64));
     assert_eq!(rt; part.spare(), 0);
@@ -76,6 +88,23 @@ fn cells_merge_and_join(rt: HostRuntime) -> Result<(), Fail> {
     part.append(&later);
     match part.into_column(rt.alloc())? {
         Column::I64(items) => assert_eq!(rt; items.as_slice(), [6i64, 7].as_slice()),
+        _ => assert!(rt; false),
+    }
+    Ok(())
+}
+
+#[test]
+fn cells_of_u64_merge_and_join(rt: HostRuntime) -> Result<(), Fail> {
+    let mut part = CellsPart::neutral(rt.alloc(), MergeOp::Max, Kind::U64, 2)?;
+    let mut later = CellsPart::neutral(rt.alloc(), MergeOp::Max, Kind::U64, 2)?;
+    assert!(rt; part.merge_wide(0, 18446744073709551615).is_ok());
+    assert!(rt; later.merge_wide(0, 9223372036854775808).is_ok());
+    assert!(rt; later.merge_number(1, 7).is_ok());
+    part.append(&later);
+    match part.into_column(rt.alloc())? {
+        Column::U64(items) => {
+            assert_eq!(rt; items.as_slice(), [18446744073709551615u64, 7].as_slice());
+        }
         _ => assert!(rt; false),
     }
     Ok(())

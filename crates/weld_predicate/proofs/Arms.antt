@@ -5,7 +5,7 @@ use Rattle.weld_safe.specs.Test.{is_safe}
 use Rattle.weld_meaning.specs.Available.{chain_of}
 use Rattle.weld_putting.specs.Redex.{noted}
 use Rattle.weld_guarded.specs.Guard.{Merger, merger_of, same_chain, is_merge, is_some_merger, is_guarded, is_guard}
-use Rattle.weld_predicate.specs.Predicating.{MergesNumber}
+use Rattle.weld_predicate.specs.Predicating.{MergesIntoMerger}
 
 both : (a b : Bool) → (a && b) ≡ true → (a ≡ true) × (b ≡ true)
 both true b h = (refl, h)
@@ -23,7 +23,7 @@ some : (m : Option Merger) → is_some_merger m ≡ true → (n : Merger) × (m 
 some None h = let wrong : ⊥ = cc in absurd wrong
 some (Some n) h = (n, refl)
 
-pub arm_merges : (e f : ExprTree) → is_guarded e f ≡ true → MergesNumber e
+pub arm_merges : (e f : ExprTree) → is_guarded e f ≡ true → MergesIntoMerger e
 arm_merges (leaf b l) f h = let wrong : ⊥ = cc in absurd wrong
 arm_merges (one b o e) f h = let wrong : ⊥ = cc in absurd wrong
 arm_merges (two b o e v) f h =
@@ -47,8 +47,8 @@ other select a c e f h q = let wrong : ⊥ = cc in absurd wrong
 other slice a c e f h q = let wrong : ⊥ = cc in absurd wrong
 
 -- where the first arm doesn't, the second does
-pub other_merges : (n : ExprTree) (a : At) (o : Three) (c e f x y z : ExprTree) (b : Bool) → n ≡ three a o c e f → is_guard n ≡ true → b ≡ is_guarded x y → b ≡ false → x ≡ e → y ≡ f → z ≡ f → MergesNumber z
+pub other_merges : (n : ExprTree) (a : At) (o : Three) (c e f x y z : ExprTree) (b : Bool) → n ≡ three a o c e f → is_guard n ≡ true → b ≡ is_guarded x y → b ≡ false → x ≡ e → y ≡ f → z ≡ f → MergesIntoMerger z
 other_merges n a o c e f x y z b is h tested q p r s =
     let guard : is_guard (three a o c e f) ≡ true = ap is_guard (sym is) ∙ h in
     let not_first : is_guarded e f ≡ false = ap (λ (u : ExprTree). is_guarded u f) (sym p) ∙ ap (is_guarded x) (sym r) ∙ sym tested ∙ q in
-    subst MergesNumber (sym s) (arm_merges f e (other o a c e f guard not_first))
+    subst MergesIntoMerger (sym s) (arm_merges f e (other o a c e f guard not_first))

@@ -9,5 +9,6 @@ mod neutral;
 mod pass;
 mod rule;
 
+pub use neutral::neutral_of;
 pub use pass::predicate;
 pub use rule::Guards;

@@ -1,22 +1,18 @@
 //! What a noted type tells of a `merger`.
 
-ghost use Rattle.std.specs.Prelude.{◌≡◌, Option, Some, None};
+ghost use Rattle.std.specs.Prelude.{◌≡◌, Some, None, IfSome, MatchOption};
+ghost use Rattle.weld_tree.specs.Types.{IsMergerType};
 ghost use Rattle.weld_tree.specs.TypeView.{view_build};
-ghost use Rattle.weld_predicate.specs.Predicating.{TellsMerger, TellsBuilder, TellsNumber};
+ghost use Rattle.weld_guarded.specs.Guard.{merger_of, of_builder, of_item};
 
-use weld_data::{Kind, MergeOp};
+use weld_data::MergeOp;
 use weld_tree::{BuildTy, Known, Ty, TyForm};
 
-/// A `merger` of numbers: their kind and the operator.
-#[derive(Clone, Copy)]
-pub(crate) struct MergerOf {
-    pub(crate) kind: Kind,
-    pub(crate) op: MergeOp,
-}
-
-/// The `merger` that is noted, if one is. It takes no memory.
-pub(crate) fn merger_of(known: &Known) -> Option<MergerOf>
-    ensures { TellsMerger known.now result }
+/// What the `merger` that is noted combines, and its operator, if one is noted. It takes no memory.
+pub(crate) fn merger_of(known: &Known) -> Option<(&Ty, MergeOp)>
+    ensures tells { MatchOption result (merger_of known.now ≡ None)
+        (λ m. merger_of known.now ≡ Some (record { item = m.0.now; op = m.1 })) }
+    ensures mergeable { IfSome result (λ m. IsMergerType m.0.now) }
 {
     match known {
         Known::Blank => None,
@@ -27,22 +23,27 @@ pub(crate) fn merger_of(known: &Known) -> Option<MergerOf>
     }
 }
 
-fn of_builder(build: &BuildTy) -> Option<MergerOf>
-    ensures { TellsBuilder (view_build build.now) result }
+fn of_builder(build: &BuildTy) -> Option<(&Ty, MergeOp)>
+    ensures tells { MatchOption result (of_builder (view_build build.now) ≡ None)
+        (λ m. of_builder (view_build build.now) ≡ Some (record { item = m.0.now; op = m.1 })) }
+    ensures mergeable { IfSome result (λ m. IsMergerType m.0.now) }
 {
     match build {
-        BuildTy::Total(ty, op) => of_number(ty, *op),
+        BuildTy::Total(item, op) => of_item(item, *op),
         BuildTy::List(_) | BuildTy::Keyed(_, _, _) => None,
         BuildTy::Cells(_, _) | BuildTy::Groups(_, _) => None,
     }
 }
 
-fn of_number(ty: &Ty, op: MergeOp) -> Option<MergerOf>
-    ensures { TellsNumber ty.now op result }
+#[tactic(auto, using(crate::proofs::Items::item_told, crate::proofs::Items::no_item))]
+fn of_item(item: &Ty, op: MergeOp) -> Option<(&Ty, MergeOp)>
+    ensures tells { MatchOption result (of_item item.now op ≡ None)
+        (λ m. of_item item.now op ≡ Some (record { item = m.0.now; op = m.1 })) }
+    ensures mergeable { IfSome result (λ m. IsMergerType m.0.now) }
 {
-    match &ty.form {
-        TyForm::Scalar(Kind::Bool) => None,
-        TyForm::Scalar(kind) => Some(MergerOf { kind: *kind, op }),
-        TyForm::Vec(_) | TyForm::Struct(_) | TyForm::Dict(_, _) | TyForm::Build(_) => None,
+    if item.is_mergeable() {
+        Some((item, op))
+    } else {
+        None
     }
 }

@@ -1,22 +1,21 @@
 //! The rule of the pass.
 
 ghost use Rattle.std.specs.Prelude.{◌≡◌, true, Some, IfOk};
-ghost use Rattle.weld_data.specs.Kind.{IsInteger};
-ghost use Rattle.weld_tree.specs.TypeTree.{scalar};
+ghost use Rattle.weld_tree.specs.Types.{IsMergerType};
 ghost use Rattle.weld_tree.specs.ExprTree.{At, three, select};
 ghost use Rattle.weld_tree.specs.ExprView.{view_form};
 ghost use Rattle.weld_guarded.specs.Guard.{always_merged, chosen_value, is_guard, unguarded};
 ghost use Rattle.weld_guarded.specs.Neutral.{node_of};
-ghost use Rattle.weld_predicate.specs.Predicating.{MergesNumber};
+ghost use Rattle.weld_predicate.specs.Predicating.{MergesIntoMerger};
 
 use crate::guards::{is_guard, is_guarded};
-use crate::mergers::{MergerOf, merger_of};
-use crate::neutral::{neutral_of, number_type};
+use crate::mergers::merger_of;
+use crate::neutral::neutral_of;
 use std::alloc::{AllocError, Global};
 use std::mem;
-use weld_data::Kind;
+use weld_data::MergeOp;
 use weld_sweep::Rule;
-use weld_tree::{Expr, Form, Known, LeafForm, Place, ThreeForm};
+use weld_tree::{Expr, Form, Known, LeafForm, Place, ThreeForm, Ty};
 
 /// A guarded merge becomes the merge of what its condition chooses.
 #[derive(Clone, Copy)]
@@ -63,7 +62,7 @@ fn merge_always(
     wanted: bool,
     arm: &mut Expr,
 ) -> Result<Form, AllocError>
-    requires { MergesNumber arm.old }
+    requires { MergesIntoMerger arm.old }
     ensures { IfOk result (λ form. (at : At) → at.place ≡ place
         → view_form form at ≡ always_merged at condition.old.value wanted arm.old) }
 {
@@ -71,7 +70,7 @@ fn merge_always(
         unreachable!();
     };
     match merger_of(&builder.ty) {
-        Some(merger) => choose(alloc, place, condition, wanted, value, merger)?,
+        Some((item, op)) => choose(alloc, place, condition, wanted, value, item, op)?,
         None => unreachable!(),
     }
     Ok(mem::replace(&mut arm.form, Form::Leaf(LeafForm::Truth(false))))
@@ -84,37 +83,38 @@ fn choose(
     condition: &mut Box<Expr>,
     wanted: bool,
     value: &mut Box<Expr>,
-    merger: MergerOf,
+    item: &Ty,
+    op: MergeOp,
 ) -> Result<(), AllocError>
-    requires { IsInteger merger.kind }
+    requires { IsMergerType item.now }
     ensures { IfOk result (λ _. value.new.value ≡ chosen_value place condition.old.value wanted value.old.value
-        (Some (record { kind = merger.kind; op = merger.op }))) }
+        (Some (record { item = item.now; op = op }))) }
 {
     let condition = mem::replace(condition, spare(alloc, place)?);
-    let neutral = neutral_of(alloc, place, merger.op, merger.kind)?;
+    let neutral = neutral_of(alloc, place, op, item)?;
     let chosen = mem::replace(value, spare(alloc, place)?);
     *value = if wanted {
-        selected(alloc, place, merger.kind, condition, chosen, neutral)?
+        selected(alloc, place, item, condition, chosen, neutral)?
     } else {
-        selected(alloc, place, merger.kind, condition, neutral, chosen)?
+        selected(alloc, place, item, condition, neutral, chosen)?
     };
     Ok(())
 }
 
-/// One of two numbers of the kind, as the condition says.
+/// One of two values of the type, as the condition says.
 fn selected(
     alloc: Global,
     place: Place,
-    kind: Kind,
+    ty: &Ty,
     condition: Box<Expr>,
     then: Box<Expr>,
     otherwise: Box<Expr>,
 ) -> Result<Box<Expr>, AllocError>
     ensures { IfOk result (λ b. b.value
-        ≡ three (node_of place (scalar kind)) select condition.value then.value otherwise.value) }
+        ≡ three (node_of place ty.now) select condition.value then.value otherwise.value) }
 {
     let form = Form::Three(ThreeForm::Select, condition, then, otherwise);
-    let ty = number_type(kind);
+    let ty = Known::Is(ty.copy(alloc)?);
     Ok(Box::new(alloc, Expr { form, place, ty })?)
 }
 

@@ -1,7 +1,7 @@
 -- Programs and their texts, by which the definitions are checked: each form once, the rule on parentheses, names, notes, legs and strings.
 use Rattle.std.proofs.Common.{negsuc, [], ◌∷◌, codes, refl}
 use Rattle.std.specs.Fmt.{digits}
-use Rattle.weld_data.specs.declared.kind.Kind.TheVariants.{I8, U8, I32, I64}
+use Rattle.weld_data.specs.declared.kind.Kind.TheVariants.{I8, I16, I32, I64, U8, U16, U32, U64}
 use Rattle.weld_data.specs.declared.op.BinOp.TheVariants.{Add, Sub, Mul, Div, Rem, Eq, Ne, Lt, Le, Gt, Ge}
 use Rattle.weld_data.specs.declared.op.MergeOp.TheVariants as merges
 use Rattle.weld_tree.specs.TypeTree.{scalar, vec, dict, build, list, total, keyed, cells, groups}

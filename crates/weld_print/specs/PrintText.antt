@@ -2,7 +2,7 @@
 use Rattle.std.specs.Prelude.{◌≡◌, ℕ, Bool, if◌then◌else◌, Option, Some, None, List, [], ◌∷◌, ◌++◌, codes}
 use Rattle.std.specs.Fmt.{decimal, signed_decimal}
 use Rattle.weld_data.specs.declared.kind.Kind.{Kind}
-use Rattle.weld_data.specs.declared.kind.Kind.TheVariants.{Bool as BoolKind, I8, U8, I32, I64}
+use Rattle.weld_data.specs.declared.kind.Kind.TheVariants.{Bool as BoolKind, I8, I16, I32, I64, U8, U16, U32, U64}
 use Rattle.weld_data.specs.declared.op.BinOp.{BinOp}
 use Rattle.weld_data.specs.declared.op.BinOp.TheVariants.{Add, Sub, Mul, Div, Rem, Eq, Ne, Lt, Le, Gt, Ge}
 use Rattle.weld_tree.specs.declared.binder.Binder.{Binder}
@@ -32,9 +32,13 @@ binder_text names b = name_text names b.sym.0 ++ note_text b.note
 abbrev pub kind_end : Kind → List ℕ
 kind_end BoolKind = []
 kind_end I8 = []
-kind_end U8 = []
+kind_end I16 = []
 kind_end I32 = []
 kind_end I64 = codes "L"
+kind_end U8 = []
+kind_end U16 = []
+kind_end U32 = []
+kind_end U64 = []
 
 -- the bytes of a string, with the escapes of value text
 abbrev pub items_text : List ℕ → List ℕ

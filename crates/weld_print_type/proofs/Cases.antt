@@ -1,6 +1,6 @@
 -- Types and their texts, by which the definitions are checked.
 use Rattle.std.proofs.Common.{List, [], ◌∷◌, codes, refl}
-use Rattle.weld_data.specs.declared.kind.Kind.TheVariants.{Bool, I8, U8, I32, I64}
+use Rattle.weld_data.specs.declared.kind.Kind.TheVariants.{Bool, I8, I16, I32, I64, U8, U16, U32, U64}
 use Rattle.weld_data.specs.declared.op.MergeOp.TheVariants.{Add, Mul, Min, Max}
 use Rattle.weld_tree.specs.TypeTree.{TypeTree, scalar, vec, struct, dict, build, list, total, keyed, cells, groups, pack}
 use Rattle.weld_print_type.specs.TypeText.{PrintType}

@@ -1,7 +1,7 @@
 -- The one printed spelling of types (the Weld papers): without spaces.
 use Rattle.std.specs.Prelude.{◌≡◌, ℕ, List, [], ◌∷◌, ◌++◌, codes}
 use Rattle.weld_data.specs.declared.kind.Kind.{Kind}
-use Rattle.weld_data.specs.declared.kind.Kind.TheVariants.{Bool, I8, U8, I32, I64}
+use Rattle.weld_data.specs.declared.kind.Kind.TheVariants.{Bool, I8, I16, I32, I64, U8, U16, U32, U64}
 use Rattle.weld_data.specs.declared.op.MergeOp.{MergeOp}
 use Rattle.weld_data.specs.declared.op.MergeOp.TheVariants.{Add, Mul, Min, Max}
 use Rattle.weld_tree.specs.TypeTree.{TypeTree, BuildTree, TypeTrees, scalar, vec, struct, dict, build, list, total, keyed, cells, groups, no_types, more_types}
@@ -10,9 +10,13 @@ use Rattle.weld_tree.specs.TypeTree.{TypeTree, BuildTree, TypeTrees, scalar, vec
 abbrev pub kind_text : Kind → List ℕ
 kind_text Bool = codes "bool"
 kind_text I8 = codes "i8"
-kind_text U8 = codes "u8"
+kind_text I16 = codes "i16"
 kind_text I32 = codes "i32"
 kind_text I64 = codes "i64"
+kind_text U8 = codes "u8"
+kind_text U16 = codes "u16"
+kind_text U32 = codes "u32"
+kind_text U64 = codes "u64"
 
 -- an operator of a builder
 abbrev pub op_text : MergeOp → List ℕ

@@ -26,9 +26,13 @@ pub fn kind_word(kind: Kind) -> &'static str
     match kind {
         Kind::Bool => "bool",
         Kind::I8 => "i8",
-        Kind::U8 => "u8",
+        Kind::I16 => "i16",
         Kind::I32 => "i32",
         Kind::I64 => "i64",
+        Kind::U8 => "u8",
+        Kind::U16 => "u16",
+        Kind::U32 => "u32",
+        Kind::U64 => "u64",
     }
 }
 

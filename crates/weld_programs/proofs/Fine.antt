@@ -212,6 +212,10 @@ pub kind_integer : (t : Tree Token) → IsInteger (int_kind_of t)
 kind_integer (node (here t)) = tt
 kind_integer (node (there (here t))) = tt
 kind_integer (node (there (there (here t)))) = tt
+kind_integer (node (there (there (there (here t))))) = tt
+kind_integer (node (there (there (there (there (here t)))))) = tt
+kind_integer (node (there (there (there (there (there (here t))))))) = tt
+kind_integer (node (there (there (there (there (there (there (here t)))))))) = tt
 kind_integer _ = tt
 
 pub resets : (negative : Bool) (q : Rule) (t : Tree Token) → out_of_range_in false (item (OfRule q)) t ≡ out_of_range_in negative (item (OfRule q)) t

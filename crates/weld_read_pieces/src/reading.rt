@@ -43,8 +43,8 @@ fn read_column(
             Some(items) => Some(Column::I8(items)),
             None => None,
         }),
-        Kind::U8 => Ok(match read_joined::<u8>(rt, alloc, text, workers)? {
-            Some(items) => Some(Column::U8(items)),
+        Kind::I16 => Ok(match read_joined::<i16>(rt, alloc, text, workers)? {
+            Some(items) => Some(Column::I16(items)),
             None => None,
         }),
         Kind::I32 => Ok(match read_joined::<i32>(rt, alloc, text, workers)? {
@@ -53,6 +53,22 @@ fn read_column(
         }),
         Kind::I64 => Ok(match read_joined::<i64>(rt, alloc, text, workers)? {
             Some(items) => Some(Column::I64(items)),
+            None => None,
+        }),
+        Kind::U8 => Ok(match read_joined::<u8>(rt, alloc, text, workers)? {
+            Some(items) => Some(Column::U8(items)),
+            None => None,
+        }),
+        Kind::U16 => Ok(match read_joined::<u16>(rt, alloc, text, workers)? {
+            Some(items) => Some(Column::U16(items)),
+            None => None,
+        }),
+        Kind::U32 => Ok(match read_joined::<u32>(rt, alloc, text, workers)? {
+            Some(items) => Some(Column::U32(items)),
+            None => None,
+        }),
+        Kind::U64 => Ok(match read_joined::<u64>(rt, alloc, text, workers)? {
+            Some(items) => Some(Column::U64(items)),
             None => None,
         }),
     }

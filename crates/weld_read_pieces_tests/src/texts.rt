@@ -13,7 +13,7 @@ use weld_values::DataFault;
 const COUNT: usize = 70_000;
 
 /// The first number, the last number, and the last number as it must be read or the fault.
-type Case = (&'static str, &'static str, Result<i64, DataFault>);
+type Case = (&'static str, &'static str, Result<i128, DataFault>);
 
 static CASES: [Case; 6] = [
     ("12", "-9223372036854775808", Ok(-9_223_372_036_854_775_808)),
@@ -24,10 +24,15 @@ static CASES: [Case; 6] = [
     ("12", "1]", Err(DataFault::Syntax)),
 ];
 
-fn i64s(alloc: Global) -> Result<Ty, AllocError>
+static U64_CASES: [Case; 2] = [
+    ("12", "18446744073709551615", Ok(18_446_744_073_709_551_615)),
+    ("12", "18446744073709551616", Err(DataFault::Range)),
+];
+
+fn vec_of(alloc: Global, kind: Kind) -> Result<Ty, AllocError>
     ensures { IfOk result IsReadable }
 {
-    Ty::vec_of(alloc, Ty::scalar(Kind::I64))
+    Ty::vec_of(alloc, Ty::scalar(kind))
 }
 
 /// The text of a list of the first number, three-digit numbers, and the last.
@@ -45,13 +50,17 @@ fn long_text(alloc: Global, first: &str, last: &str) -> Result<Vec<u8>, AllocErr
 }
 
 /// Whether the list has all numbers, and this one at its end.
-fn ends_with(value: &Val, last: i64) -> bool {
-    match value {
+fn ends_with(value: &Val, last: i128) -> bool {
+    let (len, found) = match value {
         Val::List(Column::I64(items)) => {
-            items.len() == COUNT + 1 && items.as_slice().last() == Some(&last)
+            (items.len(), items.as_slice().last().map(|x| i128::from(*x)))
         }
-        _ => false,
-    }
+        Val::List(Column::U64(items)) => {
+            (items.len(), items.as_slice().last().map(|x| i128::from(*x)))
+        }
+        _ => return false,
+    };
+    len == COUNT + 1 && found == Some(last)
 }
 
 /// Whether the case is as it should be.
@@ -74,8 +83,12 @@ fn holds(
 
 #[test]
 fn long_lists_are_read_or_told(rt: HostRuntime) -> Result<(), Fail> {
-    let ty = i64s(rt.alloc())?;
+    let ty = vec_of(rt.alloc(), Kind::I64)?;
     for case in &CASES {
+        assert!(rt; holds(&rt, rt.alloc(), &ty, case)?);
+    }
+    let ty = vec_of(rt.alloc(), Kind::U64)?;
+    for case in &U64_CASES {
         assert!(rt; holds(&rt, rt.alloc(), &ty, case)?);
     }
     Ok(())

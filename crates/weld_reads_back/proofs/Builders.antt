@@ -237,7 +237,11 @@ fits v m top e h = let k : v ≤ top = omega (arith, e) in let t : nat_le v top 
 pub natural_reads : (names : List ℕ) (a : At) (k : Kind) (m : ℕ) → IsWritten k → InRange k (pos m) → m < 2 ^ 64 → AsPost names (leaf_at a (int k (pos m)))
 natural_reads names a kinds.Bool m h range small s n g i place rest st = absurd h
 natural_reads names a kinds.I8 m h range small s n g i place rest st = absurd h
+natural_reads names a kinds.I16 m h range small s n g i place rest st = absurd h
 natural_reads names a kinds.U8 m h range small s n g i place rest st = absurd h
+natural_reads names a kinds.U16 m h range small s n g i place rest st = absurd h
+natural_reads names a kinds.U32 m h range small s n g i place rest st = absurd h
+natural_reads names a kinds.U64 m h range small s n g i place rest st = absurd h
 natural_reads names a kinds.I32 m h range small s n g i place rest st =
     let t = one_token place (int_lexeme m rest small st) in
     let q : (decimal m ++ []) ++ rest ≡ decimal m ++ rest = ap (λ (x : List ℕ). x ++ rest) (append-nil (decimal m)) in
@@ -270,7 +274,11 @@ negative_value m v e = ap (λ (x : ℕ). neg_ℤ (pos x)) e
 pub negative_reads : (names : List ℕ) (a : At) (k : Kind) (m : ℕ) → IsWritten k → InRange k (negsuc m) → suc m < 2 ^ 64 → AsUnary names (leaf_at a (int k (negsuc m)))
 negative_reads names a kinds.Bool m h range small s n g i place rest st = absurd h
 negative_reads names a kinds.I8 m h range small s n g i place rest st = absurd h
+negative_reads names a kinds.I16 m h range small s n g i place rest st = absurd h
 negative_reads names a kinds.U8 m h range small s n g i place rest st = absurd h
+negative_reads names a kinds.U16 m h range small s n g i place rest st = absurd h
+negative_reads names a kinds.U32 m h range small s n g i place rest st = absurd h
+negative_reads names a kinds.U64 m h range small s n g i place rest st = absurd h
 negative_reads names a kinds.I32 m h range small s n g i place rest st =
     let word = decimal (suc m) in
     let o = one_token place (minus (word ++ rest)) in
@@ -302,16 +310,24 @@ negative_reads names a kinds.I64 m h range small s n g i place rest st =
 natural_small : (k : Kind) (m : ℕ) → IsWritten k → InRange k (pos m) → m < 2 ^ 64
 natural_small kinds.Bool m h x = absurd h
 natural_small kinds.I8 m h x = absurd h
-natural_small kinds.U8 m h x = absurd h
+natural_small kinds.I16 m h x = absurd h
 natural_small kinds.I32 m h x = omega (arith, ints, x.high)
 natural_small kinds.I64 m h x = omega (arith, ints, x.high)
+natural_small kinds.U8 m h x = absurd h
+natural_small kinds.U16 m h x = absurd h
+natural_small kinds.U32 m h x = absurd h
+natural_small kinds.U64 m h x = absurd h
 
 negative_small : (k : Kind) (m : ℕ) → IsWritten k → InRange k (negsuc m) → suc m < 2 ^ 64
 negative_small kinds.Bool m h x = absurd h
 negative_small kinds.I8 m h x = absurd h
-negative_small kinds.U8 m h x = absurd h
+negative_small kinds.I16 m h x = absurd h
 negative_small kinds.I32 m h x = omega (arith, ints, x.low)
 negative_small kinds.I64 m h x = omega (arith, ints, x.low)
+negative_small kinds.U8 m h x = absurd h
+negative_small kinds.U16 m h x = absurd h
+negative_small kinds.U32 m h x = absurd h
+negative_small kinds.U64 m h x = absurd h
 
 pub int_reads : (names : List ℕ) (a : At) (k : Kind) (x : ℤ) → IsWritten k → InRange k x → Reads names (leaf_at a (int k x))
 int_reads names a k (pos m) h x = of_post names _ (natural_reads names a k m h x (natural_small k m h x))

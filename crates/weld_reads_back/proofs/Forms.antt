@@ -482,17 +482,17 @@ cast_reads names m kinds.I8 e h x s n a i place rest st =
       opens = (record { unlet = record { fair = record { iter = refl; zip = refl; bars = refl; bar = refl }; unlet = refl }; minus = refl; bang = refl });
     } in
     repost q (primary_as_post whole (λ h. refl) refl)
-cast_reads names m kinds.U8 e h x s n a i place rest st =
-    let k = one_token place (reserved_lexeme w.U8 (40 ∷ (expr_text names e ++ (41 ∷ rest))) refl) in
+cast_reads names m kinds.I16 e h x s n a i place rest st =
+    let k = one_token place (reserved_lexeme w.I16 (40 ∷ (expr_text names e ++ (41 ∷ rest))) refl) in
     let t = first_arg names e x s n a i k.here (41 ∷ rest) refl in
     let c = one_token t.here (right_paren rest) in
-    let q : expr_text names (one m (cast kinds.U8) e) ++ rest ≡ reserved_text w.U8 ++ (40 ∷ (expr_text names e ++ (41 ∷ rest))) = simp append_assoc in
-    let whole : Read r.Primary primary_of Plain (one m (cast kinds.U8) e) s n place (reserved_text w.U8 ++ (40 ∷ (expr_text names e ++ (41 ∷ rest)))) rest = record {
-      tree = node (there (there (there (there (there (there (there (there (there (there (there (there (there (there (there (there (there (there (here (node (pair (node (there (here (leaf (token (reserved_text w.U8) (classes.Reserved w.U8) k.at))))) (pair (leaf (token (40 ∷ []) (classes.Symbol LeftParen) t.at)) (pair (t.tree) (pair (leaf (token (41 ∷ []) (classes.Symbol RightParen) c.at)) empty))))))))))))))))))))))));
+    let q : expr_text names (one m (cast kinds.I16) e) ++ rest ≡ reserved_text w.I16 ++ (40 ∷ (expr_text names e ++ (41 ∷ rest))) = simp append_assoc in
+    let whole : Read r.Primary primary_of Plain (one m (cast kinds.I16) e) s n place (reserved_text w.I16 ++ (40 ∷ (expr_text names e ++ (41 ∷ rest)))) rest = record {
+      tree = node (there (there (there (there (there (there (there (there (there (there (there (there (there (there (there (there (there (there (here (node (pair (node (there (here (leaf (token (reserved_text w.I16) (classes.Reserved w.I16) k.at))))) (pair (leaf (token (40 ∷ []) (classes.Symbol LeftParen) t.at)) (pair (t.tree) (pair (leaf (token (41 ∷ []) (classes.Symbol RightParen) c.at)) empty))))))))))))))))))))))));
       here = c.here;
       is_of = ((((((((((((((((((((refl, refl), (refl, (t.is_of, (refl, tt)))), refl), refl), refl), refl), refl), refl), refl), refl), refl), refl), refl), refl), refl), refl), refl), refl), refl), refl);
       begins = join place _ _ _ k.here (40 ∷ (expr_text names e ++ (41 ∷ rest))) c.here rest k.begins (join _ _ _ _ t.here (41 ∷ rest) c.here rest t.begins c.begins);
-      same = (λ j. one blank_at (cast kinds.U8) (t.same j));
+      same = (λ j. one blank_at (cast kinds.I16) (t.same j));
       grows = t.grows;
       opens = (record { unlet = record { fair = record { iter = refl; zip = refl; bars = refl; bar = refl }; unlet = refl }; minus = refl; bang = refl });
     } in
@@ -523,6 +523,66 @@ cast_reads names m kinds.I64 e h x s n a i place rest st =
       is_of = ((((((((((((((((((((((refl, refl), refl), refl), (refl, (t.is_of, (refl, tt)))), refl), refl), refl), refl), refl), refl), refl), refl), refl), refl), refl), refl), refl), refl), refl), refl), refl), refl);
       begins = join place _ _ _ k.here (40 ∷ (expr_text names e ++ (41 ∷ rest))) c.here rest k.begins (join _ _ _ _ t.here (41 ∷ rest) c.here rest t.begins c.begins);
       same = (λ j. one blank_at (cast kinds.I64) (t.same j));
+      grows = t.grows;
+      opens = (record { unlet = record { fair = record { iter = refl; zip = refl; bars = refl; bar = refl }; unlet = refl }; minus = refl; bang = refl });
+    } in
+    repost q (primary_as_post whole (λ h. refl) refl)
+cast_reads names m kinds.U8 e h x s n a i place rest st =
+    let k = one_token place (reserved_lexeme w.U8 (40 ∷ (expr_text names e ++ (41 ∷ rest))) refl) in
+    let t = first_arg names e x s n a i k.here (41 ∷ rest) refl in
+    let c = one_token t.here (right_paren rest) in
+    let q : expr_text names (one m (cast kinds.U8) e) ++ rest ≡ reserved_text w.U8 ++ (40 ∷ (expr_text names e ++ (41 ∷ rest))) = simp append_assoc in
+    let whole : Read r.Primary primary_of Plain (one m (cast kinds.U8) e) s n place (reserved_text w.U8 ++ (40 ∷ (expr_text names e ++ (41 ∷ rest)))) rest = record {
+      tree = node (there (there (there (there (there (there (there (there (there (there (there (there (there (there (there (there (there (there (here (node (pair (node (there (there (there (there (here (leaf (token (reserved_text w.U8) (classes.Reserved w.U8) k.at)))))))) (pair (leaf (token (40 ∷ []) (classes.Symbol LeftParen) t.at)) (pair (t.tree) (pair (leaf (token (41 ∷ []) (classes.Symbol RightParen) c.at)) empty))))))))))))))))))))))));
+      here = c.here;
+      is_of = (((((((((((((((((((((((refl, refl), refl), refl), refl), (refl, (t.is_of, (refl, tt)))), refl), refl), refl), refl), refl), refl), refl), refl), refl), refl), refl), refl), refl), refl), refl), refl), refl), refl);
+      begins = join place _ _ _ k.here (40 ∷ (expr_text names e ++ (41 ∷ rest))) c.here rest k.begins (join _ _ _ _ t.here (41 ∷ rest) c.here rest t.begins c.begins);
+      same = (λ j. one blank_at (cast kinds.U8) (t.same j));
+      grows = t.grows;
+      opens = (record { unlet = record { fair = record { iter = refl; zip = refl; bars = refl; bar = refl }; unlet = refl }; minus = refl; bang = refl });
+    } in
+    repost q (primary_as_post whole (λ h. refl) refl)
+cast_reads names m kinds.U16 e h x s n a i place rest st =
+    let k = one_token place (reserved_lexeme w.U16 (40 ∷ (expr_text names e ++ (41 ∷ rest))) refl) in
+    let t = first_arg names e x s n a i k.here (41 ∷ rest) refl in
+    let c = one_token t.here (right_paren rest) in
+    let q : expr_text names (one m (cast kinds.U16) e) ++ rest ≡ reserved_text w.U16 ++ (40 ∷ (expr_text names e ++ (41 ∷ rest))) = simp append_assoc in
+    let whole : Read r.Primary primary_of Plain (one m (cast kinds.U16) e) s n place (reserved_text w.U16 ++ (40 ∷ (expr_text names e ++ (41 ∷ rest)))) rest = record {
+      tree = node (there (there (there (there (there (there (there (there (there (there (there (there (there (there (there (there (there (there (here (node (pair (node (there (there (there (there (there (here (leaf (token (reserved_text w.U16) (classes.Reserved w.U16) k.at))))))))) (pair (leaf (token (40 ∷ []) (classes.Symbol LeftParen) t.at)) (pair (t.tree) (pair (leaf (token (41 ∷ []) (classes.Symbol RightParen) c.at)) empty))))))))))))))))))))))));
+      here = c.here;
+      is_of = ((((((((((((((((((((((((refl, refl), refl), refl), refl), refl), (refl, (t.is_of, (refl, tt)))), refl), refl), refl), refl), refl), refl), refl), refl), refl), refl), refl), refl), refl), refl), refl), refl), refl), refl);
+      begins = join place _ _ _ k.here (40 ∷ (expr_text names e ++ (41 ∷ rest))) c.here rest k.begins (join _ _ _ _ t.here (41 ∷ rest) c.here rest t.begins c.begins);
+      same = (λ j. one blank_at (cast kinds.U16) (t.same j));
+      grows = t.grows;
+      opens = (record { unlet = record { fair = record { iter = refl; zip = refl; bars = refl; bar = refl }; unlet = refl }; minus = refl; bang = refl });
+    } in
+    repost q (primary_as_post whole (λ h. refl) refl)
+cast_reads names m kinds.U32 e h x s n a i place rest st =
+    let k = one_token place (reserved_lexeme w.U32 (40 ∷ (expr_text names e ++ (41 ∷ rest))) refl) in
+    let t = first_arg names e x s n a i k.here (41 ∷ rest) refl in
+    let c = one_token t.here (right_paren rest) in
+    let q : expr_text names (one m (cast kinds.U32) e) ++ rest ≡ reserved_text w.U32 ++ (40 ∷ (expr_text names e ++ (41 ∷ rest))) = simp append_assoc in
+    let whole : Read r.Primary primary_of Plain (one m (cast kinds.U32) e) s n place (reserved_text w.U32 ++ (40 ∷ (expr_text names e ++ (41 ∷ rest)))) rest = record {
+      tree = node (there (there (there (there (there (there (there (there (there (there (there (there (there (there (there (there (there (there (here (node (pair (node (there (there (there (there (there (there (here (leaf (token (reserved_text w.U32) (classes.Reserved w.U32) k.at)))))))))) (pair (leaf (token (40 ∷ []) (classes.Symbol LeftParen) t.at)) (pair (t.tree) (pair (leaf (token (41 ∷ []) (classes.Symbol RightParen) c.at)) empty))))))))))))))))))))))));
+      here = c.here;
+      is_of = (((((((((((((((((((((((((refl, refl), refl), refl), refl), refl), refl), (refl, (t.is_of, (refl, tt)))), refl), refl), refl), refl), refl), refl), refl), refl), refl), refl), refl), refl), refl), refl), refl), refl), refl), refl);
+      begins = join place _ _ _ k.here (40 ∷ (expr_text names e ++ (41 ∷ rest))) c.here rest k.begins (join _ _ _ _ t.here (41 ∷ rest) c.here rest t.begins c.begins);
+      same = (λ j. one blank_at (cast kinds.U32) (t.same j));
+      grows = t.grows;
+      opens = (record { unlet = record { fair = record { iter = refl; zip = refl; bars = refl; bar = refl }; unlet = refl }; minus = refl; bang = refl });
+    } in
+    repost q (primary_as_post whole (λ h. refl) refl)
+cast_reads names m kinds.U64 e h x s n a i place rest st =
+    let k = one_token place (reserved_lexeme w.U64 (40 ∷ (expr_text names e ++ (41 ∷ rest))) refl) in
+    let t = first_arg names e x s n a i k.here (41 ∷ rest) refl in
+    let c = one_token t.here (right_paren rest) in
+    let q : expr_text names (one m (cast kinds.U64) e) ++ rest ≡ reserved_text w.U64 ++ (40 ∷ (expr_text names e ++ (41 ∷ rest))) = simp append_assoc in
+    let whole : Read r.Primary primary_of Plain (one m (cast kinds.U64) e) s n place (reserved_text w.U64 ++ (40 ∷ (expr_text names e ++ (41 ∷ rest)))) rest = record {
+      tree = node (there (there (there (there (there (there (there (there (there (there (there (there (there (there (there (there (there (there (here (node (pair (node (there (there (there (there (there (there (there (here (leaf (token (reserved_text w.U64) (classes.Reserved w.U64) k.at))))))))))) (pair (leaf (token (40 ∷ []) (classes.Symbol LeftParen) t.at)) (pair (t.tree) (pair (leaf (token (41 ∷ []) (classes.Symbol RightParen) c.at)) empty))))))))))))))))))))))));
+      here = c.here;
+      is_of = ((((((((((((((((((((((((((refl, refl), refl), refl), refl), refl), refl), refl), (refl, (t.is_of, (refl, tt)))), refl), refl), refl), refl), refl), refl), refl), refl), refl), refl), refl), refl), refl), refl), refl), refl), refl), refl);
+      begins = join place _ _ _ k.here (40 ∷ (expr_text names e ++ (41 ∷ rest))) c.here rest k.begins (join _ _ _ _ t.here (41 ∷ rest) c.here rest t.begins c.begins);
+      same = (λ j. one blank_at (cast kinds.U64) (t.same j));
       grows = t.grows;
       opens = (record { unlet = record { fair = record { iter = refl; zip = refl; bars = refl; bar = refl }; unlet = refl }; minus = refl; bang = refl });
     } in

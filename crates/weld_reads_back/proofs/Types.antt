@@ -74,9 +74,13 @@ reads_op ops.Max place rest s = let t = one_token place (reserved_lexeme w.Max r
 reads_kind : (k : Kind) → Reads (scalar k)
 reads_kind kinds.Bool place rest s = let t = one_token place (reserved_lexeme w.Bool rest s) in record { tree = node (here (node (here (leaf (token (reserved_text w.Bool) (classes.Reserved w.Bool) t.at))))); some = tt; here = t.here; is_of = refl; value = refl; begins = t.begins }
 reads_kind kinds.I8 place rest s = let t = one_token place (reserved_lexeme w.I8 rest s) in record { tree = node (here (node (there (here (node (here (leaf (token (reserved_text w.I8) (classes.Reserved w.I8) t.at)))))))); some = tt; here = t.here; is_of = (refl, refl); value = refl; begins = t.begins }
-reads_kind kinds.U8 place rest s = let t = one_token place (reserved_lexeme w.U8 rest s) in record { tree = node (here (node (there (here (node (there (here (leaf (token (reserved_text w.U8) (classes.Reserved w.U8) t.at))))))))); some = tt; here = t.here; is_of = ((refl, refl), refl); value = refl; begins = t.begins }
+reads_kind kinds.I16 place rest s = let t = one_token place (reserved_lexeme w.I16 rest s) in record { tree = node (here (node (there (here (node (there (here (leaf (token (reserved_text w.I16) (classes.Reserved w.I16) t.at))))))))); some = tt; here = t.here; is_of = ((refl, refl), refl); value = refl; begins = t.begins }
 reads_kind kinds.I32 place rest s = let t = one_token place (reserved_lexeme w.I32 rest s) in record { tree = node (here (node (there (here (node (there (there (here (leaf (token (reserved_text w.I32) (classes.Reserved w.I32) t.at)))))))))); some = tt; here = t.here; is_of = (((refl, refl), refl), refl); value = refl; begins = t.begins }
 reads_kind kinds.I64 place rest s = let t = one_token place (reserved_lexeme w.I64 rest s) in record { tree = node (here (node (there (here (node (there (there (there (here (leaf (token (reserved_text w.I64) (classes.Reserved w.I64) t.at))))))))))); some = tt; here = t.here; is_of = ((((refl, refl), refl), refl), refl); value = refl; begins = t.begins }
+reads_kind kinds.U8 place rest s = let t = one_token place (reserved_lexeme w.U8 rest s) in record { tree = node (here (node (there (here (node (there (there (there (there (here (leaf (token (reserved_text w.U8) (classes.Reserved w.U8) t.at)))))))))))); some = tt; here = t.here; is_of = (((((refl, refl), refl), refl), refl), refl); value = refl; begins = t.begins }
+reads_kind kinds.U16 place rest s = let t = one_token place (reserved_lexeme w.U16 rest s) in record { tree = node (here (node (there (here (node (there (there (there (there (there (here (leaf (token (reserved_text w.U16) (classes.Reserved w.U16) t.at))))))))))))); some = tt; here = t.here; is_of = ((((((refl, refl), refl), refl), refl), refl), refl); value = refl; begins = t.begins }
+reads_kind kinds.U32 place rest s = let t = one_token place (reserved_lexeme w.U32 rest s) in record { tree = node (here (node (there (here (node (there (there (there (there (there (there (here (leaf (token (reserved_text w.U32) (classes.Reserved w.U32) t.at)))))))))))))); some = tt; here = t.here; is_of = (((((((refl, refl), refl), refl), refl), refl), refl), refl); value = refl; begins = t.begins }
+reads_kind kinds.U64 place rest s = let t = one_token place (reserved_lexeme w.U64 rest s) in record { tree = node (here (node (there (here (node (there (there (there (there (there (there (there (here (leaf (token (reserved_text w.U64) (classes.Reserved w.U64) t.at))))))))))))))); some = tt; here = t.here; is_of = ((((((((refl, refl), refl), refl), refl), refl), refl), refl), refl); value = refl; begins = t.begins }
 
 -- a word and a type in brackets
 pub record InBrackets (word : Reserved) (t : TypeTree) (place : Place) (text rest : List ℕ) : Type 0 where

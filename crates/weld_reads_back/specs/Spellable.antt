@@ -2,7 +2,7 @@
 use Rattle.std.specs.Prelude.{ℕ, ◌<◌, ◌^◌, Option, Some, None, List, [], ◌∷◌}
 use Rattle.std.specs.List.{AllByRecursion}
 use Rattle.weld_data.specs.declared.kind.Kind.{Kind}
-use Rattle.weld_data.specs.declared.kind.Kind.TheVariants.{Bool, I8, U8, I32, I64}
+use Rattle.weld_data.specs.declared.kind.Kind.TheVariants.{Bool, I8, I16, I32, I64, U8, U16, U32, U64}
 use Rattle.weld_tree.specs.ExprTree.{ExprTree, leaf, one, two, three, many, let_in, loop, iterate, ExprTrees, no_exprs, more_exprs, LegTree, whole, strided, LegTrees, no_legs, more_legs, Leaf, int, truth, chars, name, fresh, One, neg, not, cast, len, field, finish, started}
 use Rattle.weld_tree.specs.Program.{ProgramTree}
 use Rattle.weld_tree.specs.TypeTree.{TypeTree, BuildTree, TypeTrees, scalar, vec, struct, dict, build, list, total, keyed, cells, groups, no_types, more_types}
@@ -37,9 +37,13 @@ AreBytes (b ∷ bs) = (b < 256) × AreBytes bs
 abbrev pub IsWritten : Kind → Type 0
 IsWritten Bool = ⊥
 IsWritten I8 = ⊥
-IsWritten U8 = ⊥
+IsWritten I16 = ⊥
 IsWritten I32 = Unit {0}
 IsWritten I64 = Unit {0}
+IsWritten U8 = ⊥
+IsWritten U16 = ⊥
+IsWritten U32 = ⊥
+IsWritten U64 = ⊥
 
 abbrev pub LeafIsSpellable : Leaf → Type 0
 LeafIsSpellable (int k x) = IsWritten k

@@ -24,9 +24,13 @@ use Rattle.weld_reduce.proofs.Tokens.{Told, sign_told, fixed_told, front, itself
 
 pub told_int_kind : (t : Tree Token) → Good false (item (OfRule r.IntKind)) t → Told (item (OfRule r.IntKind)) t kind_of_word (int_kind_of t)
 told_int_kind (node (here t)) g = let d = fixed_told w.I8 t kind_of_word (λ x st. refl) g in record { is = d.is; only = d.only; says = d.says; does = λ st. opened (first (d.does st)) (λ z. refl) }
-told_int_kind (node (there (here t))) g = let d = fixed_told w.U8 t kind_of_word (λ x st. refl) g in record { is = d.is; only = d.only; says = d.says; does = λ st. opened (later (first (d.does st))) (λ z. refl) }
+told_int_kind (node (there (here t))) g = let d = fixed_told w.I16 t kind_of_word (λ x st. refl) g in record { is = d.is; only = d.only; says = d.says; does = λ st. opened (later (first (d.does st))) (λ z. refl) }
 told_int_kind (node (there (there (here t)))) g = let d = fixed_told w.I32 t kind_of_word (λ x st. refl) g in record { is = d.is; only = d.only; says = d.says; does = λ st. opened (later (later (first (d.does st)))) (λ z. refl) }
 told_int_kind (node (there (there (there (here t))))) g = let d = fixed_told w.I64 t kind_of_word (λ x st. refl) g in record { is = d.is; only = d.only; says = d.says; does = λ st. opened (later (later (later (first (d.does st))))) (λ z. refl) }
+told_int_kind (node (there (there (there (there (here t)))))) g = let d = fixed_told w.U8 t kind_of_word (λ x st. refl) g in record { is = d.is; only = d.only; says = d.says; does = λ st. opened (later (later (later (later (first (d.does st)))))) (λ z. refl) }
+told_int_kind (node (there (there (there (there (there (here t))))))) g = let d = fixed_told w.U16 t kind_of_word (λ x st. refl) g in record { is = d.is; only = d.only; says = d.says; does = λ st. opened (later (later (later (later (later (first (d.does st))))))) (λ z. refl) }
+told_int_kind (node (there (there (there (there (there (there (here t)))))))) g = let d = fixed_told w.U32 t kind_of_word (λ x st. refl) g in record { is = d.is; only = d.only; says = d.says; does = λ st. opened (later (later (later (later (later (later (first (d.does st)))))))) (λ z. refl) }
+told_int_kind (node (there (there (there (there (there (there (there (here t))))))))) g = let d = fixed_told w.U64 t kind_of_word (λ x st. refl) g in record { is = d.is; only = d.only; says = d.says; does = λ st. opened (later (later (later (later (later (later (later (first (d.does st))))))))) (λ z. refl) }
 told_int_kind _ g = absurd g
 
 told_kind : (t : Tree Token) → Good false (item (OfRule r.Kind)) t → Told (item (OfRule r.Kind)) t kind_of_word (kind_of t)

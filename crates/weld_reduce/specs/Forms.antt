@@ -61,9 +61,13 @@ merge_op _ = merge_ops.Max
 -- a kind's word
 abbrev pub kind_of_word : Class → Kind
 kind_of_word (classes.Reserved w.I8) = kinds.I8
-kind_of_word (classes.Reserved w.U8) = kinds.U8
+kind_of_word (classes.Reserved w.I16) = kinds.I16
 kind_of_word (classes.Reserved w.I32) = kinds.I32
 kind_of_word (classes.Reserved w.I64) = kinds.I64
+kind_of_word (classes.Reserved w.U8) = kinds.U8
+kind_of_word (classes.Reserved w.U16) = kinds.U16
+kind_of_word (classes.Reserved w.U32) = kinds.U32
+kind_of_word (classes.Reserved w.U64) = kinds.U64
 kind_of_word _ = kinds.Bool
 
 -- ---- expressions

@@ -21,9 +21,13 @@ pub fn kind_of_word(class: Class) -> Kind
 {
     match class {
         Class::Reserved(Reserved::I8) => Kind::I8,
-        Class::Reserved(Reserved::U8) => Kind::U8,
+        Class::Reserved(Reserved::I16) => Kind::I16,
         Class::Reserved(Reserved::I32) => Kind::I32,
         Class::Reserved(Reserved::I64) => Kind::I64,
+        Class::Reserved(Reserved::U8) => Kind::U8,
+        Class::Reserved(Reserved::U16) => Kind::U16,
+        Class::Reserved(Reserved::U32) => Kind::U32,
+        Class::Reserved(Reserved::U64) => Kind::U64,
         _ => Kind::Bool,
     }
 }

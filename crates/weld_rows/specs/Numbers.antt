@@ -12,6 +12,7 @@ use Rattle.weld_tree.specs.ExprTree.{ExprTree, leaf, one, two, three, many, let_
 use Rattle.weld_data.specs.Order.{IsNumber}
 use Rattle.weld_meaning.specs.Thing.{Thing, plain, building, several}
 use Rattle.weld_eval.specs.ShortView.{view_short}
+use Rattle.weld_eval.specs.Word.{of_word}
 use Rattle.weld_eval.specs.declared.short.Short.{Short}
 
 -- the number as a thing
@@ -28,9 +29,9 @@ abbrev pub ReadsPair : Option (Short × Short) → Outcome Thing → Type 0
 ReadsPair (Some p) o = o ≡ done (plain (pair (view_short p.0) (view_short p.1)))
 ReadsPair None o = Unit {0}
 
--- the number, of which the kind is answered and the value is left in its place
+-- the number, of which the kind is answered and the word is left in its place
 abbrev pub AnswersKind : Result Kind Stop → ℤ → Outcome Thing → Type 0
-AnswersKind (Ok k) x o = InRange k x × (o ≡ done (plain (number k x)))
+AnswersKind (Ok k) x o = InRange k (of_word k x) × (o ≡ done (plain (number k (of_word k x))))
 AnswersKind (Err Fault) x o = o ≡ fault
 AnswersKind (Err Memory) x o = Unit {0}
 

@@ -30,7 +30,7 @@ use crate::forms::{
 use crate::reads::{leaf_number, leaf_pair};
 use std::alloc::Global;
 use weld_blocks::block_of;
-use weld_blocks::puts::{put_held, put_number, put_pair};
+use weld_blocks::puts::{put_held, put_number, put_two};
 use weld_blocks::scalar::{operated, truth_of, whole_number};
 use weld_data::{Kind, Stop};
 use weld_eval::forms::{leaf, number as number_held};
@@ -64,14 +64,14 @@ fn unread(e: &Expr, frame: &Frame, alloc: Global) -> Result<Short, Stop>
     requires { RunsNumber e.now (env_of frame.now) }
     ensures { Answers number_thing result (eval_of e.now (env_of frame.now)) }
 {
-    let mut value = 0;
-    match compound(e, frame, &mut value, alloc) {
-        Ok(kind) => Ok(Short { kind, value }),
+    let mut word = 0;
+    match compound(e, frame, &mut word, alloc) {
+        Ok(kind) => Ok(Short { kind, word }),
         Err(stop) => Err(stop),
     }
 }
 
-/// The same, the number's kind and its value apart: so a call hands both on in registers.
+/// The same, the number's kind and its word apart: so a call hands both on in registers.
 #[cycle(rows)]
 fn compound(e: &Expr, frame: &Frame, into: &mut i64, alloc: Global) -> Result<Kind, Stop>
     requires { RunsNumber e.now (env_of frame.now) }
@@ -79,7 +79,7 @@ fn compound(e: &Expr, frame: &Frame, into: &mut i64, alloc: Global) -> Result<Ki
 {
     match chosen(e, frame, alloc) {
         Ok(n) => {
-            *into = n.value;
+            *into = n.word;
             Ok(n.kind)
         }
         Err(stop) => Err(stop),
@@ -722,7 +722,7 @@ fn put_other(item: &Expr, frame: &Frame, builder: &mut Owned, alloc: Global) -> 
     ensures { Acts result (merged (thing_of builder.old) (eval_of item.now (env_of frame.now))) (thing_of builder.new) }
 {
     match leaf_pair(item, frame) {
-        Some(found) => put_pair(builder, found.0, found.1),
+        Some(found) => put_two(builder, found.0, found.1, alloc),
         None => put_compound(item, frame, builder, alloc),
     }
 }
@@ -776,7 +776,7 @@ fn put_written(item: &Expr, frame: &Frame, builder: &mut Owned, alloc: Global) -
                 Err(stop) => return Err(stop),
             };
             match (key, x) {
-                (Some(key), Some(x)) => put_pair(builder, key, x),
+                (Some(key), Some(x)) => put_two(builder, key, x, alloc),
                 _ => put_made(item, frame, builder, alloc),
             }
         }

@@ -1,20 +1,21 @@
 -- Outcomes that are no fault.
-use Rattle.std.proofs.Common.{◌≡◌, ℕ, zero, suc, ℤ, Bool, true, false, ◌∷◌, [], Option, Some, None, option_map, if◌then◌else◌, refl}
+use Rattle.std.proofs.Common.{◌≡◌, ℕ, zero, suc, ℤ, Bool, true, false, List, ◌∷◌, [], Option, Some, None, option_map, if◌then◌else◌, refl}
 use Rattle.weld_data.specs.declared.kind.Kind.{Kind}
 use Rattle.weld_data.specs.declared.kind.Kind.TheVariants as kinds
 use Rattle.weld_data.specs.declared.op.BinOp.{BinOp}
+use Rattle.weld_data.specs.declared.op.MergeOp.{MergeOp}
 use Rattle.weld_data.specs.declared.op.BinOp.TheVariants as op
 use Rattle.weld_data.specs.Operation.{operation, answer_kind, combination}
 use Rattle.weld_data.specs.Lookup.{same_kind}
 use Rattle.weld_data.specs.Value.{Value, number, list, struct, dict, Values, no_values, and_value}
-use Rattle.weld_tree.specs.TypeTree.{TypeTree, BuildTree, scalar, vec, struct as tuple, dict as mapping, build, list as list_type, total, keyed, cells, groups}
+use Rattle.weld_tree.specs.TypeTree.{TypeTree, BuildTree, TypeTrees, no_types, more_types, scalar, vec, struct as tuple, dict as mapping, build, list as list_type, total, keyed, cells, groups}
 use Rattle.weld_tree.specs.ExprTree.{Leaf, int, truth, chars, name, fresh, One, neg, not as not_of, cast, len, field, finish, started, binary, and, or, key_exists, Three, if_else, select, slice, Many, make_vec, make_struct}
 use Rattle.weld_builders.specs.Outcome.{Outcome, done, fault, stuck, and_then, map_out, or_fault}
-use Rattle.weld_builders.specs.Part.{Part, list_part, total_part, cells_part, keyed_part, groups_part, BuilderForm, list_builder, total_builder, cells_builder, keyed_builder, groups_builder, start, merge_part, merge_key, combined, appended, as_number, as_numbers, as_number_list, as_pair, as_pair_of}
+use Rattle.weld_builders.specs.Part.{Part, Totals, list_part, total_part, totals_part, as_fields, merge_totals, with_kinds, cells_part, keyed_part, groups_part, BuilderForm, list_builder, total_builder, totals_builder, cells_builder, keyed_builder, groups_builder, start, merge_part, merge_key, combined, appended, as_number, as_numbers, as_number_list, as_pair, as_pair_of}
 use Rattle.weld_meaning.specs.Environment.{look_for}
 use Rattle.weld_meaning.specs.Thing.{Thing, plain, building, several, Things, no_things, more_things, as_value, as_values, thing_at, value_at, value_field, field_of}
 use Rattle.weld_meaning.specs.ThingType.{HasThing, HasPart}
-use Rattle.weld_meaning.specs.Evaluation.{Env, truth_of, elements_of, negated, contrary, cast_to, length_of, operated, has_key, value_out, on_value, on_values, chosen, kind_of, builder_form, started_builder, merged, finished, found, leaf_thing, one_thing, two_thing, three_thing, many_thing, selected}
+use Rattle.weld_meaning.specs.Evaluation.{Env, truth_of, elements_of, negated, contrary, cast_to, length_of, operated, has_key, value_out, on_value, on_values, chosen, kind_of, kinds_in, builder_form, started_builder, merged, finished, found, leaf_thing, one_thing, two_thing, three_thing, many_thing, selected}
 use Rattle.weld_safe.specs.Safe.{OperatorIsSafe, BuilderIsSafe, ThreeIsSafe}
 
 -- it isn't a fault
@@ -50,9 +51,13 @@ value_out_clean o h = then_clean o as_value h (λ t e. as_value_clean t)
 truth_clean : (v : Value) → IsNoFault (truth_of v)
 truth_clean (number kinds.Bool x) = tt
 truth_clean (number kinds.I8 x) = tt
-truth_clean (number kinds.U8 x) = tt
+truth_clean (number kinds.I16 x) = tt
 truth_clean (number kinds.I32 x) = tt
 truth_clean (number kinds.I64 x) = tt
+truth_clean (number kinds.U8 x) = tt
+truth_clean (number kinds.U16 x) = tt
+truth_clean (number kinds.U32 x) = tt
+truth_clean (number kinds.U64 x) = tt
 truth_clean (list vs) = tt
 truth_clean (struct vs) = tt
 truth_clean (dict es) = tt
@@ -170,18 +175,47 @@ kind_clean (tuple ts) = tt
 kind_clean (mapping k v) = tt
 kind_clean (build b) = tt
 
+kinds_in_clean : (ts : TypeTrees) → IsNoFault (kinds_in ts)
+kinds_in_clean no_types = tt
+kinds_in_clean (more_types t ts) =
+    then_clean (kind_of t) _ (kind_clean t) (λ k e. map_clean (λ ks. k ∷ ks) (kinds_in ts) (kinds_in_clean ts))
+
 form_clean : (b : BuildTree) → IsNoFault (builder_form b)
 form_clean (list_type t) = tt
-form_clean (total t o) = map_clean (total_builder o) (kind_of t) (kind_clean t)
+form_clean (total (scalar k) o) = tt
+form_clean (total (vec t) o) = tt
+form_clean (total (tuple ts) o) = map_clean (totals_builder o) (kinds_in ts) (kinds_in_clean ts)
+form_clean (total (mapping k v) o) = tt
+form_clean (total (build b) o) = tt
 form_clean (keyed k v o) = map_clean (keyed_builder o) (kind_of v) (kind_clean v)
 form_clean (cells t o) = map_clean (cells_builder o) (kind_of t) (kind_clean t)
 form_clean (groups k v) = tt
+
+fields_clean : (v : Value) → IsNoFault (as_fields v)
+fields_clean (number k x) = tt
+fields_clean (list vs) = tt
+fields_clean (struct vs) = numbers_clean vs
+fields_clean (dict es) = tt
+
+kinds_clean : (ks : List Kind) (xs : List ℤ) → IsNoFault (with_kinds ks xs)
+kinds_clean [] [] = tt
+kinds_clean [] (x ∷ xs) = tt
+kinds_clean (k ∷ ks) [] = tt
+kinds_clean (k ∷ ks) (x ∷ xs) = map_clean _ (with_kinds ks xs) (kinds_clean ks xs)
+
+totals_clean : (o : MergeOp) (xs : Totals) (ys : List ℤ) → IsNoFault (merge_totals o xs ys)
+totals_clean o [] [] = tt
+totals_clean o [] (y ∷ ys) = tt
+totals_clean o (x ∷ xs) [] = tt
+totals_clean o (x ∷ xs) (y ∷ ys) = map_clean _ (merge_totals o xs ys) (totals_clean o xs ys)
 
 start_clean : (f : BuilderForm) (v : Option Value) → IsNoFault (start f v)
 start_clean list_builder None = tt
 start_clean list_builder (Some v) = tt
 start_clean (total_builder o k) None = tt
 start_clean (total_builder o k) (Some v) = map_clean (total_part o k) (as_number v) (number_clean v)
+start_clean (totals_builder o ks) None = tt
+start_clean (totals_builder o ks) (Some v) = map_clean (totals_part o) (and_then (as_fields v) (with_kinds ks)) (then_clean (as_fields v) (with_kinds ks) (fields_clean v) (λ xs e. kinds_clean ks xs))
 start_clean (cells_builder o k) None = tt
 start_clean (cells_builder o k) (Some v) = map_clean (cells_part o k) (as_number_list v) (number_list_clean v)
 start_clean (keyed_builder o k) None = tt
@@ -196,6 +230,7 @@ started_clean b v = then_clean (builder_form b) (λ f. map_out building (start f
 merge_clean : (p : Part) (b : BuildTree) (v : Value) → HasPart p b → BuilderIsSafe b → IsNoFault (merge_part p v)
 merge_clean (list_part vs) b v h s = tt
 merge_clean (total_part o k x) b v h s = map_clean (λ y. total_part o k (combination o k x y)) (as_number v) (number_clean v)
+merge_clean (totals_part o xs) b v h s = then_clean (as_fields v) _ (fields_clean v) (λ ys e. map_clean (totals_part o) (merge_totals o xs ys) (totals_clean o xs ys))
 merge_clean (cells_part o k xs) (list_type t) v h s = absurd h
 merge_clean (cells_part o k xs) (total t op) v h s = absurd h
 merge_clean (cells_part o k xs) (keyed m t op) v h s = absurd h

@@ -2,10 +2,10 @@
 use Rattle.std.proofs.Common.{◌≤◌, ◌<◌, ◌⊎◌, inl, inr, arith}
 use Rattle.std.proofs.lemmas.Bool.{cases_lt}
 use Rattle.weld_data.specs.declared.kind.Kind.{Kind}
-use Rattle.weld_data.specs.declared.kind.Kind.TheVariants.{Bool, I8, U8, I32, I64}
+use Rattle.weld_data.specs.declared.kind.Kind.TheVariants.{Bool, I8, I16, I32, I64, U8, U16, U32, U64}
 use Rattle.weld_data.specs.Kind.{IsInteger}
 use Rattle.weld_tree.specs.TypeTree.{TypeTree, BuildTree, TypeTrees, scalar, vec, struct, dict, build, list, total, keyed, cells, groups, no_types, more_types, type_nodes, type_depth}
-use Rattle.weld_tree.specs.Types.{IsBuilderFree, AreBuilderFree, IsBuilder, AreBuilders, IsScalarType, IsIntegerType, IsKeyField, AreKeyFields, HasTypes, IsKey, IsWellFormed, IsWellFormedBuild, AreWellFormed, IsWithinLimits}
+use Rattle.weld_tree.specs.Types.{IsBuilderFree, AreBuilderFree, IsBuilder, AreBuilders, IsScalarType, IsIntegerType, AreIntegerTypes, IsMergerType, IsKeyField, AreKeyFields, HasTypes, IsKey, IsWellFormed, IsWellFormedBuild, AreWellFormed, IsWithinLimits}
 use Rattle.weld_calls.specs.CallTypes.{IsValueType}
 use Rattle.weld_table.specs.Table.{IsCell}
 
@@ -68,9 +68,13 @@ mutual
 integer_kind : (k : Kind) → Either (IsInteger k)
 integer_kind Bool = no
 integer_kind I8 = yes
-integer_kind U8 = yes
+integer_kind I16 = yes
 integer_kind I32 = yes
 integer_kind I64 = yes
+integer_kind U8 = yes
+integer_kind U16 = yes
+integer_kind U32 = yes
+integer_kind U64 = yes
 
 integer : (t : TypeTree) → Either (IsIntegerType t)
 integer (scalar k) = integer_kind k
@@ -108,6 +112,17 @@ key (struct ts) = both (HasTypes ts) (AreKeyFields ts) (some_types ts) (key_fiel
 key (dict k v) = no
 key (build b) = no
 
+integers : (ts : TypeTrees) → Either (AreIntegerTypes ts)
+integers no_types = yes
+integers (more_types t ts) = both (IsIntegerType t) (AreIntegerTypes ts) (integer t) (integers ts)
+
+mergeable : (t : TypeTree) → Either (IsMergerType t)
+mergeable (scalar k) = integer_kind k
+mergeable (vec t) = no
+mergeable (struct ts) = both (HasTypes ts) (AreIntegerTypes ts) (some_types ts) (integers ts)
+mergeable (dict k v) = no
+mergeable (build b) = no
+
 -- ---- well formed types
 
 mutual
@@ -122,7 +137,7 @@ mutual
 
   formed_build : (b : BuildTree) → Either (IsWellFormedBuild b)
   formed_build (list t) = both (IsWellFormed t) (IsBuilderFree t) (formed t) (free t)
-  formed_build (total t op) = integer t
+  formed_build (total t op) = mergeable t
   formed_build (keyed k v op) = both (IsKey k) (IsIntegerType v) (key k) (integer v)
   formed_build (cells t op) = integer t
   formed_build (groups k v) = all_three (IsKey k) (IsWellFormed v) (IsBuilderFree v) (key k) (formed v) (free v)

@@ -11,6 +11,7 @@ use Rattle.weld_pieces.specs.contracts.keyed.KeyedPart.TheInside as KeyedInside
 use Rattle.weld_pieces.specs.contracts.keyed.KeyedPart as KeyedPart
 use Rattle.weld_pieces.specs.contracts.keyed.KeyedMap as KeyedMap
 use Rattle.weld_pieces.specs.contracts.total.TotalPart as TotalPart
+use Rattle.weld_pieces.specs.contracts.totals.TotalsPart as TotalsPart
 use Rattle.weld_groups.specs.contracts.groups.GroupsPart as GroupsPart
 use Rattle.weld_groups.specs.contracts.groups.GroupsMap as GroupsMap
 use Rattle.weld_groups.specs.contracts.groups.GroupsPart.TheInside as GroupsInside
@@ -24,6 +25,7 @@ use Rattle.weld_eval.proofs.thing.Fields.TheLaws.TheKnot as FieldsKnot
 use Rattle.weld_built.specs.contracts.built.Built as Built
 use Rattle.weld_data.proofs.kind.Kind.TheSendSync as Kinds
 use Rattle.weld_data.proofs.op.MergeOp.TheSendSync as MergeOps
+use Rattle.weld_data.proofs.num.Num.TheSendSync as Nums
 use Rattle.weld_data.proofs.value.Pairs.TheLaws.TheKnot
 use Rattle.std.specs.contracts.result.Result as Result
 use Rattle.weld_data.specs.contracts.stop.Stop as Stop
@@ -65,13 +67,16 @@ groups_send =
 total_send : IsSend TotalPart.the_row
 total_send = search sendable depth 60 fits 100000
 
+totals_send : IsSend TotalsPart.the_row
+totals_send = search (Crossing.crosses, Nums.the_send, MergeOps.the_send, sendable) depth 60 fits 100000
+
 cells_send : IsSend CellsState.the_row
 cells_send = search (Crossing.crosses, sendable) depth 60 fits 100000
 
 state_send : IsSend State.the_row
 state_send =
     variants_send State.enum
-    ((total_send, tt), ((Globals.the_send, (list_send, tt)), ((cells_send, tt), ((Globals.the_send, (keyed_send, tt)), ((Globals.the_send, (groups_send, tt)), tt)))))
+    ((total_send, tt), ((Globals.the_send, (totals_send, tt)), ((Globals.the_send, (list_send, tt)), ((cells_send, tt), ((Globals.the_send, (keyed_send, tt)), ((Globals.the_send, (groups_send, tt)), tt))))))
 
 built_send : IsSend Built.the_row
 built_send = view_send _ _ _ _ _ (declared_send BuiltInside.the_type (state_send, tt))

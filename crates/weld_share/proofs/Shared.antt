@@ -13,6 +13,7 @@ use Rattle.weld_pieces.specs.contracts.keyed.KeyedPart.TheInside as KeyedInside
 use Rattle.weld_pieces.specs.contracts.keyed.KeyedPart as KeyedPart
 use Rattle.weld_pieces.specs.contracts.keyed.KeyedMap as KeyedMap
 use Rattle.weld_pieces.specs.contracts.total.TotalPart as TotalPart
+use Rattle.weld_pieces.specs.contracts.totals.TotalsPart as TotalsPart
 use Rattle.weld_groups.specs.contracts.groups.GroupsPart as GroupsPart
 use Rattle.weld_groups.specs.contracts.groups.GroupsMap as GroupsMap
 use Rattle.weld_groups.specs.contracts.groups.GroupsPart.TheInside as GroupsInside
@@ -87,13 +88,16 @@ groups_sync =
 total_sync : IsSync TotalPart.the_row
 total_sync = search sendable depth 60 fits 100000
 
+totals_sync : IsSync TotalsPart.the_row
+totals_sync = search (Crossing.crosses, Nums.the_sync, MergeOps.the_sync, sendable) depth 60 fits 100000
+
 cells_sync : IsSync CellsState.the_row
 cells_sync = search (Crossing.crosses, sendable) depth 60 fits 100000
 
 state_sync : IsSync State.the_row
 state_sync =
     variants_sync State.enum
-    ((total_sync, tt), ((Globals.the_sync, (list_sync, tt)), ((cells_sync, tt), ((Globals.the_sync, (keyed_sync, tt)), ((Globals.the_sync, (groups_sync, tt)), tt)))))
+    ((total_sync, tt), ((Globals.the_sync, (totals_sync, tt)), ((Globals.the_sync, (list_sync, tt)), ((cells_sync, tt), ((Globals.the_sync, (keyed_sync, tt)), ((Globals.the_sync, (groups_sync, tt)), tt))))))
 
 built_sync : IsSync Built.the_row
 built_sync = view_sync _ _ _ _ _ (declared_sync BuiltInside.the_type (state_sync, tt))

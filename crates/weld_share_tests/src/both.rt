@@ -14,7 +14,7 @@ use std::thread::Threads;
 use weld_data::{Stop, Val, Vals};
 use weld_exec_tests::prepared::{is_written, prepare};
 use weld_exec_tests::programs::{
-    ABOVE_LOOPS, BODIES, FAULTS, KEYS_AND_CELLS, SEVEN_ROWS, STEPS, TOTALS_AND_LISTS,
+    ABOVE_LOOPS, BODIES, FAULTS, KEYS_AND_CELLS, KINDS, SEVEN_ROWS, STEPS, TOTALS_AND_LISTS,
 };
 use weld_meaning::laws::typed_programs_are_never_stuck;
 use weld_plan::{Plan, make_plan};
@@ -106,6 +106,7 @@ fn both_ways_come_to_the_same(rt: HostRuntime) -> Result<(), Fail> {
     let alloc = rt.alloc();
     all_hold(&rt, alloc, &TOTALS_AND_LISTS)?;
     all_hold(&rt, alloc, &KEYS_AND_CELLS)?;
+    all_hold(&rt, alloc, &KINDS)?;
     all_hold(&rt, alloc, &BODIES)?;
     all_hold(&rt, alloc, &STEPS)?;
     all_hold(&rt, alloc, &ABOVE_LOOPS)?;

@@ -18,9 +18,13 @@ use Rattle.weld_sizes.specs.Sized.{is_that_name, is_merge}
 abbrev pub is_lane_kind : Kind → Bool
 is_lane_kind kinds.Bool = false
 is_lane_kind kinds.I8 = false
-is_lane_kind kinds.U8 = true
+is_lane_kind kinds.I16 = false
 is_lane_kind kinds.I32 = true
 is_lane_kind kinds.I64 = true
+is_lane_kind kinds.U8 = true
+is_lane_kind kinds.U16 = false
+is_lane_kind kinds.U32 = true
+is_lane_kind kinds.U64 = true
 
 -- the type is that of numbers of the kind
 abbrev pub is_number_type : Kind → TypeTree → Bool

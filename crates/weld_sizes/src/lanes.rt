@@ -57,8 +57,8 @@ fn is_lane_kind(kind: Kind) -> bool
     ensures { result ≡ is_lane_kind kind }
 {
     match kind {
-        Kind::Bool | Kind::I8 => false,
-        Kind::U8 | Kind::I32 | Kind::I64 => true,
+        Kind::Bool | Kind::I8 | Kind::I16 | Kind::U16 => false,
+        Kind::I32 | Kind::I64 | Kind::U8 | Kind::U32 | Kind::U64 => true,
     }
 }
 
@@ -67,8 +67,11 @@ fn is_same(kind: Kind, other: Kind) -> bool
     ensures { result ≡ same_kind kind other }
 {
     match (kind, other) {
-        (Kind::Bool, Kind::Bool) | (Kind::I8, Kind::I8) | (Kind::U8, Kind::U8) => true,
+        (Kind::Bool, Kind::Bool) => true,
+        (Kind::I8, Kind::I8) | (Kind::I16, Kind::I16) => true,
         (Kind::I32, Kind::I32) | (Kind::I64, Kind::I64) => true,
+        (Kind::U8, Kind::U8) | (Kind::U16, Kind::U16) => true,
+        (Kind::U32, Kind::U32) | (Kind::U64, Kind::U64) => true,
         _ => false,
     }
 }

@@ -175,9 +175,13 @@ bits8 x = to_z w8 (of_z w8 x)
 word_fits : (k : Kind) → bits8 (kind_word k) ≡ kind_word k
 word_fits kinds.Bool = to_z-of_z w8 (kind_word kinds.Bool) (omega (arith, ints))
 word_fits kinds.I8 = to_z-of_z w8 (kind_word kinds.I8) (omega (arith, ints))
-word_fits kinds.U8 = to_z-of_z w8 (kind_word kinds.U8) (omega (arith, ints))
+word_fits kinds.I16 = to_z-of_z w8 (kind_word kinds.I16) (omega (arith, ints))
 word_fits kinds.I32 = to_z-of_z w8 (kind_word kinds.I32) (omega (arith, ints))
 word_fits kinds.I64 = to_z-of_z w8 (kind_word kinds.I64) (omega (arith, ints))
+word_fits kinds.U8 = to_z-of_z w8 (kind_word kinds.U8) (omega (arith, ints))
+word_fits kinds.U16 = to_z-of_z w8 (kind_word kinds.U16) (omega (arith, ints))
+word_fits kinds.U32 = to_z-of_z w8 (kind_word kinds.U32) (omega (arith, ints))
+word_fits kinds.U64 = to_z-of_z w8 (kind_word kinds.U64) (omega (arith, ints))
 
 pub word_is : (k : Kind) (x : ℤ) → x ≡ kind_word k → bits8 x ≡ kind_word k
 word_is k x e = ap bits8 e ∙ word_fits k
@@ -221,12 +225,16 @@ arrays_cmp R f h xs ys ps qs vs ws o e p q v w =
 pub ints_order : (k : Kind) → IsOrderOf ℤ int_cmp (number k)
 ints_order kinds.Bool x y = numbers_cmp kinds.Bool kinds.Bool x y
 ints_order kinds.I8 x y = numbers_cmp kinds.I8 kinds.I8 x y
-ints_order kinds.U8 x y = numbers_cmp kinds.U8 kinds.U8 x y
+ints_order kinds.I16 x y = numbers_cmp kinds.I16 kinds.I16 x y
 ints_order kinds.I32 x y = numbers_cmp kinds.I32 kinds.I32 x y
 ints_order kinds.I64 x y = numbers_cmp kinds.I64 kinds.I64 x y
+ints_order kinds.U8 x y = numbers_cmp kinds.U8 kinds.U8 x y
+ints_order kinds.U16 x y = numbers_cmp kinds.U16 kinds.U16 x y
+ints_order kinds.U32 x y = numbers_cmp kinds.U32 kinds.U32 x y
+ints_order kinds.U64 x y = numbers_cmp kinds.U64 kinds.U64 x y
 
-pub nats_order : IsOrderOf ℕ nat_cmp (λ (n : ℕ). number kinds.U8 (pos n))
-nats_order m n = int_cmp_is (pos m) (pos n) (nat_cmp m n) (by (nat_cmp m n) (ranks m n)) ∙ ints_order kinds.U8 (pos m) (pos n)
+pub nats_order : (k : Kind) → IsOrderOf ℕ nat_cmp (λ (n : ℕ). number k (pos n))
+nats_order k m n = int_cmp_is (pos m) (pos n) (nat_cmp m n) (by (nat_cmp m n) (ranks m n)) ∙ ints_order k (pos m) (pos n)
   where
     by : (o : Ordering) → MatchOrdering o (m < n) (m ≡ n) (n < m) → MatchOrdering o (pos m <ℤ pos n) (pos m ≡ pos n) (pos n <ℤ pos m)
     by Less h = omega (arith, ints)

@@ -92,17 +92,25 @@ starts_stand (val.List (column.I8 xs)) (val.Num m) s t p q h g differ = absurd q
 starts_stand (val.List (column.I8 xs)) (val.Struct ys) s t p q h g differ = absurd q
 starts_stand (val.List (column.I8 xs)) (val.Dict ys) s t p q h g differ = absurd q
 starts_stand (val.List (column.I8 xs)) (val.List (column.Bool ys)) s t p q h g differ = absurd q
-starts_stand (val.List (column.I8 xs)) (val.List (column.U8 ys)) s t p q h g differ = absurd q
+starts_stand (val.List (column.I8 xs)) (val.List (column.I16 ys)) s t p q h g differ = absurd q
 starts_stand (val.List (column.I8 xs)) (val.List (column.I32 ys)) s t p q h g differ = absurd q
 starts_stand (val.List (column.I8 xs)) (val.List (column.I64 ys)) s t p q h g differ = absurd q
+starts_stand (val.List (column.I8 xs)) (val.List (column.U8 ys)) s t p q h g differ = absurd q
+starts_stand (val.List (column.I8 xs)) (val.List (column.U16 ys)) s t p q h g differ = absurd q
+starts_stand (val.List (column.I8 xs)) (val.List (column.U32 ys)) s t p q h g differ = absurd q
+starts_stand (val.List (column.I8 xs)) (val.List (column.U64 ys)) s t p q h g differ = absurd q
 starts_stand (val.List (column.I8 xs)) (val.List (column.Nest ys)) s t p q h g differ = absurd q
 starts_stand (val.Num m) b s t p q h g differ = absurd p
 starts_stand (val.Struct xs) b s t p q h g differ = absurd p
 starts_stand (val.Dict xs) b s t p q h g differ = absurd p
 starts_stand (val.List (column.Bool xs)) b s t p q h g differ = absurd p
-starts_stand (val.List (column.U8 xs)) b s t p q h g differ = absurd p
+starts_stand (val.List (column.I16 xs)) b s t p q h g differ = absurd p
 starts_stand (val.List (column.I32 xs)) b s t p q h g differ = absurd p
 starts_stand (val.List (column.I64 xs)) b s t p q h g differ = absurd p
+starts_stand (val.List (column.U8 xs)) b s t p q h g differ = absurd p
+starts_stand (val.List (column.U16 xs)) b s t p q h g differ = absurd p
+starts_stand (val.List (column.U32 xs)) b s t p q h g differ = absurd p
+starts_stand (val.List (column.U64 xs)) b s t p q h g differ = absurd p
 starts_stand (val.List (column.Nest xs)) b s t p q h g differ = absurd p
 
 -- ---- the number is made digit by digit

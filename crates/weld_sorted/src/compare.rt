@@ -73,9 +73,13 @@ fn word_of(kind: Kind) -> i8
     match kind {
         Kind::Bool => 0,
         Kind::I8 => 1,
-        Kind::U8 => 2,
+        Kind::I16 => 2,
         Kind::I32 => 3,
         Kind::I64 => 4,
+        Kind::U8 => 5,
+        Kind::U16 => 6,
+        Kind::U32 => 7,
+        Kind::U64 => 8,
     }
 }
 
@@ -89,9 +93,13 @@ fn compare_columns(a: &Column, b: &Column) -> Ordering
     match (a, b) {
         (Column::Bool(x), Column::Bool(y)) => x.as_slice().cmp(&y.as_slice()),
         (Column::I8(x), Column::I8(y)) => x.as_slice().cmp(&y.as_slice()),
-        (Column::U8(x), Column::U8(y)) => x.as_slice().cmp(&y.as_slice()),
+        (Column::I16(x), Column::I16(y)) => x.as_slice().cmp(&y.as_slice()),
         (Column::I32(x), Column::I32(y)) => x.as_slice().cmp(&y.as_slice()),
         (Column::I64(x), Column::I64(y)) => x.as_slice().cmp(&y.as_slice()),
+        (Column::U8(x), Column::U8(y)) => x.as_slice().cmp(&y.as_slice()),
+        (Column::U16(x), Column::U16(y)) => x.as_slice().cmp(&y.as_slice()),
+        (Column::U32(x), Column::U32(y)) => x.as_slice().cmp(&y.as_slice()),
+        (Column::U64(x), Column::U64(y)) => x.as_slice().cmp(&y.as_slice()),
         _ => compare_elements(a, b),
     }
 }

@@ -1,19 +1,23 @@
 -- The type that a tree of tokens spells (the Weld papers): a clause for each alternative of the grammar's rule, in
 -- its order.
 use Rattle.weld_data.specs.declared.kind.Kind.{Kind}
-use Rattle.weld_data.specs.declared.kind.Kind.TheVariants.{Bool, I8, U8, I32, I64}
+use Rattle.weld_data.specs.declared.kind.Kind.TheVariants.{Bool, I8, I16, I32, I64, U8, U16, U32, U64}
 use Rattle.weld_data.specs.declared.op.MergeOp.{MergeOp}
 use Rattle.weld_data.specs.declared.op.MergeOp.TheVariants.{Add, Mul, Min, Max}
 use Rattle.weld_terminals.specs.declared.token.Token.{Token}
 use Rattle.weld_tree.specs.TypeTree.{TypeTree, TypeTrees, scalar, vec, struct, dict, build, list, total, keyed, cells, groups, no_types, more_types}
 use Rattle.weld_grammar.specs.Derivation.{Tree, node, pair, here, there}
 
--- i8, u8, i32 or i64
+-- i8, i16, i32, i64, u8, u16, u32 or u64
 abbrev pub int_kind_of : Tree Token → Kind
 int_kind_of (node (here t)) = I8
-int_kind_of (node (there (here t))) = U8
+int_kind_of (node (there (here t))) = I16
 int_kind_of (node (there (there (here t)))) = I32
-int_kind_of _ = I64
+int_kind_of (node (there (there (there (here t))))) = I64
+int_kind_of (node (there (there (there (there (here t)))))) = U8
+int_kind_of (node (there (there (there (there (there (here t))))))) = U16
+int_kind_of (node (there (there (there (there (there (there (here t)))))))) = U32
+int_kind_of _ = U64
 
 -- bool, or an integer kind
 abbrev pub kind_of : Tree Token → Kind

@@ -22,9 +22,13 @@ some_is x y h = cc h
 list_cell : (t : TypeTree) (field : List ℕ) (v w : Value) → CellReads (vec t) field v → CellReads (vec t) field w → v ≡ w
 list_cell (scalar kinds.Bool) field v w r s = absurd r
 list_cell (scalar kinds.I8) field v w r s = r ∙ sym s
-list_cell (scalar kinds.U8) field v w r s = r ∙ sym s
+list_cell (scalar kinds.I16) field v w r s = absurd r
 list_cell (scalar kinds.I32) field v w r s = absurd r
 list_cell (scalar kinds.I64) field v w r s = absurd r
+list_cell (scalar kinds.U8) field v w r s = r ∙ sym s
+list_cell (scalar kinds.U16) field v w r s = absurd r
+list_cell (scalar kinds.U32) field v w r s = absurd r
+list_cell (scalar kinds.U64) field v w r s = absurd r
 list_cell (vec t) field v w r s = absurd r
 list_cell (struct_of ts) field v w r s = absurd r
 list_cell (dict k t) field v w r s = absurd r

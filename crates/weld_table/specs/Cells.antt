@@ -9,7 +9,7 @@ use Rattle.weld_values.specs.declared.fault.DataFault.{DataFault}
 use Rattle.weld_values.specs.declared.fault.DataFault.TheVariants as faults
 use Rattle.weld_table.specs.Table.{Row, Place, CellReads, CellFails, ColumnReads, ColumnFails, HasColumns, AreEven, listed}
 use Rattle.weld_table.specs.declared.cells.Cells.{Cells}
-use Rattle.weld_table.specs.declared.cells.Cells.TheVariants.{Bool as truths, I8, U8, I32, I64, Bytes, Octets}
+use Rattle.weld_table.specs.declared.cells.Cells.TheVariants.{Bool as truths, I8, I16, I32, I64, U8, U16, U32, U64, Bytes, Octets}
 use Rattle.weld_table.specs.declared.fault.TableFault.{TableFault}
 use Rattle.weld_table.specs.declared.fault.TableFault.TheVariants as reasons
 use Rattle.weld_table.specs.declared.wanted.Wanted.{Wanted}
@@ -21,9 +21,13 @@ use Rattle.weld_table.specs.declared.column.TableColumn.{TableColumn}
 abbrev pub type_of : Cells → TypeTree
 type_of (truths items) = scalar kinds.Bool
 type_of (I8 items) = scalar kinds.I8
-type_of (U8 items) = scalar kinds.U8
+type_of (I16 items) = scalar kinds.I16
 type_of (I32 items) = scalar kinds.I32
 type_of (I64 items) = scalar kinds.I64
+type_of (U8 items) = scalar kinds.U8
+type_of (U16 items) = scalar kinds.U16
+type_of (U32 items) = scalar kinds.U32
+type_of (U64 items) = scalar kinds.U64
 type_of (Bytes items) = vec (scalar kinds.I8)
 type_of (Octets items) = vec (scalar kinds.U8)
 
@@ -31,9 +35,13 @@ type_of (Octets items) = vec (scalar kinds.U8)
 abbrev pub view_cells : Cells → List Value
 view_cells (truths items) = map (λ (b : Bool). number kinds.Bool (truth b)) items
 view_cells (I8 items) = map (number kinds.I8) items
-view_cells (U8 items) = map (λ (n : ℕ). number kinds.U8 (pos n)) items
+view_cells (I16 items) = map (number kinds.I16) items
 view_cells (I32 items) = map (number kinds.I32) items
 view_cells (I64 items) = map (number kinds.I64) items
+view_cells (U8 items) = map (λ (n : ℕ). number kinds.U8 (pos n)) items
+view_cells (U16 items) = map (λ (n : ℕ). number kinds.U16 (pos n)) items
+view_cells (U32 items) = map (λ (n : ℕ). number kinds.U32 (pos n)) items
+view_cells (U64 items) = map (λ (n : ℕ). number kinds.U64 (pos n)) items
 view_cells (Bytes items) = items
 view_cells (Octets items) = items
 

@@ -11,7 +11,9 @@ ghost use Rattle.weld_table.specs.Cells.{type_of, view_cells, IsSaidOf, IsAdded}
 
 use crate::verdict::Verdict;
 use std::alloc::{AllocError, Global};
-use weld_data::{Bools, Column, I8s, I32s, I64s, Items, Kind, U8s, Val, Vals, wrap};
+use weld_data::{
+    Bools, Column, I8s, I16s, I32s, I64s, Items, Kind, U8s, U16s, U32s, U64s, Val, Vals, wrap,
+};
 use weld_tree::{Ty, TyForm};
 use weld_values::{Cell, DataFault, read_cell};
 use weld_write_value::is_i8;
@@ -21,9 +23,13 @@ use weld_write_value::is_i8;
 pub(crate) enum Cells {
     Bool(Bools),
     I8(I8s),
-    U8(U8s),
+    I16(I16s),
     I32(I32s),
     I64(I64s),
+    U8(U8s),
+    U16(U16s),
+    U32(U32s),
+    U64(U64s),
     /// Bytes as numbers of kind i8.
     Bytes(Vals),
     /// Bytes as numbers of kind u8.
@@ -113,9 +119,13 @@ impl Cells {
         match &ty.form {
             TyForm::Scalar(Kind::Bool) => Cells::Bool(Bools::new(alloc)),
             TyForm::Scalar(Kind::I8) => Cells::I8(I8s::new(alloc)),
-            TyForm::Scalar(Kind::U8) => Cells::U8(U8s::new(alloc)),
+            TyForm::Scalar(Kind::I16) => Cells::I16(I16s::new(alloc)),
             TyForm::Scalar(Kind::I32) => Cells::I32(I32s::new(alloc)),
             TyForm::Scalar(Kind::I64) => Cells::I64(I64s::new(alloc)),
+            TyForm::Scalar(Kind::U8) => Cells::U8(U8s::new(alloc)),
+            TyForm::Scalar(Kind::U16) => Cells::U16(U16s::new(alloc)),
+            TyForm::Scalar(Kind::U32) => Cells::U32(U32s::new(alloc)),
+            TyForm::Scalar(Kind::U64) => Cells::U64(U64s::new(alloc)),
             TyForm::Vec(item) if is_i8(item) => Cells::Bytes(Vals::new(alloc)),
             _ => Cells::Octets(Vals::new(alloc)),
         }
@@ -129,9 +139,13 @@ impl Cells {
         match self {
             Cells::Bool(items) => add_scalar(items, field),
             Cells::I8(items) => add_scalar(items, field),
-            Cells::U8(items) => add_scalar(items, field),
+            Cells::I16(items) => add_scalar(items, field),
             Cells::I32(items) => add_scalar(items, field),
             Cells::I64(items) => add_scalar(items, field),
+            Cells::U8(items) => add_scalar(items, field),
+            Cells::U16(items) => add_scalar(items, field),
+            Cells::U32(items) => add_scalar(items, field),
+            Cells::U64(items) => add_scalar(items, field),
             Cells::Bytes(items) => add_signed(alloc, items, field),
             Cells::Octets(items) => add_plain(alloc, items, field),
         }
@@ -144,9 +158,13 @@ impl Cells {
         match self {
             Cells::Bool(items) => Column::Bool(items),
             Cells::I8(items) => Column::I8(items),
-            Cells::U8(items) => Column::U8(items),
+            Cells::I16(items) => Column::I16(items),
             Cells::I32(items) => Column::I32(items),
             Cells::I64(items) => Column::I64(items),
+            Cells::U8(items) => Column::U8(items),
+            Cells::U16(items) => Column::U16(items),
+            Cells::U32(items) => Column::U32(items),
+            Cells::U64(items) => Column::U64(items),
             Cells::Bytes(items) | Cells::Octets(items) => Column::Nest(items),
         }
     }

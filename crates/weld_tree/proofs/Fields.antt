@@ -4,7 +4,7 @@ use Rattle.std.proofs.lemmas.List.{at_drop_more, same_lists, drop_all}
 use Rattle.std.specs.List.{All}
 use Rattle.std.proofs.lemmas.List.Elements.{All-cons, All-head, All-tail, All-nil}
 use Rattle.weld_tree.specs.TypeTree.{TypeTree, TypeTrees, pack, unpack, unpack-pack, no_types, more_types, type_nodes, types_nodes, type_depth, types_depth}
-use Rattle.weld_tree.specs.Types.{IsBuilderFree, AreBuilderFree, IsBuilder, AreBuilders, IsKeyField, AreKeyFields, IsWellFormed, AreWellFormed, HasTypes}
+use Rattle.weld_tree.specs.Types.{IsBuilderFree, AreBuilderFree, IsBuilder, AreBuilders, IsKeyField, AreKeyFields, IsIntegerType, AreIntegerTypes, IsWellFormed, AreWellFormed, HasTypes}
 
 -- a fact on types as data that goes type by type
 data_of_all : (P : TypeTree → Type 0) (Q : TypeTrees → Type 0) → Q no_types → ((t : TypeTree) (ts : TypeTrees) → P t → Q ts → Q (more_types t ts)) → (ts : List TypeTree) → All P ts → Q (pack ts)
@@ -32,6 +32,12 @@ are_key_fields_of_all = data_of_all IsKeyField AreKeyFields tt (λ t ts p q. (p,
 
 pub all_key_fields : (ts : List TypeTree) → AreKeyFields (pack ts) → All IsKeyField ts
 all_key_fields = all_of_data IsKeyField AreKeyFields (λ t ts h. h)
+
+pub are_integer_types_of_all : (ts : List TypeTree) → All IsIntegerType ts → AreIntegerTypes (pack ts)
+are_integer_types_of_all = data_of_all IsIntegerType AreIntegerTypes tt (λ t ts p q. (p, q))
+
+pub all_integer_types : (ts : List TypeTree) → AreIntegerTypes (pack ts) → All IsIntegerType ts
+all_integer_types = all_of_data IsIntegerType AreIntegerTypes (λ t ts h. h)
 
 pub are_well_formed_of_all : (ts : List TypeTree) → All IsWellFormed ts → AreWellFormed (pack ts)
 are_well_formed_of_all = data_of_all IsWellFormed AreWellFormed tt (λ t ts p q. (p, q))

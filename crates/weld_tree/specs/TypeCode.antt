@@ -4,7 +4,7 @@ use Rattle.std.specs.Coded.{Coded, code_by}
 use base.Stored.{Gv, gnil, gnum, gcons, num}
 use denote.Struct.Codes.{itself}
 use Rattle.weld_data.specs.declared.kind.Kind.{Kind}
-use Rattle.weld_data.specs.declared.kind.Kind.TheVariants.{Bool, I8, U8, I32, I64}
+use Rattle.weld_data.specs.declared.kind.Kind.TheVariants.{Bool, I8, I16, I32, I64, U8, U16, U32, U64}
 use Rattle.weld_data.specs.declared.op.MergeOp.{MergeOp}
 use Rattle.weld_data.specs.declared.op.MergeOp.TheVariants.{Add, Mul, Min, Max}
 use Rattle.weld_tree.specs.TypeTree.{TypeTree, BuildTree, TypeTrees, scalar, vec, struct, dict, build, list, total, keyed, cells, groups, no_types, more_types}
@@ -19,23 +19,35 @@ tail (gcons a b) = b
 abbrev pub kind_number : Kind → ℕ
 kind_number Bool = 0
 kind_number I8 = 1
-kind_number U8 = 2
+kind_number I16 = 2
 kind_number I32 = 3
 kind_number I64 = 4
+kind_number U8 = 5
+kind_number U16 = 6
+kind_number U32 = 7
+kind_number U64 = 8
 
 abbrev pub kind_at : ℕ → Kind
 kind_at zero = Bool
 kind_at (suc zero) = I8
-kind_at (suc (suc zero)) = U8
+kind_at (suc (suc zero)) = I16
 kind_at (suc (suc (suc zero))) = I32
-kind_at (suc (suc (suc (suc n)))) = I64
+kind_at (suc (suc (suc (suc zero)))) = I64
+kind_at (suc (suc (suc (suc (suc zero))))) = U8
+kind_at (suc (suc (suc (suc (suc (suc zero)))))) = U16
+kind_at (suc (suc (suc (suc (suc (suc (suc zero))))))) = U32
+kind_at (suc (suc (suc (suc (suc (suc (suc (suc n)))))))) = U64
 
 pub kind_at-kind_number : (k : Kind) → kind_at (kind_number k) ≡ k
 kind_at-kind_number Bool = refl
 kind_at-kind_number I8 = refl
-kind_at-kind_number U8 = refl
+kind_at-kind_number I16 = refl
 kind_at-kind_number I32 = refl
 kind_at-kind_number I64 = refl
+kind_at-kind_number U8 = refl
+kind_at-kind_number U16 = refl
+kind_at-kind_number U32 = refl
+kind_at-kind_number U64 = refl
 
 -- an operator by its number
 abbrev pub merge_number : MergeOp → ℕ

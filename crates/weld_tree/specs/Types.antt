@@ -47,6 +47,10 @@ IsIntegerType (struct ts) = ⊥
 IsIntegerType (dict k v) = ⊥
 IsIntegerType (build b) = ⊥
 
+abbrev pub AreIntegerTypes : TypeTrees → Type 0
+AreIntegerTypes no_types = Unit {0}
+AreIntegerTypes (more_types t ts) = IsIntegerType t × AreIntegerTypes ts
+
 -- the type is a scalar or a vector of scalars
 abbrev pub IsKeyField : TypeTree → Type 0
 IsKeyField (scalar k) = Unit {0}
@@ -70,6 +74,11 @@ abbrev pub IsKey : TypeTree → Type 0
 IsKey (struct ts) = HasTypes ts × AreKeyFields ts
 IsKey t = IsKeyField t
 
+-- the type is an integer kind, or a struct of integer kinds: what a merger combines (the Weld papers; which ones, by this project's profile)
+abbrev pub IsMergerType : TypeTree → Type 0
+IsMergerType (struct ts) = HasTypes ts × AreIntegerTypes ts
+IsMergerType t = IsIntegerType t
+
 -- the type is well formed (this project's profile)
 abbrev mutual
   pub IsWellFormed : TypeTree → Type 0
@@ -81,7 +90,7 @@ abbrev mutual
 
   pub IsWellFormedBuild : BuildTree → Type 0
   IsWellFormedBuild (list t) = IsWellFormed t × IsBuilderFree t
-  IsWellFormedBuild (total t op) = IsIntegerType t
+  IsWellFormedBuild (total t op) = IsMergerType t
   IsWellFormedBuild (keyed k v op) = IsKey k × IsIntegerType v
   IsWellFormedBuild (cells t op) = IsIntegerType t
   IsWellFormedBuild (groups k v) = IsKey k × IsWellFormed v × IsBuilderFree v

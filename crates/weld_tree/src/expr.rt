@@ -23,8 +23,8 @@ pub struct Expr {
     pub ty: Known,
 }
 
-/// By a loop along bodies of lets and left operands, so that neither a thousand lets nor a long sum
-/// takes stack.
+/// By a loop along bodies of lets, left and single operands, so that neither a thousand lets nor a
+/// long sum nor a long chain of fields takes stack.
 impl Drop for Expr {
     #[cycle(expr)]
     fn drop(mut self) {
@@ -36,6 +36,7 @@ impl Drop for Expr {
             } = self;
             match form {
                 Form::Let(_binder, _value, body) => self = Box::into_inner(body),
+                Form::One(_form, operand) => self = Box::into_inner(operand),
                 Form::Two(_, left, _right) => self = Box::into_inner(left),
                 _other => return,
             }

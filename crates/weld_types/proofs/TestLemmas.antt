@@ -10,9 +10,9 @@ use Rattle.weld_data.specs.declared.op.MergeOp.{MergeOp}
 use Rattle.weld_data.specs.Operation.{TakesKind}
 use Rattle.weld_tree.specs.TypeCode.{kind_number, kind_at, kind_at-kind_number, merge_number, merge_at, merge_at-merge_number}
 use Rattle.weld_tree.specs.TypeTree.{TypeTree, BuildTree, TypeTrees, scalar, vec, struct, dict, build, list, total, keyed, cells, groups, no_types, more_types, type_nodes, type_depth}
-use Rattle.weld_tree.specs.Types.{IsBuilderFree, AreBuilderFree, IsBuilder, AreBuilders, IsScalarType, IsIntegerType, IsKeyField, AreKeyFields, HasTypes, IsKey, IsWellFormed, IsWellFormedBuild, AreWellFormed, IsWithinLimits}
+use Rattle.weld_tree.specs.Types.{IsBuilderFree, AreBuilderFree, IsBuilder, AreBuilders, IsScalarType, IsIntegerType, AreIntegerTypes, IsMergerType, IsKeyField, AreKeyFields, HasTypes, IsKey, IsWellFormed, IsWellFormedBuild, AreWellFormed, IsWithinLimits}
 use Rattle.weld_meaning.specs.Typing.{AreAll}
-use Rattle.weld_types.specs.Tests.{same_type, same_build, same_types, are_all, is_integer_kind, is_scalar, is_integer, is_builder_free, are_builder_free, is_builder, are_builders, is_key_field, are_key_fields, has_types, is_key, is_well_formed, is_well_formed_build, are_well_formed, is_within_limits, takes_kind}
+use Rattle.weld_types.specs.Tests.{same_type, same_build, same_types, are_all, is_integer_kind, is_scalar, is_integer, are_integers, is_mergeable, is_builder_free, are_builder_free, is_builder, are_builders, is_key_field, are_key_fields, has_types, is_key, is_well_formed, is_well_formed_build, are_well_formed, is_within_limits, takes_kind}
 
 -- ---- truth values
 
@@ -114,16 +114,24 @@ of_all (more_types u us) t h = both_true (same_type u t) (are_all us t) (true_sa
 pub integer_kind_of : (k : Kind) → is_integer_kind k ≡ true → IsInteger k
 integer_kind_of kinds.Bool e = clash e refl
 integer_kind_of kinds.I8 e = tt
-integer_kind_of kinds.U8 e = tt
+integer_kind_of kinds.I16 e = tt
 integer_kind_of kinds.I32 e = tt
 integer_kind_of kinds.I64 e = tt
+integer_kind_of kinds.U8 e = tt
+integer_kind_of kinds.U16 e = tt
+integer_kind_of kinds.U32 e = tt
+integer_kind_of kinds.U64 e = tt
 
 pub of_integer_kind : (k : Kind) → IsInteger k → is_integer_kind k ≡ true
 of_integer_kind kinds.Bool h = absurd h
 of_integer_kind kinds.I8 h = refl
-of_integer_kind kinds.U8 h = refl
+of_integer_kind kinds.I16 h = refl
 of_integer_kind kinds.I32 h = refl
 of_integer_kind kinds.I64 h = refl
+of_integer_kind kinds.U8 h = refl
+of_integer_kind kinds.U16 h = refl
+of_integer_kind kinds.U32 h = refl
+of_integer_kind kinds.U64 h = refl
 
 pub scalar_of : (t : TypeTree) → is_scalar t ≡ true → IsScalarType t
 scalar_of (scalar k) e = tt
@@ -252,6 +260,28 @@ of_key (struct ts) h = both_true (has_types ts) (are_key_fields ts) (of_has ts h
 of_key (dict k v) h = absurd h
 of_key (build b) h = absurd h
 
+integers_of : (ts : TypeTrees) → are_integers ts ≡ true → AreIntegerTypes ts
+integers_of no_types e = tt
+integers_of (more_types t ts) e = let h = and_true (is_integer t) (are_integers ts) e in (integer_of t h.0, integers_of ts h.1)
+
+of_integers : (ts : TypeTrees) → AreIntegerTypes ts → are_integers ts ≡ true
+of_integers no_types h = refl
+of_integers (more_types t ts) h = both_true (is_integer t) (are_integers ts) (of_integer t h.0) (of_integers ts h.1)
+
+mergeable_of : (t : TypeTree) → is_mergeable t ≡ true → IsMergerType t
+mergeable_of (scalar k) e = integer_kind_of k e
+mergeable_of (vec t) e = clash e refl
+mergeable_of (struct ts) e = let h = and_true (has_types ts) (are_integers ts) e in (has_of ts h.0, integers_of ts h.1)
+mergeable_of (dict k v) e = clash e refl
+mergeable_of (build b) e = clash e refl
+
+of_mergeable : (t : TypeTree) → IsMergerType t → is_mergeable t ≡ true
+of_mergeable (scalar k) h = of_integer_kind k h
+of_mergeable (vec t) h = absurd h
+of_mergeable (struct ts) h = both_true (has_types ts) (are_integers ts) (of_has ts h.0) (of_integers ts h.1)
+of_mergeable (dict k v) h = absurd h
+of_mergeable (build b) h = absurd h
+
 mutual
   pub formed_of : (t : TypeTree) → is_well_formed t ≡ true → IsWellFormed t
   formed_of (scalar k) e = tt
@@ -267,7 +297,7 @@ mutual
 
   pub build_formed_of : (b : BuildTree) → is_well_formed_build b ≡ true → IsWellFormedBuild b
   build_formed_of (list t) e = let h = and_true (is_well_formed t) (is_builder_free t) e in (formed_of t h.0, free_of t h.1)
-  build_formed_of (total t o) e = integer_of t e
+  build_formed_of (total t o) e = mergeable_of t e
   build_formed_of (keyed k v o) e = let h = and_true (is_key k) (is_integer v) e in (key_of k h.0, integer_of v h.1)
   build_formed_of (cells t o) e = integer_of t e
   build_formed_of (groups k v) e =
@@ -292,7 +322,7 @@ mutual
 
   pub of_build_formed : (b : BuildTree) → IsWellFormedBuild b → is_well_formed_build b ≡ true
   of_build_formed (list t) h = both_true (is_well_formed t) (is_builder_free t) (of_formed t h.0) (of_free t h.1)
-  of_build_formed (total t o) h = of_integer t h
+  of_build_formed (total t o) h = of_mergeable t h
   of_build_formed (keyed k v o) h = both_true (is_key k) (is_integer v) (of_key k h.0) (of_integer v h.1)
   of_build_formed (cells t o) h = of_integer t h
   of_build_formed (groups k v) h =

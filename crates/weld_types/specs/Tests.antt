@@ -41,9 +41,13 @@ are_all (more_types u us) t = same_type u t && are_all us t
 abbrev pub is_integer_kind : Kind → Bool
 is_integer_kind kinds.Bool = false
 is_integer_kind kinds.I8 = true
-is_integer_kind kinds.U8 = true
+is_integer_kind kinds.I16 = true
 is_integer_kind kinds.I32 = true
 is_integer_kind kinds.I64 = true
+is_integer_kind kinds.U8 = true
+is_integer_kind kinds.U16 = true
+is_integer_kind kinds.U32 = true
+is_integer_kind kinds.U64 = true
 
 abbrev pub is_scalar : TypeTree → Bool
 is_scalar (scalar k) = true
@@ -99,6 +103,18 @@ is_key (struct ts) = has_types ts && are_key_fields ts
 is_key (dict k v) = false
 is_key (build b) = false
 
+abbrev pub are_integers : TypeTrees → Bool
+are_integers no_types = true
+are_integers (more_types t ts) = is_integer t && are_integers ts
+
+-- a merger may combine values of the type
+abbrev pub is_mergeable : TypeTree → Bool
+is_mergeable (scalar k) = is_integer_kind k
+is_mergeable (vec t) = false
+is_mergeable (struct ts) = has_types ts && are_integers ts
+is_mergeable (dict k v) = false
+is_mergeable (build b) = false
+
 abbrev mutual
   pub is_well_formed : TypeTree → Bool
   is_well_formed (scalar k) = true
@@ -109,7 +125,7 @@ abbrev mutual
 
   pub is_well_formed_build : BuildTree → Bool
   is_well_formed_build (list t) = is_well_formed t && is_builder_free t
-  is_well_formed_build (total t op) = is_integer t
+  is_well_formed_build (total t op) = is_mergeable t
   is_well_formed_build (keyed k v op) = is_key k && is_integer v
   is_well_formed_build (cells t op) = is_integer t
   is_well_formed_build (groups k v) = is_key k && (is_well_formed v && is_builder_free v)

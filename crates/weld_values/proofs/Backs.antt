@@ -1,5 +1,5 @@
 -- What is written of a scalar or of a string's byte reads as it.
-use Rattle.std.proofs.Common.{◌≡◌, ◌⊎◌, inl, inr, sym, ◌∙◌, ℕ, zero, suc, ◌+◌, ◌/◌, ◌%◌, ◌<◌, ◌≤◌, ◌^◌, Bool, true, false, ◌==◌, ◌&&◌, not, cond, nat_le, nat_lt, IsTrue, List, [], ◌∷◌, ◌++◌, length, Option, Some, None, refl, ap, subst, arith, rules, ℤ, pos, negsuc, neg_ℤ, codes}
+use Rattle.std.proofs.Common.{◌≡◌, ◌⊎◌, inl, inr, sym, ◌∙◌, ℕ, zero, suc, ◌+◌, ◌/◌, ◌%◌, ◌<◌, ◌≤◌, ◌^◌, Bool, true, false, ◌==◌, ◌&&◌, not, cond, nat_le, nat_lt, IsTrue, List, [], ◌∷◌, ◌++◌, length, Option, Some, None, refl, ap, subst, arith, rules, ℤ, pos, negsuc, neg_ℤ, ◌≤ℤ◌, codes}
 use Rattle.std.specs.Option.{option_map}
 use Rattle.std.specs.Fmt.{decimal, signed_decimal}
 use Rattle.std.proofs.lemmas.Fmt.{digits_decimal, digits_value-decimal, decimal_nonempty}
@@ -70,7 +70,23 @@ digits_no_minus : (digits rest : List ℕ) → 0 < length digits → IsTrue (all
 digits_no_minus [] rest l h = absurd (omega arith)
 digits_no_minus (d ∷ ds) rest l h = ap (λ (b : Bool). cond b (Some (ds ++ rest)) None) (no_minus d (and_parts (is_digit d) (all_digits ds) h).0)
 
-pub integer_back : (x : ℤ) (rest : List ℕ) → InRange kinds.I64 x → IsTrue (ends_number rest) → integer_at (signed_decimal x ++ rest) ≡ Some (x, rest)
+-- a number that some kind may have
+record IsOfSome (x : ℤ) : Type 0 where
+  pub low : neg_ℤ (pos (2 ^ 63)) ≤ℤ x
+  pub high : x ≤ℤ pos 18446744073709551615
+
+of_some : (k : Kind) (x : ℤ) → InRange k x → IsOfSome x
+of_some kinds.Bool x r = record { low = omega (arith, ints, r.low); high = omega (arith, ints, r.high) }
+of_some kinds.I8 x r = record { low = omega (arith, ints, r.low); high = omega (arith, ints, r.high) }
+of_some kinds.I16 x r = record { low = omega (arith, ints, r.low); high = omega (arith, ints, r.high) }
+of_some kinds.I32 x r = record { low = omega (arith, ints, r.low); high = omega (arith, ints, r.high) }
+of_some kinds.I64 x r = record { low = omega (arith, ints, r.low); high = omega (arith, ints, r.high) }
+of_some kinds.U8 x r = record { low = omega (arith, ints, r.low); high = omega (arith, ints, r.high) }
+of_some kinds.U16 x r = record { low = omega (arith, ints, r.low); high = omega (arith, ints, r.high) }
+of_some kinds.U32 x r = record { low = omega (arith, ints, r.low); high = omega (arith, ints, r.high) }
+of_some kinds.U64 x r = record { low = omega (arith, ints, r.low); high = omega (arith, ints, r.high) }
+
+integer_back : (x : ℤ) (rest : List ℕ) → IsOfSome x → IsTrue (ends_number rest) → integer_at (signed_decimal x ++ rest) ≡ Some (x, rest)
 unfolding integer_at
 integer_back (pos n) rest r e =
     let small : n < 2 ^ 64 = omega (arith, ints, r.high) in
@@ -111,7 +127,7 @@ digits_begin close c (d ∷ ds) l h =
     let p = (and_parts (is_digit d) (all_digits ds) h).0 in
     record { byte = d; more = ds; parts = refl; bare = digit_bare d p; open_still = differs d close c (digit_no_bracket d p) (digit_no_brace d p) }
 
-pub integer_begins : (close : ℕ) → Closes close → (x : ℤ) → InRange kinds.I64 x → Begins close (signed_decimal x)
+integer_begins : (close : ℕ) → Closes close → (x : ℤ) → IsOfSome x → Begins close (signed_decimal x)
 integer_begins close c (pos n) r = let small : n < 2 ^ 64 = omega (arith, ints, r.high) in digits_begin close c (decimal n) (decimal_nonempty n small) (digits_decimal own n small)
 integer_begins close c (negsuc n) r = record { byte = 45; more = decimal (suc n); parts = refl; bare = refl; open_still = differs 45 close c refl refl }
 
@@ -119,18 +135,10 @@ pub begins_bare : (close : ℕ) (text rest : List ℕ) → Begins close text →
 begins_bare close text rest b =
     ap (λ (t : List ℕ). after_blanks (t ++ rest)) b.parts ∙ ap (λ (c : Bool). cond c (after_blanks (b.more ++ rest)) (b.byte ∷ b.more ++ rest)) b.bare ∙ ap (λ (t : List ℕ). t ++ rest) (sym b.parts)
 
--- a kind's numbers are numbers of kind i64
-widened : (k : Kind) (x : ℤ) → InRange k x → InRange kinds.I64 x
-widened kinds.Bool x r = record { low = omega (arith, ints, r.low); high = omega (arith, ints, r.high) }
-widened kinds.I8 x r = record { low = omega (arith, ints, r.low); high = omega (arith, ints, r.high) }
-widened kinds.U8 x r = record { low = omega (arith, ints, r.low); high = omega (arith, ints, r.high) }
-widened kinds.I32 x r = record { low = omega (arith, ints, r.low); high = omega (arith, ints, r.high) }
-widened kinds.I64 x r = r
-
 number_back : (k : Kind) (x : ℤ) (rest : List ℕ) → InRange k x → IsTrue (ends_number rest) → number_at k (signed_decimal x ++ rest) ≡ Some (number k x, rest)
 number_back k x rest r e =
-    ap (λ (t : List ℕ). option_map (λ (f : ℤ × List ℕ). (number k f.0, f.1)) (integer_at t)) (begins_bare 93 (signed_decimal x) rest (integer_begins 93 (inl refl) x (widened k x r)))
-    ∙ ap (λ (o : Option (ℤ × List ℕ)). option_map (λ (f : ℤ × List ℕ). (number k f.0, f.1)) o) (integer_back x rest (widened k x r) e)
+    ap (λ (t : List ℕ). option_map (λ (f : ℤ × List ℕ). (number k f.0, f.1)) (integer_at t)) (begins_bare 93 (signed_decimal x) rest (integer_begins 93 (inl refl) x (of_some k x r)))
+    ∙ ap (λ (o : Option (ℤ × List ℕ)). option_map (λ (f : ℤ × List ℕ). (number k f.0, f.1)) o) (integer_back x rest (of_some k x r) e)
 
 -- a truth value is 0 or 1
 zero_or_one : (x : ℤ) → InRange kinds.Bool x → (x ≡ pos 0) ⊎ (x ≡ pos 1)
@@ -148,9 +156,13 @@ pub scalar_back : (k : Kind) (x : ℤ) (rest : List ℕ) → InRange k x → IsT
 unfolding scalar_at
 scalar_back kinds.Bool x rest r e = truth_back x rest (zero_or_one x r)
 scalar_back kinds.I8 x rest r e = number_back kinds.I8 x rest r e
-scalar_back kinds.U8 x rest r e = number_back kinds.U8 x rest r e
+scalar_back kinds.I16 x rest r e = number_back kinds.I16 x rest r e
 scalar_back kinds.I32 x rest r e = number_back kinds.I32 x rest r e
 scalar_back kinds.I64 x rest r e = number_back kinds.I64 x rest r e
+scalar_back kinds.U8 x rest r e = number_back kinds.U8 x rest r e
+scalar_back kinds.U16 x rest r e = number_back kinds.U16 x rest r e
+scalar_back kinds.U32 x rest r e = number_back kinds.U32 x rest r e
+scalar_back kinds.U64 x rest r e = number_back kinds.U64 x rest r e
 
 truth_begins : (close : ℕ) → Closes close → (x : ℤ) → (x ≡ pos 0) ⊎ (x ≡ pos 1) → Begins close (shown_number kinds.Bool x)
 truth_begins close c x (inl e) = subst (λ (y : ℤ). Begins close (shown_number kinds.Bool y)) (sym e) (record { byte = 102; more = codes "alse"; parts = refl; bare = refl; open_still = differs 102 close c refl refl })
@@ -158,10 +170,14 @@ truth_begins close c x (inr e) = subst (λ (y : ℤ). Begins close (shown_number
 
 pub scalar_begins : (close : ℕ) → Closes close → (k : Kind) (x : ℤ) → InRange k x → Begins close (shown_number k x)
 scalar_begins close c kinds.Bool x r = truth_begins close c x (zero_or_one x r)
-scalar_begins close c kinds.I8 x r = integer_begins close c x (widened kinds.I8 x r)
-scalar_begins close c kinds.U8 x r = integer_begins close c x (widened kinds.U8 x r)
-scalar_begins close c kinds.I32 x r = integer_begins close c x (widened kinds.I32 x r)
-scalar_begins close c kinds.I64 x r = integer_begins close c x r
+scalar_begins close c kinds.I8 x r = integer_begins close c x (of_some kinds.I8 x r)
+scalar_begins close c kinds.I16 x r = integer_begins close c x (of_some kinds.I16 x r)
+scalar_begins close c kinds.I32 x r = integer_begins close c x (of_some kinds.I32 x r)
+scalar_begins close c kinds.I64 x r = integer_begins close c x (of_some kinds.I64 x r)
+scalar_begins close c kinds.U8 x r = integer_begins close c x (of_some kinds.U8 x r)
+scalar_begins close c kinds.U16 x r = integer_begins close c x (of_some kinds.U16 x r)
+scalar_begins close c kinds.U32 x r = integer_begins close c x (of_some kinds.U32 x r)
+scalar_begins close c kinds.U64 x r = integer_begins close c x (of_some kinds.U64 x r)
 
 -- ---- strings
 

@@ -3,7 +3,7 @@ use Rattle.std.proofs.Common.{◌≡◌, sym, ◌∙◌, ℕ, Bool, true, false,
 use Rattle.std.proofs.lemmas.Bool.{false≢true}
 use Rattle.std.specs.Option.{option_map}
 use Rattle.weld_data.specs.declared.kind.Kind.{Kind}
-use Rattle.weld_data.specs.declared.kind.Kind.TheVariants.{Bool as BoolKind, I8, U8, I32, I64}
+use Rattle.weld_data.specs.declared.kind.Kind.TheVariants.{Bool as BoolKind, I8, I16, I32, I64, U8, U16, U32, U64}
 use Rattle.weld_data.specs.Value.{Value, number}
 use Rattle.weld_values.specs.Tokens.{after_blanks, after_byte, byte_at, after_word, digit_run, after_digits, value_after, numeral_of, numeral_at, signed_at, integer_at}
 use Rattle.weld_values.specs.Grammar.{More, Listed, Found, or_else, truth_at, number_at, scalar_at}
@@ -102,9 +102,13 @@ scalar_before : (k : Kind) (text q : List ℕ) (v : Value) (rest : List ℕ) →
 unfolding scalar_at
 scalar_before BoolKind text q v rest e = bool_by text q (after_blanks text) v rest refl e
 scalar_before I8 text q v rest e = number_by I8 text q (after_blanks text) v rest refl e
-scalar_before U8 text q v rest e = number_by U8 text q (after_blanks text) v rest refl e
+scalar_before I16 text q v rest e = number_by I16 text q (after_blanks text) v rest refl e
 scalar_before I32 text q v rest e = number_by I32 text q (after_blanks text) v rest refl e
 scalar_before I64 text q v rest e = number_by I64 text q (after_blanks text) v rest refl e
+scalar_before U8 text q v rest e = number_by U8 text q (after_blanks text) v rest refl e
+scalar_before U16 text q v rest e = number_by U16 text q (after_blanks text) v rest refl e
+scalar_before U32 text q v rest e = number_by U32 text q (after_blanks text) v rest refl e
+scalar_before U64 text q v rest e = number_by U64 text q (after_blanks text) v rest refl e
 
 not_blank_by : (mid q bare : List ℕ) → after_blanks mid ≡ bare → after_blanks (mid ++ 44 ∷ q) ≡ [] → ⊥
 not_blank_by mid q [] b e = let h : 44 ∷ q ≡ [] = sym (after_blank mid (44 ∷ q) b) ∙ e in cc

@@ -3,7 +3,7 @@ use Rattle.std.proofs.Common.{◌≡◌, ◌∙◌, ℕ, Bool, true, false, ◌=
 use Rattle.std.proofs.lemmas.Bool.{eqb-true}
 use Rattle.std.specs.Option.{option_map, option_and_then}
 use Rattle.weld_data.specs.declared.kind.Kind.{Kind}
-use Rattle.weld_data.specs.declared.kind.Kind.TheVariants.{Bool as BoolKind, I8, U8, I32, I64}
+use Rattle.weld_data.specs.declared.kind.Kind.TheVariants.{Bool as BoolKind, I8, I16, I32, I64, U8, U16, U32, U64}
 use Rattle.weld_data.specs.Value.{Value, number}
 use Rattle.weld_values.specs.Tokens.{is_blank, is_digit, after_blanks, after_byte, byte_at, after_word, digit_run, after_digits, value_after, numeral_of, numeral_at, signed_at, integer_at}
 use Rattle.weld_values.specs.Grammar.{Part, More, Listed, Found, or_else, truth_at, number_at, scalar_at}
@@ -177,9 +177,13 @@ pub scalar_carried : (k : Kind) (text : List ℕ) (s : ℕ) (q : List ℕ) (v : 
 unfolding scalar_at
 scalar_carried BoolKind text s q v r d e = truth_bare text (s ∷ q) (after_blanks text) v r refl e
 scalar_carried I8 text s q v r d e = number_carried I8 text s q v r d e
-scalar_carried U8 text s q v r d e = number_carried U8 text s q v r d e
+scalar_carried I16 text s q v r d e = number_carried I16 text s q v r d e
 scalar_carried I32 text s q v r d e = number_carried I32 text s q v r d e
 scalar_carried I64 text s q v r d e = number_carried I64 text s q v r d e
+scalar_carried U8 text s q v r d e = number_carried U8 text s q v r d e
+scalar_carried U16 text s q v r d e = number_carried U16 text s q v r d e
+scalar_carried U32 text s q v r d e = number_carried U32 text s q v r d e
+scalar_carried U64 text s q v r d e = number_carried U64 text s q v r d e
 
 more_carried : (k : Kind) (vs : List Value) (text end : List ℕ) (s : ℕ) (q : List ℕ) → is_digit s ≡ false → More (Found (scalar_at k)) vs text end → More (Found (scalar_at k)) vs (text ++ s ∷ q) (end ++ s ∷ q)
 more_carried k [] text end s q d h = ap (λ (x : List ℕ). x ++ s ∷ q) h

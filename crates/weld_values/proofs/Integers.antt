@@ -1,14 +1,14 @@
 -- Integers with their signs.
-use Rattle.std.proofs.Common.{◌≡◌, inl, inr, sym, ◌∙◌, ℕ, ◌^◌, ◌<◌, List, Option, Some, None, IfNone, ap, arith, pos, neg_ℤ}
+use Rattle.std.proofs.Common.{◌≡◌, inl, inr, sym, ◌∙◌, ℕ, ◌^◌, ◌≤◌, List, Option, Some, None, IfNone, ap, arith, pos, neg_ℤ}
 use Rattle.std.specs.Option.{option_map}
 use Rattle.std.proofs.lemmas.Int.{ints}
 use Rattle.weld_values.specs.Tokens.{after_byte, numeral_at, signed_at, integer_at}
 use Rattle.weld_values.specs.Judging.{IsCapped, IsFarOut, IsClamped}
 
-far_positive : (n : ℕ) → 2 ^ 63 < n → IsFarOut (pos n)
+far_positive : (n : ℕ) → 2 ^ 64 ≤ n → IsFarOut (pos n)
 far_positive n h = inr (omega (arith, ints))
 
-far_negative : (n : ℕ) → 2 ^ 63 < n → IsFarOut (neg_ℤ (pos n))
+far_negative : (n : ℕ) → 2 ^ 64 ≤ n → IsFarOut (neg_ℤ (pos n))
 far_negative n h = inl (omega (arith, ints))
 
 pub clamped_positive : (value n : ℕ) → IsCapped value n → IsClamped (pos value) (pos n)

@@ -34,9 +34,13 @@ scalar_kind : (k : Kind) (text : List ℕ) (v : Value) (r : List ℕ) → scalar
 unfolding scalar_at
 scalar_kind kinds.Bool text v r h = truth_kind (after_blanks text) v r h
 scalar_kind kinds.I8 text v r h = number_kind kinds.I8 (integer_at (after_blanks text)) v r h
-scalar_kind kinds.U8 text v r h = number_kind kinds.U8 (integer_at (after_blanks text)) v r h
+scalar_kind kinds.I16 text v r h = number_kind kinds.I16 (integer_at (after_blanks text)) v r h
 scalar_kind kinds.I32 text v r h = number_kind kinds.I32 (integer_at (after_blanks text)) v r h
 scalar_kind kinds.I64 text v r h = number_kind kinds.I64 (integer_at (after_blanks text)) v r h
+scalar_kind kinds.U8 text v r h = number_kind kinds.U8 (integer_at (after_blanks text)) v r h
+scalar_kind kinds.U16 text v r h = number_kind kinds.U16 (integer_at (after_blanks text)) v r h
+scalar_kind kinds.U32 text v r h = number_kind kinds.U32 (integer_at (after_blanks text)) v r h
+scalar_kind kinds.U64 text v r h = number_kind kinds.U64 (integer_at (after_blanks text)) v r h
 
 numbers_push : (k : Kind) (v : Value) (vs : Values) → IsOf k v → AreNumbers k vs → AreNumbers k (and_value v vs)
 numbers_push k (number m x) vs h n = (h, n)
@@ -61,9 +65,13 @@ bytes_kind (b ∷ bytes) = (refl, bytes_kind bytes)
 i8_kind : (k : Kind) → IsI8 (scalar k) → (vs : Values) → AreNumbers kinds.I8 vs → AreNumbers k vs
 i8_kind kinds.Bool n vs h = absurd n
 i8_kind kinds.I8 n vs h = h
-i8_kind kinds.U8 n vs h = absurd n
+i8_kind kinds.I16 n vs h = absurd n
 i8_kind kinds.I32 n vs h = absurd n
 i8_kind kinds.I64 n vs h = absurd n
+i8_kind kinds.U8 n vs h = absurd n
+i8_kind kinds.U16 n vs h = absurd n
+i8_kind kinds.U32 n vs h = absurd n
+i8_kind kinds.U64 n vs h = absurd n
 
 vec_kind : (k : Kind) (v : Value) (text r : List ℕ) → At (vec (scalar k)) v text r → HasFieldType (list_of k) v
 vec_kind k v text r (inl (inner, vs, b, h, e)) = subst (HasFieldType (list_of k)) (sym e) (enclosed_kind k 93 (byte_at 93 inner) vs inner r h)

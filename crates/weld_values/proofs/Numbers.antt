@@ -1,5 +1,5 @@
 -- The steps of reading numbers.
-use Rattle.std.proofs.Common.{◌≡◌, ◌⊎◌, inl, inr, sym, ◌∙◌, ℕ, ◌+◌, ◌*◌, ◌-◌, ◌/◌, ◌^◌, ◌<◌, ◌≤◌, true, List, [], ◌∷◌, length, drop, Bool, false, Some, None, refl, ap, arith, if◌then◌else◌}
+use Rattle.std.proofs.Common.{◌≡◌, ◌⊎◌, inl, inr, sym, ◌∙◌, ℕ, ◌+◌, ◌*◌, ◌-◌, ◌^◌, ◌<◌, ◌≤◌, true, List, [], ◌∷◌, length, drop, Bool, false, Some, None, refl, ap, arith, if◌then◌else◌}
 use Rattle.std.proofs.lemmas.Bool.{cases_lt}
 use Rattle.weld_values.specs.Tokens.{value_after, is_digit, digit_run, after_digits, numeral_of, numeral_at}
 
@@ -11,13 +11,6 @@ value_grows before (digit ∷ digits) = omega (arith, value_grows (before * 10 +
 -- one digit more is read
 pub digit_step : (digit : ℕ) (rest : List ℕ) (value : ℕ) → is_digit digit ≡ true → value_after value (digit_run (digit ∷ rest)) ≡ value_after (value * 10 + (digit - 48)) (digit_run rest)
 digit_step digit rest value h = ap (λ b. value_after value (if b then digit ∷ digit_run rest else [])) h
-
--- past more than a tenth of 2 to the 63, one digit more is too many
-past_most : (digit : ℕ) (rest : List ℕ) (value : ℕ) → is_digit digit ≡ true → 2 ^ 63 / 10 < value → 2 ^ 63 < value_after value (digit_run (digit ∷ rest))
-past_most digit rest value h great =
-    let step = digit_step digit rest value h in
-    let grows = value_grows (value * 10 + (digit - 48)) (digit_run rest) in
-    omega arith
 
 of_some : (run rest : List ℕ) → 0 < length run → numeral_of run rest ≡ Some (value_after 0 run, rest)
 of_some [] rest l = absurd (omega arith)
@@ -35,14 +28,18 @@ pub numeral_is : (text : List ℕ) → 0 < length (digit_run text) → numeral_a
 unfolding numeral_at
 numeral_is text l = of_some (digit_run text) (after_digits text) l
 
-capped_by : (digit : ℕ) (rest : List ℕ) (value next n : ℕ) → is_digit digit ≡ true → (value ≤ 922337203685477580 → next ≡ value * 10 + (digit - 48)) → (922337203685477580 < value → 2 ^ 63 < next) → value_after value (digit_run (digit ∷ rest)) ≡ n → (922337203685477580 < value) ⊎ (value ≤ 922337203685477580) → (value_after next (digit_run rest) ≡ n) ⊎ ((2 ^ 63 < next) × (2 ^ 63 < n))
-capped_by digit rest value next n d small great e (inl h) = let more = past_most digit rest value d (omega arith) in inr (great h, omega arith)
-capped_by digit rest value next n d small great e (inr h) = inl (ap (λ v. value_after v (digit_run rest)) (small h) ∙ sym (digit_step digit rest value d) ∙ e)
+capped_by : (digit : ℕ) (rest : List ℕ) (value next n : ℕ) → is_digit digit ≡ true → (value ≤ 18446744073709551615 → next ≡ value * 10 + (digit - 48)) → (18446744073709551615 < value → 2 ^ 64 ≤ next) → value_after value (digit_run (digit ∷ rest)) ≡ n → (18446744073709551615 < value) ⊎ (value ≤ 18446744073709551615) → (value_after next (digit_run rest) ≡ n) ⊎ ((2 ^ 64 ≤ next) × (2 ^ 64 ≤ n))
+capped_by digit rest value next n d exact great e (inl h) = let grows = value_grows value (digit_run (digit ∷ rest)) in inr (great h, omega arith)
+capped_by digit rest value next n d exact great e (inr h) = inl (ap (λ v. value_after v (digit_run rest)) (exact h) ∙ sym (digit_step digit rest value d) ∙ e)
 
 -- one digit more keeps that the number so far and the digits that are left make up the number
-pub capped_step : (digit : ℕ) (text rest : List ℕ) (value next n : ℕ) → text ≡ digit ∷ rest → is_digit digit ≡ true → (value ≤ 922337203685477580 → next ≡ value * 10 + (digit - 48)) → (922337203685477580 < value → 2 ^ 63 < next) → (value_after value (digit_run text) ≡ n) ⊎ ((2 ^ 63 < value) × (2 ^ 63 < n)) → (value_after next (digit_run rest) ≡ n) ⊎ ((2 ^ 63 < next) × (2 ^ 63 < n))
-capped_step digit text rest value next n t d small great (inl e) = capped_by digit rest value next n d small great (ap (λ (x : List ℕ). value_after value (digit_run x)) (sym t) ∙ e) (cases_lt 922337203685477580 value)
-capped_step digit text rest value next n t d small great (inr p) = inr (great (omega arith), p.1)
+pub capped_step : (digit : ℕ) (text rest : List ℕ) (value next n : ℕ) → text ≡ digit ∷ rest → is_digit digit ≡ true → (value ≤ 18446744073709551615 → next ≡ value * 10 + (digit - 48)) → (18446744073709551615 < value → 2 ^ 64 ≤ next) → (value_after value (digit_run text) ≡ n) ⊎ ((2 ^ 64 ≤ value) × (2 ^ 64 ≤ n)) → (value_after next (digit_run rest) ≡ n) ⊎ ((2 ^ 64 ≤ next) × (2 ^ 64 ≤ n))
+capped_step digit text rest value next n t d exact great (inl e) = capped_by digit rest value next n d exact great (ap (λ (x : List ℕ). value_after value (digit_run x)) (sym t) ∙ e) (cases_lt 18446744073709551615 value)
+capped_step digit text rest value next n t d exact great (inr p) = inr (great (omega arith), p.1)
+
+-- the same where one digit more fits
+pub exact_step : (digit : ℕ) (text rest : List ℕ) (value next n : ℕ) → text ≡ digit ∷ rest → is_digit digit ≡ true → next ≡ value * 10 + (digit - 48) → value_after value (digit_run text) ≡ n → value_after next (digit_run rest) ≡ n
+exact_step digit text rest value next n t d h e = ap (λ v. value_after v (digit_run rest)) h ∙ sym (digit_step digit rest value d) ∙ ap (λ (x : List ℕ). value_after value (digit_run x)) (sym t) ∙ e
 
 pub after_step : (digit : ℕ) (text rest : List ℕ) → text ≡ digit ∷ rest → is_digit digit ≡ true → after_digits rest ≡ after_digits text
 after_step digit text rest t d = sym (ap after_digits t ∙ ap (λ b. if b then after_digits rest else digit ∷ rest) d)

@@ -45,9 +45,13 @@ pub scalar_no_dict : (k : Kind) (text : List ℕ) (v : Value) (r : List ℕ) →
 unfolding scalar_at
 scalar_no_dict kinds.Bool text v r h = truth_no_dict (after_blanks text) v r h
 scalar_no_dict kinds.I8 text v r h = number_no_dict kinds.I8 text v r h
-scalar_no_dict kinds.U8 text v r h = number_no_dict kinds.U8 text v r h
+scalar_no_dict kinds.I16 text v r h = number_no_dict kinds.I16 text v r h
 scalar_no_dict kinds.I32 text v r h = number_no_dict kinds.I32 text v r h
 scalar_no_dict kinds.I64 text v r h = number_no_dict kinds.I64 text v r h
+scalar_no_dict kinds.U8 text v r h = number_no_dict kinds.U8 text v r h
+scalar_no_dict kinds.U16 text v r h = number_no_dict kinds.U16 text v r h
+scalar_no_dict kinds.U32 text v r h = number_no_dict kinds.U32 text v r h
+scalar_no_dict kinds.U64 text v r h = number_no_dict kinds.U64 text v r h
 
 abbrev Free : Part Value → Type 0
 Free R = (v : Value) (text r : List ℕ) → R v text r → NoDict v
@@ -144,9 +148,13 @@ scalar_typed : (k : Kind) (text : List ℕ) (v : Value) (r : List ℕ) → scala
 unfolding scalar_at
 scalar_typed kinds.Bool text v r h = truth_typed (after_blanks text) v r h
 scalar_typed kinds.I8 text v r h = number_typed kinds.I8 text v r h
-scalar_typed kinds.U8 text v r h = number_typed kinds.U8 text v r h
+scalar_typed kinds.I16 text v r h = number_typed kinds.I16 text v r h
 scalar_typed kinds.I32 text v r h = number_typed kinds.I32 text v r h
 scalar_typed kinds.I64 text v r h = number_typed kinds.I64 text v r h
+scalar_typed kinds.U8 text v r h = number_typed kinds.U8 text v r h
+scalar_typed kinds.U16 text v r h = number_typed kinds.U16 text v r h
+scalar_typed kinds.U32 text v r h = number_typed kinds.U32 text v r h
+scalar_typed kinds.U64 text v r h = number_typed kinds.U64 text v r h
 
 -- what such a part reads is such a value, if it is in range
 abbrev Gives : Part Value → (Value → Type 0) → Type 0
@@ -171,9 +179,13 @@ bytes_typed (b ∷ bytes) i = ((refl, i.0), bytes_typed bytes i.1)
 i8_back : (t : TypeTree) → IsI8 t → (vs : Values) → AllAre (HasValue (scalar kinds.I8)) vs → AllAre (HasValue t) vs
 i8_back (scalar kinds.Bool) n vs h = absurd n
 i8_back (scalar kinds.I8) n vs h = h
-i8_back (scalar kinds.U8) n vs h = absurd n
+i8_back (scalar kinds.I16) n vs h = absurd n
 i8_back (scalar kinds.I32) n vs h = absurd n
 i8_back (scalar kinds.I64) n vs h = absurd n
+i8_back (scalar kinds.U8) n vs h = absurd n
+i8_back (scalar kinds.U16) n vs h = absurd n
+i8_back (scalar kinds.U32) n vs h = absurd n
+i8_back (scalar kinds.U64) n vs h = absurd n
 i8_back (vec t) n vs h = absurd n
 i8_back (struct_of ts) n vs h = absurd n
 i8_back (dict_of k v) n vs h = absurd n

@@ -17,9 +17,13 @@ integer_scalar : (k : Kind) → IsInteger k → (text : List ℕ) → scalar_at 
 unfolding scalar_at
 integer_scalar kinds.Bool h text = absurd h
 integer_scalar kinds.I8 h text = refl
-integer_scalar kinds.U8 h text = refl
+integer_scalar kinds.I16 h text = refl
 integer_scalar kinds.I32 h text = refl
 integer_scalar kinds.I64 h text = refl
+integer_scalar kinds.U8 h text = refl
+integer_scalar kinds.U16 h text = refl
+integer_scalar kinds.U32 h text = refl
+integer_scalar kinds.U64 h text = refl
 
 pub integer_read : (k : Kind) → IsInteger k → (text bare rest : List ℕ) (z : ℤ) (f : Flaw) (v : Value) → bare ≡ after_blanks text → integer_at bare ≡ Some (z, rest) → Judged f (number k z) v → IsRead (Found (scalar_at k)) text f v rest
 integer_read k i text bare rest z f v b h j = record {

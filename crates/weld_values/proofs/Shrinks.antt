@@ -80,9 +80,13 @@ pub scalar_shrinks : (k : Kind) → Shrinks (Found (scalar_at k))
 unfolding scalar_at
 scalar_shrinks kinds.Bool v text r h = omega (arith, truth_shorter (after_blanks text) v r h, blanks_no_longer text)
 scalar_shrinks kinds.I8 v text r h = number_shorter kinds.I8 text v r h
-scalar_shrinks kinds.U8 v text r h = number_shorter kinds.U8 text v r h
+scalar_shrinks kinds.I16 v text r h = number_shorter kinds.I16 text v r h
 scalar_shrinks kinds.I32 v text r h = number_shorter kinds.I32 text v r h
 scalar_shrinks kinds.I64 v text r h = number_shorter kinds.I64 text v r h
+scalar_shrinks kinds.U8 v text r h = number_shorter kinds.U8 text v r h
+scalar_shrinks kinds.U16 v text r h = number_shorter kinds.U16 text v r h
+scalar_shrinks kinds.U32 v text r h = number_shorter kinds.U32 text v r h
+scalar_shrinks kinds.U64 v text r h = number_shorter kinds.U64 text v r h
 
 -- ---- lists
 

@@ -2,7 +2,7 @@
 use Rattle.std.specs.Prelude.{◌≡◌, ◌⊎◌, ℕ, List, [], ◌∷◌, map, codes, Option, Some, None, pos}
 use Rattle.std.specs.Option.{option_map}
 use Rattle.weld_data.specs.declared.kind.Kind.{Kind}
-use Rattle.weld_data.specs.declared.kind.Kind.TheVariants.{Bool, I8, U8, I32, I64}
+use Rattle.weld_data.specs.declared.kind.Kind.TheVariants.{Bool, I8, I16, I32, I64, U8, U16, U32, U64}
 use Rattle.weld_data.specs.Wrapped.{wrapped}
 use Rattle.weld_data.specs.Value.{Value, number, list, struct, dict, Values, no_values, and_value, values, entries}
 use Rattle.weld_tree.specs.TypeTree.{TypeTree, TypeTrees, scalar, vec, struct as struct_of, dict as dict_of, build, no_types, more_types}
@@ -26,9 +26,13 @@ number_at kind text = option_map (λ found. (number kind found.0, found.1)) (int
 unfoldable pub scalar_at : Kind → List ℕ → Option (Value × List ℕ)
 scalar_at Bool text = truth_at (after_blanks text)
 scalar_at I8 text = number_at I8 text
-scalar_at U8 text = number_at U8 text
+scalar_at I16 text = number_at I16 text
 scalar_at I32 text = number_at I32 text
 scalar_at I64 text = number_at I64 text
+scalar_at U8 text = number_at U8 text
+scalar_at U16 text = number_at U16 text
+scalar_at U32 text = number_at U32 text
+scalar_at U64 text = number_at U64 text
 
 -- how one part stands at the front of a text, and what follows it
 abbrev pub Part : Type 0 → Type 1

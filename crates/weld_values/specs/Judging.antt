@@ -1,5 +1,5 @@
 -- What the readers of this crate tell of what they read.
-use Rattle.std.specs.Prelude.{◌≡◌, ◌++◌, ◌⊎◌, ◌<ℤ◌, ◌≤ℤ◌, ◌<◌, ◌^◌, ℕ, ℤ, pos, neg_ℤ, List, [], ◌∷◌, Some, map, All}
+use Rattle.std.specs.Prelude.{◌≡◌, ◌++◌, ◌⊎◌, ◌<ℤ◌, ◌≤ℤ◌, ◌≤◌, ◌^◌, ℕ, ℤ, pos, neg_ℤ, List, [], ◌∷◌, Some, map, All}
 use Rattle.weld_data.specs.Wrapped.{wrapped}
 use Rattle.weld_data.specs.declared.kind.Kind.TheVariants.{I8}
 use Rattle.weld_data.specs.Value.{Value, Values, and_value, list, values, entries}
@@ -99,11 +99,11 @@ pub record ItemsSoFar (text rest : List ℕ) (items : List ℤ) : Type 0 where
 
 -- the two numbers are one, or both are greater than any that a kind has without its sign
 abbrev pub IsCapped : ℕ → ℕ → Type 0
-IsCapped value n = (value ≡ n) ⊎ ((2 ^ 63 < value) × (2 ^ 63 < n))
+IsCapped value n = (value ≡ n) ⊎ ((2 ^ 64 ≤ value) × (2 ^ 64 ≤ n))
 
 -- the two numbers are one, or each is less than the least of any kind or greater than the greatest
 abbrev pub IsFarOut : ℤ → Type 0
-IsFarOut x = (x <ℤ neg_ℤ (pos (2 ^ 63))) ⊎ (pos (2 ^ 63) ≤ℤ x)
+IsFarOut x = (x <ℤ neg_ℤ (pos (2 ^ 63))) ⊎ (pos (2 ^ 64) ≤ℤ x)
 
 abbrev pub IsClamped : ℤ → ℤ → Type 0
 IsClamped x z = (x ≡ z) ⊎ (IsFarOut x × IsFarOut z)

@@ -72,14 +72,14 @@ impl Cell for i8 {
     }
 }
 
-impl Cell for u8 {
-    ghost kind = { kinds.U8 };
+impl Cell for i16 {
+    ghost kind = { kinds.I16 };
 
-    ghost value = { λ (n : ℕ). number kinds.U8 (pos n) };
+    ghost value = { number kinds.I16 };
 
-    fn read(text: &[u8]) -> Option<(u8, Flaw, &[u8])> {
+    fn read(text: &[u8]) -> Option<(i16, Flaw, &[u8])> {
         match integer(after_blanks(text)) {
-            Some((x, rest)) => Some(narrowed_u8(x, rest)),
+            Some((x, rest)) => Some(narrowed_i16(x, rest)),
             None => None,
         }
     }
@@ -111,6 +111,58 @@ impl Cell for i64 {
     }
 }
 
+impl Cell for u8 {
+    ghost kind = { kinds.U8 };
+
+    ghost value = { λ (n : ℕ). number kinds.U8 (pos n) };
+
+    fn read(text: &[u8]) -> Option<(u8, Flaw, &[u8])> {
+        match integer(after_blanks(text)) {
+            Some((x, rest)) => Some(narrowed_u8(x, rest)),
+            None => None,
+        }
+    }
+}
+
+impl Cell for u16 {
+    ghost kind = { kinds.U16 };
+
+    ghost value = { λ (n : ℕ). number kinds.U16 (pos n) };
+
+    fn read(text: &[u8]) -> Option<(u16, Flaw, &[u8])> {
+        match integer(after_blanks(text)) {
+            Some((x, rest)) => Some(narrowed_u16(x, rest)),
+            None => None,
+        }
+    }
+}
+
+impl Cell for u32 {
+    ghost kind = { kinds.U32 };
+
+    ghost value = { λ (n : ℕ). number kinds.U32 (pos n) };
+
+    fn read(text: &[u8]) -> Option<(u32, Flaw, &[u8])> {
+        match integer(after_blanks(text)) {
+            Some((x, rest)) => Some(narrowed_u32(x, rest)),
+            None => None,
+        }
+    }
+}
+
+impl Cell for u64 {
+    ghost kind = { kinds.U64 };
+
+    ghost value = { λ (n : ℕ). number kinds.U64 (pos n) };
+
+    fn read(text: &[u8]) -> Option<(u64, Flaw, &[u8])> {
+        match integer(after_blanks(text)) {
+            Some((x, rest)) => Some(narrowed_u64(x, rest)),
+            None => None,
+        }
+    }
+}
+
 /// The number as one of kind i8, if it is in range; and what follows it.
 fn narrowed_i8(x: i128, rest: &[u8]) -> (i8, Flaw, &[u8])
     ensures judged { (z : ℤ) → IsClamped x z → Judged result.1 (number kinds.I8 z) (number kinds.I8 result.0) }
@@ -123,15 +175,15 @@ fn narrowed_i8(x: i128, rest: &[u8]) -> (i8, Flaw, &[u8])
     }
 }
 
-/// The number as one of kind u8, if it is in range; and what follows it.
-fn narrowed_u8(x: i128, rest: &[u8]) -> (u8, Flaw, &[u8])
-    ensures judged { (z : ℤ) → IsClamped x z → Judged result.1 (number kinds.U8 z) (number kinds.U8 (pos result.0)) }
+/// The number as one of kind i16, if it is in range; and what follows it.
+fn narrowed_i16(x: i128, rest: &[u8]) -> (i16, Flaw, &[u8])
+    ensures judged { (z : ℤ) → IsClamped x z → Judged result.1 (number kinds.I16 z) (number kinds.I16 result.0) }
     ensures rest { result.2.now ≡ rest.now }
 {
-    if x < i128::from(u8::MIN) || i128::from(u8::MAX) < x {
+    if x < i128::from(i16::MIN) || i128::from(i16::MAX) < x {
         (0, Flaw::Range, rest)
     } else {
-        (x as u8, Flaw::Fine, rest)
+        (x as i16, Flaw::Fine, rest)
     }
 }
 
@@ -156,5 +208,53 @@ fn narrowed_i64(x: i128, rest: &[u8]) -> (i64, Flaw, &[u8])
         (0, Flaw::Range, rest)
     } else {
         (x as i64, Flaw::Fine, rest)
+    }
+}
+
+/// The number as one of kind u8, if it is in range; and what follows it.
+fn narrowed_u8(x: i128, rest: &[u8]) -> (u8, Flaw, &[u8])
+    ensures judged { (z : ℤ) → IsClamped x z → Judged result.1 (number kinds.U8 z) (number kinds.U8 (pos result.0)) }
+    ensures rest { result.2.now ≡ rest.now }
+{
+    if x < i128::from(u8::MIN) || i128::from(u8::MAX) < x {
+        (0, Flaw::Range, rest)
+    } else {
+        (x as u8, Flaw::Fine, rest)
+    }
+}
+
+/// The number as one of kind u16, if it is in range; and what follows it.
+fn narrowed_u16(x: i128, rest: &[u8]) -> (u16, Flaw, &[u8])
+    ensures judged { (z : ℤ) → IsClamped x z → Judged result.1 (number kinds.U16 z) (number kinds.U16 (pos result.0)) }
+    ensures rest { result.2.now ≡ rest.now }
+{
+    if x < i128::from(u16::MIN) || i128::from(u16::MAX) < x {
+        (0, Flaw::Range, rest)
+    } else {
+        (x as u16, Flaw::Fine, rest)
+    }
+}
+
+/// The number as one of kind u32, if it is in range; and what follows it.
+fn narrowed_u32(x: i128, rest: &[u8]) -> (u32, Flaw, &[u8])
+    ensures judged { (z : ℤ) → IsClamped x z → Judged result.1 (number kinds.U32 z) (number kinds.U32 (pos result.0)) }
+    ensures rest { result.2.now ≡ rest.now }
+{
+    if x < i128::from(u32::MIN) || i128::from(u32::MAX) < x {
+        (0, Flaw::Range, rest)
+    } else {
+        (x as u32, Flaw::Fine, rest)
+    }
+}
+
+/// The number as one of kind u64, if it is in range; and what follows it.
+fn narrowed_u64(x: i128, rest: &[u8]) -> (u64, Flaw, &[u8])
+    ensures judged { (z : ℤ) → IsClamped x z → Judged result.1 (number kinds.U64 z) (number kinds.U64 (pos result.0)) }
+    ensures rest { result.2.now ≡ rest.now }
+{
+    if x < i128::from(u64::MIN) || i128::from(u64::MAX) < x {
+        (0, Flaw::Range, rest)
+    } else {
+        (x as u64, Flaw::Fine, rest)
     }
 }

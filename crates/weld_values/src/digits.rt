@@ -12,23 +12,26 @@ fn is_digit(byte: u8) -> bool
     b'0' <= byte && byte <= b'9'
 }
 
-/// The number that a digit more writes. In place of a number greater than 2 to the 63 it may be another such one.
-fn appended(value: u64, digit: u8) -> u64
+/// The number that a digit more writes. In place of one that is greater than any of 64 bits it may be another such one.
+fn appended(value: u128, digit: u8) -> u128
     requires { digit ≤ 9 }
-    ensures small { value ≤ 922337203685477580 → result ≡ value * 10 + digit }
-    ensures great { 922337203685477580 < value → 2 ^ 63 < result }
+    ensures exact { value ≤ 18446744073709551615 → result ≡ value * 10 + digit }
+    ensures great { 18446744073709551615 < value → 2 ^ 64 ≤ result }
+    ensures small { value < 2 ^ 68 → result < 2 ^ 68 }
 {
-    if value > (1 << 63) / 10 {
-        u64::MAX
+    if value > u128::from(u64::MAX) {
+        value
     } else {
-        value * 10 + u64::from(digit)
+        value * 10 + u128::from(digit)
     }
 }
 
 /// The number that the digits at the front of the text write after those of another number, and what follows them. In place
-/// of a number greater than 2 to the 63 it may be another such one.
-fn many_digits(before: u64, text: &[u8]) -> (u64, &[u8])
+/// of one that is greater than any of 64 bits it may be another such one.
+fn wide_digits(before: u128, text: &[u8]) -> (u128, &[u8])
+    requires { before < 2 ^ 68 }
     ensures value { IsCapped result.0 (value_after before (digit_run text.now)) }
+    ensures small { result.0 < 2 ^ 68 }
     ensures rest { result.1.now ≡ after_digits text.now }
 {
     let mut value = before;
@@ -41,6 +44,27 @@ fn many_digits(before: u64, text: &[u8]) -> (u64, &[u8])
         rest = more;
     }
     (value, rest)
+}
+
+/// The same, in words of 64 bits as long as one digit more surely fits.
+fn many_digits(before: u64, text: &[u8]) -> (u128, &[u8])
+    ensures value { IsCapped result.0 (value_after before (digit_run text.now)) }
+    ensures small { result.0 < 2 ^ 68 }
+    ensures rest { result.1.now ≡ after_digits text.now }
+{
+    let mut value = before;
+    let mut rest = text;
+    while let Some((first, more)) = rest.split_first() {
+        if !is_digit(*first) {
+            break;
+        }
+        if value > u64::MAX / 10 - 1 {
+            return wide_digits(u128::from(value), rest);
+        }
+        value = value * 10 + u64::from(*first - b'0');
+        rest = more;
+    }
+    (u128::from(value), rest)
 }
 
 /// A run of digits as its bytes are taken one after another: the number that it writes, how many digits it has, and whether no
@@ -83,9 +107,10 @@ fn step_four(run: Run, a: u8, b: u8, c: u8, d: u8) -> Run
 }
 
 /// The same as `many_digits`, eight bytes at once where so many are left.
-fn eight_digits(before: u64, text: &[u8]) -> (u64, &[u8])
+fn eight_digits(before: u64, text: &[u8]) -> (u128, &[u8])
     requires { before < 10 ^ 9 }
     ensures value { IsCapped result.0 (value_after before (digit_run text.now)) }
+    ensures small { result.0 < 2 ^ 68 }
     ensures rest { result.1.now ≡ after_digits text.now }
 {
     match text {
@@ -100,7 +125,7 @@ fn eight_digits(before: u64, text: &[u8]) -> (u64, &[u8])
             if whole.goes_on {
                 many_digits(whole.value, more)
             } else {
-                (whole.value, &text[whole.count..])
+                (u128::from(whole.value), &text[whole.count..])
             }
         }
         _ => many_digits(before, text),
@@ -108,25 +133,27 @@ fn eight_digits(before: u64, text: &[u8]) -> (u64, &[u8])
 }
 
 /// The same where one digit stands before.
-fn second_digit(before: u64, text: &[u8]) -> (u64, &[u8])
+fn second_digit(before: u64, text: &[u8]) -> (u128, &[u8])
     requires { before < 10 }
     ensures value { IsCapped result.0 (value_after before (digit_run text.now)) }
+    ensures small { result.0 < 2 ^ 68 }
     ensures rest { result.1.now ≡ after_digits text.now }
 {
     match text {
         [first, rest @ ..] if is_digit(*first) => {
             eight_digits(before * 10 + u64::from(*first - b'0'), rest)
         }
-        _ => (before, text),
+        _ => (u128::from(before), text),
     }
 }
 
 /// The number that the digits at the front of the text write, 0 where there are none, and what follows them.
-/// In place of a number greater than 2 to the 63 it may be another such one.
+/// In place of one that is greater than any of 64 bits it may be another such one.
 ///
 /// Two digits are taken one by one, and eight at once after them, since most numbers are short or long.
-pub(crate) fn leading_digits(text: &[u8]) -> (u64, &[u8])
+pub(crate) fn leading_digits(text: &[u8]) -> (u128, &[u8])
     ensures value { IsCapped result.0 (value_after 0 (digit_run text.now)) }
+    ensures small { result.0 < 2 ^ 68 }
     ensures rest { result.1.now ≡ after_digits text.now }
 {
     match text {

@@ -41,8 +41,8 @@ fn read_scalar(text: &[u8], kind: Kind) -> Option<(Val, Flaw, &[u8])>
             Some((value, flaw, rest)) => Some((Val::Num(Num::of_i8(value)), flaw, rest)),
             None => None,
         },
-        Kind::U8 => match u8::read(text) {
-            Some((value, flaw, rest)) => Some((Val::Num(Num::of_u8(value)), flaw, rest)),
+        Kind::I16 => match i16::read(text) {
+            Some((value, flaw, rest)) => Some((Val::Num(Num::of_i16(value)), flaw, rest)),
             None => None,
         },
         Kind::I32 => match i32::read(text) {
@@ -51,6 +51,22 @@ fn read_scalar(text: &[u8], kind: Kind) -> Option<(Val, Flaw, &[u8])>
         },
         Kind::I64 => match i64::read(text) {
             Some((value, flaw, rest)) => Some((Val::Num(Num::of_i64(value)), flaw, rest)),
+            None => None,
+        },
+        Kind::U8 => match u8::read(text) {
+            Some((value, flaw, rest)) => Some((Val::Num(Num::of_u8(value)), flaw, rest)),
+            None => None,
+        },
+        Kind::U16 => match u16::read(text) {
+            Some((value, flaw, rest)) => Some((Val::Num(Num::of_u16(value)), flaw, rest)),
+            None => None,
+        },
+        Kind::U32 => match u32::read(text) {
+            Some((value, flaw, rest)) => Some((Val::Num(Num::of_u32(value)), flaw, rest)),
+            None => None,
+        },
+        Kind::U64 => match u64::read(text) {
+            Some((value, flaw, rest)) => Some((Val::Num(Num::of_u64(value)), flaw, rest)),
             None => None,
         },
     }
@@ -74,8 +90,8 @@ fn read_column<'a>(
             Some((items, flaw, rest)) => Some((Column::I8(items), flaw, rest)),
             None => None,
         }),
-        Kind::U8 => Ok(match read_cells::<u8>(alloc, text)? {
-            Some((items, flaw, rest)) => Some((Column::U8(items), flaw, rest)),
+        Kind::I16 => Ok(match read_cells::<i16>(alloc, text)? {
+            Some((items, flaw, rest)) => Some((Column::I16(items), flaw, rest)),
             None => None,
         }),
         Kind::I32 => Ok(match read_cells::<i32>(alloc, text)? {
@@ -84,6 +100,22 @@ fn read_column<'a>(
         }),
         Kind::I64 => Ok(match read_cells::<i64>(alloc, text)? {
             Some((items, flaw, rest)) => Some((Column::I64(items), flaw, rest)),
+            None => None,
+        }),
+        Kind::U8 => Ok(match read_cells::<u8>(alloc, text)? {
+            Some((items, flaw, rest)) => Some((Column::U8(items), flaw, rest)),
+            None => None,
+        }),
+        Kind::U16 => Ok(match read_cells::<u16>(alloc, text)? {
+            Some((items, flaw, rest)) => Some((Column::U16(items), flaw, rest)),
+            None => None,
+        }),
+        Kind::U32 => Ok(match read_cells::<u32>(alloc, text)? {
+            Some((items, flaw, rest)) => Some((Column::U32(items), flaw, rest)),
+            None => None,
+        }),
+        Kind::U64 => Ok(match read_cells::<u64>(alloc, text)? {
+            Some((items, flaw, rest)) => Some((Column::U64(items), flaw, rest)),
             None => None,
         }),
     }

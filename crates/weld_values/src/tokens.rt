@@ -1,6 +1,6 @@
 //! The parts of a value's text that are no values themselves.
 
-ghost use Rattle.std.specs.Prelude.{◌≡◌, ◌≤◌, ◌+◌, ◌<◌, length, pos, neg_ℤ, ℤ, ℕ, Some, None, IfSome, IfNone};
+ghost use Rattle.std.specs.Prelude.{◌≡◌, ◌≤◌, ◌+◌, ◌<◌, ◌^◌, length, pos, neg_ℤ, ℤ, ℕ, Some, None, IfSome, IfNone};
 ghost use Rattle.std.specs.Option.{option_copied, option_map};
 ghost use Rattle.weld_values.specs.Tokens as tokens;
 ghost use Rattle.weld_values.specs.Tokens.{is_blank, numeral_at, integer_at};
@@ -55,8 +55,9 @@ pub(crate) fn byte_at(text: &[u8], byte: u8) -> Option<&[u8]>
 }
 
 /// The number that the digits at the front of the text write, and what follows them; none where no digit stands there.
-fn numeral(text: &[u8]) -> Option<(u64, &[u8])>
+fn numeral(text: &[u8]) -> Option<(u128, &[u8])>
     ensures found { IfSome result (λ found. (n : ℕ) × (numeral_at text.now ≡ Some (n, found.1.now)) × IsCapped found.0 n) }
+    ensures small { IfSome result (λ found. found.0 < 2 ^ 68) }
     ensures none { IfNone result (numeral_at text.now ≡ None) }
     ensures less { IfSome result (λ found. length found.1.now < length text.now) }
 {
@@ -94,17 +95,19 @@ fn positive(digits: &[u8]) -> Option<(i128, &[u8])>
 }
 
 /// The number with a minus before it.
-fn negated(value: u64) -> i128
+fn negated(value: u128) -> i128
+    requires { value < 2 ^ 68 }
     ensures { result ≡ neg_ℤ (pos value) }
 {
-    -i128::from(value)
+    -(value as i128)
 }
 
-/// The number.
-fn widened(value: u64) -> i128
+/// The number with no sign before it.
+fn widened(value: u128) -> i128
+    requires { value < 2 ^ 68 }
     ensures { result ≡ pos value }
 {
-    i128::from(value)
+    value as i128
 }
 
 /// The integer at the front of the text, and what follows it. In place of one that no kind has it may be another such one.

@@ -79,6 +79,24 @@ fn vectors_of_u8(rt: HostRuntime) -> Result<(), Fail> {
     Ok(())
 }
 
+static U64S: [Case; 5] = [
+    (
+        "[0,18446744073709551615,00018446744073709551615]",
+        Ok("[0,18446744073709551615,18446744073709551615]"),
+    ),
+    ("[18446744073709551616]", Err(DataFault::Range)),
+    ("[18446744073709551620]", Err(DataFault::Range)),
+    ("[184467440737095516159]", Err(DataFault::Range)),
+    ("[-1]", Err(DataFault::Range)),
+];
+
+#[test]
+fn vectors_of_u64(rt: HostRuntime) -> Result<(), Fail> {
+    let ty = vec_of(rt.alloc(), Kind::U64)?;
+    assert!(rt; all_hold(rt.alloc(), &ty, &U64S));
+    Ok(())
+}
+
 static I8S: [Case; 6] = [
     (
         "\"a\\\"\\\\\\n\\t\\xFf~\"",

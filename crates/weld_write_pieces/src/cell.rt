@@ -47,6 +47,16 @@ fn put_number(number: i64, bytes: &mut [u8], end: usize) -> usize
     put_before(b',', bytes, digits)
 }
 
+/// Writes a comma and the number, which has no sign.
+fn put_natural(number: u64, bytes: &mut [u8], end: usize) -> usize
+    requires room { (21 ≤ end) × (end ≤ length bytes.old) }
+    ensures begin { (result < end) × (end ≤ result + 21) }
+    ensures written { drop result bytes.new ≡ 44 ∷ signed_decimal (pos number) ++ drop end bytes.old }
+{
+    let digits = write_digits(number, bytes, end);
+    put_before(b',', bytes, digits)
+}
+
 /// Writes a comma and `true`.
 fn put_true(bytes: &mut [u8], end: usize) -> usize
     requires room { (21 ≤ end) × (end ≤ length bytes.old) }
@@ -88,8 +98,8 @@ impl Cell for bool {
     }
 }
 
-impl Cell for u8 {
-    ghost value = { λ (n : ℕ). number kinds.U8 (pos n) };
+impl Cell for i16 {
+    ghost value = { number kinds.I16 };
 
     fn write_before(self, bytes: &mut [u8], end: usize) -> usize {
         put_number(i64::from(self), bytes, end)
@@ -109,5 +119,37 @@ impl Cell for i64 {
 
     fn write_before(self, bytes: &mut [u8], end: usize) -> usize {
         put_number(self, bytes, end)
+    }
+}
+
+impl Cell for u8 {
+    ghost value = { λ (n : ℕ). number kinds.U8 (pos n) };
+
+    fn write_before(self, bytes: &mut [u8], end: usize) -> usize {
+        put_natural(u64::from(self), bytes, end)
+    }
+}
+
+impl Cell for u16 {
+    ghost value = { λ (n : ℕ). number kinds.U16 (pos n) };
+
+    fn write_before(self, bytes: &mut [u8], end: usize) -> usize {
+        put_natural(u64::from(self), bytes, end)
+    }
+}
+
+impl Cell for u32 {
+    ghost value = { λ (n : ℕ). number kinds.U32 (pos n) };
+
+    fn write_before(self, bytes: &mut [u8], end: usize) -> usize {
+        put_natural(u64::from(self), bytes, end)
+    }
+}
+
+impl Cell for u64 {
+    ghost value = { λ (n : ℕ). number kinds.U64 (pos n) };
+
+    fn write_before(self, bytes: &mut [u8], end: usize) -> usize {
+        put_natural(self, bytes, end)
     }
 }

@@ -4,7 +4,7 @@ use Rattle.std.specs.Ordering.{int_eq}
 use Rattle.std.specs.Fmt.{signed_decimal}
 use Rattle.std.specs.Int.{w8, cast_unsigned}
 use Rattle.weld_data.specs.declared.kind.Kind.{Kind}
-use Rattle.weld_data.specs.declared.kind.Kind.TheVariants.{Bool, I8, U8, I32, I64}
+use Rattle.weld_data.specs.declared.kind.Kind.TheVariants.{Bool, I8, I16, I32, I64, U8, U16, U32, U64}
 use Rattle.weld_data.specs.Value.{Value, number, list, struct, dict, Values, no_values, and_value, list_of_values, list_of_entries}
 use Rattle.weld_tree.specs.TypeTree.{TypeTree, TypeTrees, scalar, vec, struct as struct_of, dict as dict_of, build, no_types, more_types}
 
@@ -12,9 +12,13 @@ use Rattle.weld_tree.specs.TypeTree.{TypeTree, TypeTrees, scalar, vec, struct as
 abbrev pub IsI8 : TypeTree → Type 0
 IsI8 (scalar Bool) = ⊥
 IsI8 (scalar I8) = Unit {0}
-IsI8 (scalar U8) = ⊥
+IsI8 (scalar I16) = ⊥
 IsI8 (scalar I32) = ⊥
 IsI8 (scalar I64) = ⊥
+IsI8 (scalar U8) = ⊥
+IsI8 (scalar U16) = ⊥
+IsI8 (scalar U32) = ⊥
+IsI8 (scalar U64) = ⊥
 IsI8 (vec t) = ⊥
 IsI8 (struct_of ts) = ⊥
 IsI8 (dict_of k v) = ⊥
@@ -24,9 +28,13 @@ IsI8 (build b) = ⊥
 abbrev pub shown_number : Kind → ℤ → List ℕ
 shown_number Bool x = if int_eq x (pos 0) then codes "false" else codes "true"
 shown_number I8 x = signed_decimal x
-shown_number U8 x = signed_decimal x
+shown_number I16 x = signed_decimal x
 shown_number I32 x = signed_decimal x
 shown_number I64 x = signed_decimal x
+shown_number U8 x = signed_decimal x
+shown_number U16 x = signed_decimal x
+shown_number U32 x = signed_decimal x
+shown_number U64 x = signed_decimal x
 
 abbrev pub shown_scalar : Value → List ℕ
 shown_scalar (number k x) = shown_number k x
@@ -71,9 +79,13 @@ strung (v ∷ vs) = shown_item v ++ strung vs
 abbrev pub shown_elements : TypeTree → (Value → List ℕ) → List Value → List ℕ
 shown_elements (scalar I8) f vs = codes "\"" ++ strung vs ++ codes "\""
 shown_elements (scalar Bool) f vs = shown_list f vs
-shown_elements (scalar U8) f vs = shown_list f vs
+shown_elements (scalar I16) f vs = shown_list f vs
 shown_elements (scalar I32) f vs = shown_list f vs
 shown_elements (scalar I64) f vs = shown_list f vs
+shown_elements (scalar U8) f vs = shown_list f vs
+shown_elements (scalar U16) f vs = shown_list f vs
+shown_elements (scalar U32) f vs = shown_list f vs
+shown_elements (scalar U64) f vs = shown_list f vs
 shown_elements (vec t) f vs = shown_list f vs
 shown_elements (struct_of ts) f vs = shown_list f vs
 shown_elements (dict_of k v) f vs = shown_list f vs

@@ -41,11 +41,11 @@ impl Cell for i8 {
     }
 }
 
-impl Cell for u8 {
-    ghost value = { λ (n : ℕ). number kinds.U8 (pos n) };
+impl Cell for i16 {
+    ghost value = { number kinds.I16 };
 
     fn write(self, out: &mut Text) -> Result<(), AllocError> {
-        out.push_all(Buffer::new().format(u64::from(self)).as_bytes())
+        out.push_all(Buffer::new().format(i64::from(self)).as_bytes())
     }
 }
 
@@ -62,5 +62,37 @@ impl Cell for i64 {
 
     fn write(self, out: &mut Text) -> Result<(), AllocError> {
         out.push_all(Buffer::new().format(i64::from(self)).as_bytes())
+    }
+}
+
+impl Cell for u8 {
+    ghost value = { λ (n : ℕ). number kinds.U8 (pos n) };
+
+    fn write(self, out: &mut Text) -> Result<(), AllocError> {
+        out.push_all(Buffer::new().format(u64::from(self)).as_bytes())
+    }
+}
+
+impl Cell for u16 {
+    ghost value = { λ (n : ℕ). number kinds.U16 (pos n) };
+
+    fn write(self, out: &mut Text) -> Result<(), AllocError> {
+        out.push_all(Buffer::new().format(u64::from(self)).as_bytes())
+    }
+}
+
+impl Cell for u32 {
+    ghost value = { λ (n : ℕ). number kinds.U32 (pos n) };
+
+    fn write(self, out: &mut Text) -> Result<(), AllocError> {
+        out.push_all(Buffer::new().format(u64::from(self)).as_bytes())
+    }
+}
+
+impl Cell for u64 {
+    ghost value = { λ (n : ℕ). number kinds.U64 (pos n) };
+
+    fn write(self, out: &mut Text) -> Result<(), AllocError> {
+        out.push_all(Buffer::new().format(self).as_bytes())
     }
 }

@@ -108,9 +108,7 @@ fn write_number(number: Num, out: &mut Text) -> Result<(), AllocError>
                 out.push_all(b"true")
             }
         }
-        Kind::I8 | Kind::U8 | Kind::I32 | Kind::I64 => {
-            out.push_all(Buffer::new().format(number.value).as_bytes())
-        }
+        _ => { out.push_all(Buffer::new().format(number.value).as_bytes()) }
     }
 }
 
@@ -151,9 +149,13 @@ fn write_column(item: &Ty, column: &Column, out: &mut Text) -> Result<(), AllocE
     match column {
         Column::Bool(items) => write_cells(items.as_slice(), out),
         Column::I8(items) => write_cells(items.as_slice(), out),
-        Column::U8(items) => write_cells(items.as_slice(), out),
+        Column::I16(items) => write_cells(items.as_slice(), out),
         Column::I32(items) => write_cells(items.as_slice(), out),
         Column::I64(items) => write_cells(items.as_slice(), out),
+        Column::U8(items) => write_cells(items.as_slice(), out),
+        Column::U16(items) => write_cells(items.as_slice(), out),
+        Column::U32(items) => write_cells(items.as_slice(), out),
+        Column::U64(items) => write_cells(items.as_slice(), out),
         Column::Nest(items) => write_nested(item, items.as_slice(), out),
     }
 }

@@ -30,9 +30,13 @@ impl Column {
         match self {
             Column::Bool(items) => Ok(Column::Bool(Items::copy_of(alloc, items.as_slice())?)),
             Column::I8(items) => Ok(Column::I8(Items::copy_of(alloc, items.as_slice())?)),
-            Column::U8(items) => Ok(Column::U8(Items::copy_of(alloc, items.as_slice())?)),
+            Column::I16(items) => Ok(Column::I16(Items::copy_of(alloc, items.as_slice())?)),
             Column::I32(items) => Ok(Column::I32(Items::copy_of(alloc, items.as_slice())?)),
             Column::I64(items) => Ok(Column::I64(Items::copy_of(alloc, items.as_slice())?)),
+            Column::U8(items) => Ok(Column::U8(Items::copy_of(alloc, items.as_slice())?)),
+            Column::U16(items) => Ok(Column::U16(Items::copy_of(alloc, items.as_slice())?)),
+            Column::U32(items) => Ok(Column::U32(Items::copy_of(alloc, items.as_slice())?)),
+            Column::U64(items) => Ok(Column::U64(Items::copy_of(alloc, items.as_slice())?)),
             Column::Nest(items) => Ok(Column::Nest(items.copy(alloc)?)),
         }
     }

@@ -53,9 +53,13 @@ fn compare_columns(a: &Column, b: &Column) -> Ordering
     match (a, b) {
         (Column::Bool(x), Column::Bool(y)) => x.as_slice().cmp(&y.as_slice()),
         (Column::I8(x), Column::I8(y)) => x.as_slice().cmp(&y.as_slice()),
-        (Column::U8(x), Column::U8(y)) => x.as_slice().cmp(&y.as_slice()),
+        (Column::I16(x), Column::I16(y)) => x.as_slice().cmp(&y.as_slice()),
         (Column::I32(x), Column::I32(y)) => x.as_slice().cmp(&y.as_slice()),
         (Column::I64(x), Column::I64(y)) => x.as_slice().cmp(&y.as_slice()),
+        (Column::U8(x), Column::U8(y)) => x.as_slice().cmp(&y.as_slice()),
+        (Column::U16(x), Column::U16(y)) => x.as_slice().cmp(&y.as_slice()),
+        (Column::U32(x), Column::U32(y)) => x.as_slice().cmp(&y.as_slice()),
+        (Column::U64(x), Column::U64(y)) => x.as_slice().cmp(&y.as_slice()),
         _ => compare_numbers(a, b),
     }
 }

@@ -68,11 +68,10 @@ pub fn summed_by_keys(alloc: Global, arguments: &Vals, types: &Tys) -> Result<Va
     requires values { AreOf types.now arguments.now }
     ensures { Answers view_val result (call_meaning calls.GroupSum types.now arguments.now) }
 {
-    let key = kept_kind_at(types, 0);
     let kind = kind_at(types, 1);
     let keys = argument(arguments, 0);
     let v = argument(arguments, 1);
-    or_fault(group_sum(alloc, key, kind, keys, v))
+    or_fault(group_sum(alloc, kind, keys, v))
 }
 
 /// Each key and the vector of the elements at its places.
@@ -81,11 +80,10 @@ pub fn listed_by_keys(alloc: Global, arguments: &Vals, types: &Tys) -> Result<Va
     requires values { AreOf types.now arguments.now }
     ensures { Answers view_val result (call_meaning calls.GroupList types.now arguments.now) }
 {
-    let key = kept_kind_at(types, 0);
     let kind = kept_kind_at(types, 1);
     let keys = argument(arguments, 0);
     let v = argument(arguments, 1);
-    or_fault(group_list(alloc, key, kind, keys, v))
+    or_fault(group_list(alloc, kind, keys, v))
 }
 
 /// Each key and how often it stands there.
@@ -94,7 +92,6 @@ pub fn counted_by_keys(alloc: Global, arguments: &Vals, types: &Tys) -> Result<V
     requires values { AreOf types.now arguments.now }
     ensures { Answers view_val result (call_meaning calls.GroupCount types.now arguments.now) }
 {
-    let key = kept_kind_at(types, 0);
     let keys = argument(arguments, 0);
-    always(group_count(alloc, key, keys))
+    always(group_count(alloc, keys))
 }

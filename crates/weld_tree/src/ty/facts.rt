@@ -1,6 +1,6 @@
 ghost use Rattle.std.specs.Prelude.{◌↔◌, IsTrue, All};
 ghost use Rattle.weld_tree.specs.TypeView.{view_build};
-ghost use Rattle.weld_tree.specs.Types.{IsBuilderFree, IsBuilder, IsScalarType, IsIntegerType, IsKeyField, IsKey, IsWellFormed, IsWellFormedBuild};
+ghost use Rattle.weld_tree.specs.Types.{IsBuilderFree, IsBuilder, IsScalarType, IsIntegerType, IsMergerType, IsKeyField, IsKey, IsWellFormed, IsWellFormedBuild};
 
 use crate::ty::{BuildTy, Ty, TyForm, Tys};
 use weld_data::Kind;
@@ -50,8 +50,21 @@ impl Ty {
     {
         match &self.form {
             TyForm::Scalar(Kind::Bool) => false,
-            TyForm::Scalar(Kind::I8 | Kind::U8 | Kind::I32 | Kind::I64) => true,
+            TyForm::Scalar(_) => true,
             TyForm::Vec(_) | TyForm::Struct(_) | TyForm::Dict(_, _) | TyForm::Build(_) => false,
+        }
+    }
+
+    /// Whether a merger may combine values of the type: an integer kind, or a struct of integer kinds.
+    #[tactic(auto, using(crate::proofs::Fields::are_integer_types_of_all, crate::proofs::Fields::all_integer_types, crate::proofs::Fields::has_types, crate::proofs::Fields::some_types))]
+    pub fn is_mergeable(&self) -> bool
+        ensures { IsTrue result ↔ IsMergerType self.now }
+    {
+        match &self.form {
+            TyForm::Struct(fields) => !fields.is_empty() && fields.are_integers(),
+            TyForm::Scalar(_) | TyForm::Vec(_) | TyForm::Dict(_, _) | TyForm::Build(_) => {
+                self.is_integer()
+            }
         }
     }
 
@@ -104,7 +117,7 @@ impl BuildTy {
     {
         match self {
             BuildTy::List(item) => item.is_well_formed() && item.is_builder_free(),
-            BuildTy::Total(item, _) => item.is_integer(),
+            BuildTy::Total(item, _) => item.is_mergeable(),
             BuildTy::Keyed(key, value, _) => key.is_key() && value.is_integer(),
             BuildTy::Cells(item, _) => item.is_integer(),
             BuildTy::Groups(key, value) => {
@@ -135,6 +148,17 @@ impl Tys {
     {
         for ty in &self.items {
             if !ty.is_builder() {
+                return false;
+            }
+        }
+        true
+    }
+
+    fn are_integers(&self) -> bool
+        ensures { IsTrue result ↔ All IsIntegerType self.now }
+    {
+        for ty in &self.items {
+            if !ty.is_integer() {
                 return false;
             }
         }

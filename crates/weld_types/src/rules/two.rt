@@ -70,7 +70,7 @@ fn is_integer_kind(kind: Kind) -> bool
 {
     match kind {
         Kind::Bool => false,
-        Kind::I8 | Kind::U8 | Kind::I32 | Kind::I64 => true,
+        _ => true,
     }
 }
 

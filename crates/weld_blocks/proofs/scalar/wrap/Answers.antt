@@ -1,4 +1,4 @@
-use Rattle.std.proofs.Common.{w8, w32, w64}
+use Rattle.std.proofs.Common.{w8, w16, w32, w64}
 use Rattle.weld_blocks.proofs.Scalars.{by_bits}
 use Rattle.weld_blocks.proofs.scalar.wrap.Goals as goal
 
@@ -11,3 +11,8 @@ pub returns-in-I32-clause-value : goal.returns-in-I32-clause-value
 returns-in-I32-clause-value c =
     rw c.in-I32.is
     (by_bits w64 w32 _ _ _ _ c.ranges.x (record { sfits = c.rem_euclid-in-I32.type_inv }) (record { sfits = c.cast_signed-in-I32.type_inv }) (record { sfits = c.from-in-I32.type_inv }) c.rem_euclid-in-I32.ensures.value c.cast_signed-in-I32.ensures c.from-in-I32.ensures)
+
+pub returns-in-I16-clause-value : goal.returns-in-I16-clause-value
+returns-in-I16-clause-value c =
+    rw c.in-I16.is
+    (by_bits w64 w16 _ _ _ _ c.ranges.x (record { sfits = c.rem_euclid-in-I16.type_inv }) (record { sfits = c.cast_signed-in-I16.type_inv }) (record { sfits = c.from-in-I16.type_inv }) c.rem_euclid-in-I16.ensures.value c.cast_signed-in-I16.ensures c.from-in-I16.ensures)

@@ -15,8 +15,8 @@ loop-place-preserved g c =
     let bits : to_z w64 (of_z w64 n) ≡ n = to_z-of_z w64 n (record { sfits = c.of.type_inv }) in
     let x = get_or c.args.left.now place (pos 0) in
     let y = get_or c.args.right.now place (pos 0) in
-    let left : to_z w64 (of_z w64 x) ≡ x = to_z-of_z w64 x (FitsSigned-kind kind x (c.requires.left place)) in
-    let right : to_z w64 (of_z w64 y) ≡ y = to_z-of_z w64 y (FitsSigned-kind kind y (c.requires.right place)) in
+    let left : to_z w64 (of_z w64 x) ≡ x = to_z-of_z w64 x (FitsSigned-kind kind x c.requires.narrow (c.requires.left place)) in
+    let right : to_z w64 (of_z w64 y) ≡ y = to_z-of_z w64 y (FitsSigned-kind kind y c.requires.narrow (c.requires.right place)) in
     let is : Some n ≡ operation op kind x y =
     subst (λ v. Some n ≡ operation op kind x v) right (subst (λ u. Some n ≡ operation op kind u (to_z w64 (of_z w64 y))) left c.of.ensures.value) in
     let less : place < length c.loop-place.items = omega arith in

@@ -9,5 +9,5 @@ pub returns-then-keeps-clause-keys : goal.returns-then-keeps-clause-keys
 returns-then-keeps-clause-keys c =
     merged_keys c.merge_number.result (combined c.args.part.now.op c.args.part.now.kind) c.args.part.now.key c.merge_number.new.self.key c.args.part.now.numbers c.merge_number.new.self.numbers _ _
     c.requires.keys
-    (number_is_kept c.args.part.now.key c.args.key_kind _ (sym c.key.ensures ∙ c.if-keeps.ensures.yes refl) (subst (InRange c.args.key_kind) (sym (to_z-of_z w64 c.args.key c.ranges.key)) c.requires.key))
+    (number_is_kept c.args.part.now.key c.args.key_kind _ (sym c.key.ensures.key ∙ c.if-keeps.ensures.yes refl) (subst (InRange c.args.key_kind) (sym (to_z-of_z w64 c.args.key c.ranges.key)) c.requires.key))
     c.merge_number.ensures.ok c.merge_number.ensures.err c.merge_number.ensures.key

@@ -1,4 +1,4 @@
-use Rattle.std.proofs.Common.{w8, w32, w64}
+use Rattle.std.proofs.Common.{w8, w16, w32, w64}
 use Rattle.weld_data.proofs.Wrapping.{wrapped_by_bits}
 use Rattle.weld_data.proofs.scalar.wrap.Goals as goal
 
@@ -6,6 +6,11 @@ pub returns-in-I8-clause-value : goal.returns-in-I8-clause-value
 returns-in-I8-clause-value c =
     rw c.in-I8.is
     (wrapped_by_bits w8 _ _ _ _ c.ranges.x (record { sfits = c.rem_euclid.type_inv }) (record { sfits = c.cast_signed.type_inv }) (record { sfits = c.from.type_inv }) c.rem_euclid.ensures.value c.cast_signed.ensures c.from.ensures)
+
+pub returns-in-I16-clause-value : goal.returns-in-I16-clause-value
+returns-in-I16-clause-value c =
+    rw c.in-I16.is
+    (wrapped_by_bits w16 _ _ _ _ c.ranges.x (record { sfits = c.rem_euclid-in-I16.type_inv }) (record { sfits = c.cast_signed-in-I16.type_inv }) (record { sfits = c.from-in-I16.type_inv }) c.rem_euclid-in-I16.ensures.value c.cast_signed-in-I16.ensures c.from-in-I16.ensures)
 
 pub returns-in-I32-clause-value : goal.returns-in-I32-clause-value
 returns-in-I32-clause-value c =

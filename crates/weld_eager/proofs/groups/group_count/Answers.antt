@@ -8,4 +8,4 @@ returns c =
     c.in_ok-counts.ensures.kind c.column_of-column.ensures c.in_ok-counts.ensures.counts c.in_ok-into_pairs.ensures
 
 pub counts_by_keys-requires : goal.counts_by_keys-requires
-counts_by_keys-requires c = key_column c.args.key (view_val c.args.keys.now) (view_column c.column_of-column.result.now) c.requires c.column_of-column.ensures
+counts_by_keys-requires c = key_column (view_val c.args.keys.now) (view_column c.column_of-column.result.now) c.requires c.column_of-column.ensures

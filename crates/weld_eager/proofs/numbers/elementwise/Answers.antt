@@ -1,5 +1,5 @@
 use Rattle.std.proofs.Common.{arith, sym, ◌∙◌}
-use Rattle.weld_pieces.proofs.CellLemmas.{cell_in_range}
+use Rattle.weld_eager.proofs.Words.{cell_in_range}
 use Rattle.weld_eager.proofs.Combining.{pushed, elementwise_apart, elementwise_more, elementwise_stops, all_in_range_more}
 use Rattle.weld_eager.proofs.numbers.elementwise.Goals as goal
 

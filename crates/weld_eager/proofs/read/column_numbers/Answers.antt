@@ -7,7 +7,7 @@ number_at-requires-clause-number c = is_there (view_column c.args.column.now) c.
 
 pub loop-place-preserved : goal.loop-place-preserved
 loop-place-preserved c = (
-  number_more (view_column c.args.column.now) c.loop-place.place c.number_at.result.kind c.number_at.result.value c.kept.result c.loop-place.numbers.items c.push.new.self.items
-      c.kept.ensures.in_range c.kept.ensures.value c.in_ok-push.ensures.items c.loop-place.invariant.0 c.number_at.ensures,
+  number_more (view_column c.args.column.now) c.loop-place.place c.number_at.result.kind c.number_at.result.value c.loop-place.numbers.items c.push.new.self.items
+      c.number_at.result.in_range c.in_ok-push.ensures.items c.loop-place.invariant.0 c.number_at.ensures,
   c.loop-place.invariant.1,
 )

@@ -242,8 +242,8 @@ put_written-returns-in-Err-tried t c =
     let item : c.index-parts-1.result ≡ get_or c.in-Many.parts 1 c.index-parts-1.result = c.index-parts-1.is ∙ ap (λ (l : List ExprTree). get_or l 1 c.index-parts-1.result) c.as_slice-parts.ensures.value in
     pair_item_stops (Unit {0}) c.in-Err-tried.stop _ _ c.in-Many.parts (env_of c.args.frame.now) c.args.item.now c.index-parts-1.result (thing_of c.args.builder.now) (thing_of c.args.builder.now) is c.requires.form c.requires.runs item c.requires.fits c.in-Err-tried.ensures
 
-pub put_written-put_pair-requires : goal.put_written-put_pair-requires
-put_written-put_pair-requires t c =
+pub put_written-put_two-requires : goal.put_written-put_two-requires
+put_written-put_two-requires t c =
     let is : c.args.item.now ≡ many (record { place = c.item.inside.place; ty = c.item.inside.ty }) (view_many c.in-Many.field-0) (pack_exprs c.in-Many.parts) = sym c.item.view_is ∙ ap (λ (f : Form). view_form f (record { place = c.item.inside.place; ty = c.item.inside.ty })) c.in-Many.is in
     let key : c.index-parts-0.result ≡ get_or c.in-Many.parts 0 c.index-parts-0.result = c.index-parts-0.is ∙ ap (λ (l : List ExprTree). get_or l 0 c.index-parts-0.result) c.as_slice-parts.ensures.value in
     let item : c.index-parts-1.result ≡ get_or c.in-Many.parts 1 c.index-parts-1.result = c.index-parts-1.is ∙ ap (λ (l : List ExprTree). get_or l 1 c.index-parts-1.result) c.as_slice-parts.ensures.value in
@@ -257,10 +257,10 @@ put_written-returns-in-Some-Some t c =
     let is : c.args.item.now ≡ many (record { place = c.item.inside.place; ty = c.item.inside.ty }) (view_many c.in-Many.field-0) (pack_exprs c.in-Many.parts) = sym c.item.view_is ∙ ap (λ (f : Form). view_form f (record { place = c.item.inside.place; ty = c.item.inside.ty })) c.in-Many.is in
     let key : c.index-parts-0.result ≡ get_or c.in-Many.parts 0 c.index-parts-0.result = c.index-parts-0.is ∙ ap (λ (l : List ExprTree). get_or l 0 c.index-parts-0.result) c.as_slice-parts.ensures.value in
     let item : c.index-parts-1.result ≡ get_or c.in-Many.parts 1 c.index-parts-1.result = c.index-parts-1.is ∙ ap (λ (l : List ExprTree). get_or l 1 c.index-parts-1.result) c.as_slice-parts.ensures.value in
-    put_is c.put_pair.result c.args.item.now (env_of c.args.frame.now) (thing_of c.args.builder.now) (thing_of c.put_pair.new.builder) (plain (pair (view_short c.in-Some-Some.key) (view_short c.in-Some-Some.x))) (pair_is _ _ c.in-Many.parts (env_of c.args.frame.now) c.args.item.now c.index-parts-0.result c.index-parts-1.result (view_short c.in-Some-Some.key) (view_short c.in-Some-Some.x) is c.requires.form key item (reads_some c.in-Ok.key c.in-Some-Some.key _ c.in-Some-Some.is-0 c.in-Ok.ensures) (reads_some c.in-Ok-tried.x c.in-Some-Some.x _ c.in-Some-Some.is-1 c.in-Ok-tried.ensures)) c.put_pair.ensures
+    put_is c.put_two.result c.args.item.now (env_of c.args.frame.now) (thing_of c.args.builder.now) (thing_of c.put_two.new.builder) (plain (pair (view_short c.in-Some-Some.key) (view_short c.in-Some-Some.x))) (pair_is _ _ c.in-Many.parts (env_of c.args.frame.now) c.args.item.now c.index-parts-0.result c.index-parts-1.result (view_short c.in-Some-Some.key) (view_short c.in-Some-Some.x) is c.requires.form key item (reads_some c.in-Ok.key c.in-Some-Some.key _ c.in-Some-Some.is-0 c.in-Ok.ensures) (reads_some c.in-Ok-tried.x c.in-Some-Some.x _ c.in-Some-Some.is-1 c.in-Ok-tried.ensures)) c.put_two.ensures
 
-pub put_other-put_pair-requires : goal.put_other-put_pair-requires
-put_other-put_pair-requires t c = put_number_item c.args.item.now (env_of c.args.frame.now) (thing_of c.args.builder.now) (pair (view_short c.in-Some.found.0) (view_short c.in-Some.found.1)) c.requires.fits c.in-Some.ensures
+pub put_other-put_two-requires : goal.put_other-put_two-requires
+put_other-put_two-requires t c = put_number_item c.args.item.now (env_of c.args.frame.now) (thing_of c.args.builder.now) (pair (view_short c.in-Some.found.0) (view_short c.in-Some.found.1)) c.requires.fits c.in-Some.ensures
 
 -- ---- blocks
 

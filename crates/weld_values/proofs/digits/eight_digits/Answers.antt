@@ -1,5 +1,6 @@
-use Rattle.std.proofs.Common.{length, ◌-◌, take, drop}
+use Rattle.std.proofs.Common.{ℕ, sym, subst, length, ◌-◌, take, drop}
 use Rattle.weld_values.specs.Tokens.{value_after, digit_run, after_digits}
+use Rattle.weld_values.specs.Judging.{IsCapped}
 use Rattle.weld_values.proofs.Runs.{makes_eight, going_on, ended}
 use Rattle.weld_values.proofs.digits.eight_digits.Goals as goal
 
@@ -19,6 +20,7 @@ pub returns-else-whole-clause-value : goal.returns-else-whole-clause-value
 returns-else-whole-clause-value c =
     let text = c.args.text.now in
     let makes = makes_eight c.args.before text c.step_four-half.result c.step_four-whole.result c.in-len8-up.len_at_least c.step_four-half.ensures.makes c.step_four-whole.ensures.makes in
+    subst (λ (n : ℕ). IsCapped n (value_after c.args.before (digit_run text))) (sym c.from.ensures)
     (ended c.step_four-whole.result (value_after c.args.before (digit_run text)) text (take (length text - 8) (drop 8 text)) (after_digits text) c.if-whole.false makes).0
 
 pub returns-else-whole-clause-rest : goal.returns-else-whole-clause-rest

@@ -37,14 +37,14 @@ write_column-returns-in-I8 t c =
     let same = cells_shown f (λ x. tt) c.args.item.now c.as_slice-in-I8.result.now never typed in
     on_ok c.write_cells-in-I8.result c.write_cells-in-I8.ensures (λ p. p ∙ ap (λ (x : List ℕ). c.args.out.now ++ x) (same ∙ ap (λ (vs : List Value). shown_elements c.args.item.now (show c.args.item.now) vs) view))
 
-pub write_column-returns-in-U8 : goal.write_column-returns-in-U8
-write_column-returns-in-U8 t c =
-    let f = (λ (n : ℕ). number kinds.U8 (pos n)) in
+pub write_column-returns-in-I16 : goal.write_column-returns-in-I16
+write_column-returns-in-I16 t c =
+    let f = (number kinds.I16) in
     let never : IsI8 c.args.item.now → ⊥ = λ i. both_ways c.is_i8.result c.if-is_i8.false (c.is_i8.ensures.1 i) in
-    let view : map f c.as_slice-in-U8.result.now ≡ view_column c.args.column.now = ap (map f) c.as_slice-in-U8.ensures ∙ ap view_column (sym c.in-U8.is) in
+    let view : map f c.as_slice-in-I16.result.now ≡ view_column c.args.column.now = ap (map f) c.as_slice-in-I16.ensures ∙ ap view_column (sym c.in-I16.is) in
     let typed = subst (λ (vs : List Value). AllAre (HasValue c.args.item.now) (values vs)) (sym view) c.requires in
-    let same = cells_shown f (λ x. tt) c.args.item.now c.as_slice-in-U8.result.now never typed in
-    on_ok c.write_cells-in-U8.result c.write_cells-in-U8.ensures (λ p. p ∙ ap (λ (x : List ℕ). c.args.out.now ++ x) (same ∙ ap (λ (vs : List Value). shown_elements c.args.item.now (show c.args.item.now) vs) view))
+    let same = cells_shown f (λ x. tt) c.args.item.now c.as_slice-in-I16.result.now never typed in
+    on_ok c.write_cells-in-I16.result c.write_cells-in-I16.ensures (λ p. p ∙ ap (λ (x : List ℕ). c.args.out.now ++ x) (same ∙ ap (λ (vs : List Value). shown_elements c.args.item.now (show c.args.item.now) vs) view))
 
 pub write_column-returns-in-I32 : goal.write_column-returns-in-I32
 write_column-returns-in-I32 t c =
@@ -63,6 +63,42 @@ write_column-returns-in-I64 t c =
     let typed = subst (λ (vs : List Value). AllAre (HasValue c.args.item.now) (values vs)) (sym view) c.requires in
     let same = cells_shown f (λ x. tt) c.args.item.now c.as_slice-in-I64.result.now never typed in
     on_ok c.write_cells-in-I64.result c.write_cells-in-I64.ensures (λ p. p ∙ ap (λ (x : List ℕ). c.args.out.now ++ x) (same ∙ ap (λ (vs : List Value). shown_elements c.args.item.now (show c.args.item.now) vs) view))
+
+pub write_column-returns-in-U8 : goal.write_column-returns-in-U8
+write_column-returns-in-U8 t c =
+    let f = (λ (n : ℕ). number kinds.U8 (pos n)) in
+    let never : IsI8 c.args.item.now → ⊥ = λ i. both_ways c.is_i8.result c.if-is_i8.false (c.is_i8.ensures.1 i) in
+    let view : map f c.as_slice-in-U8.result.now ≡ view_column c.args.column.now = ap (map f) c.as_slice-in-U8.ensures ∙ ap view_column (sym c.in-U8.is) in
+    let typed = subst (λ (vs : List Value). AllAre (HasValue c.args.item.now) (values vs)) (sym view) c.requires in
+    let same = cells_shown f (λ x. tt) c.args.item.now c.as_slice-in-U8.result.now never typed in
+    on_ok c.write_cells-in-U8.result c.write_cells-in-U8.ensures (λ p. p ∙ ap (λ (x : List ℕ). c.args.out.now ++ x) (same ∙ ap (λ (vs : List Value). shown_elements c.args.item.now (show c.args.item.now) vs) view))
+
+pub write_column-returns-in-U16 : goal.write_column-returns-in-U16
+write_column-returns-in-U16 t c =
+    let f = (λ (n : ℕ). number kinds.U16 (pos n)) in
+    let never : IsI8 c.args.item.now → ⊥ = λ i. both_ways c.is_i8.result c.if-is_i8.false (c.is_i8.ensures.1 i) in
+    let view : map f c.as_slice-in-U16.result.now ≡ view_column c.args.column.now = ap (map f) c.as_slice-in-U16.ensures ∙ ap view_column (sym c.in-U16.is) in
+    let typed = subst (λ (vs : List Value). AllAre (HasValue c.args.item.now) (values vs)) (sym view) c.requires in
+    let same = cells_shown f (λ x. tt) c.args.item.now c.as_slice-in-U16.result.now never typed in
+    on_ok c.write_cells-in-U16.result c.write_cells-in-U16.ensures (λ p. p ∙ ap (λ (x : List ℕ). c.args.out.now ++ x) (same ∙ ap (λ (vs : List Value). shown_elements c.args.item.now (show c.args.item.now) vs) view))
+
+pub write_column-returns-in-U32 : goal.write_column-returns-in-U32
+write_column-returns-in-U32 t c =
+    let f = (λ (n : ℕ). number kinds.U32 (pos n)) in
+    let never : IsI8 c.args.item.now → ⊥ = λ i. both_ways c.is_i8.result c.if-is_i8.false (c.is_i8.ensures.1 i) in
+    let view : map f c.as_slice-in-U32.result.now ≡ view_column c.args.column.now = ap (map f) c.as_slice-in-U32.ensures ∙ ap view_column (sym c.in-U32.is) in
+    let typed = subst (λ (vs : List Value). AllAre (HasValue c.args.item.now) (values vs)) (sym view) c.requires in
+    let same = cells_shown f (λ x. tt) c.args.item.now c.as_slice-in-U32.result.now never typed in
+    on_ok c.write_cells-in-U32.result c.write_cells-in-U32.ensures (λ p. p ∙ ap (λ (x : List ℕ). c.args.out.now ++ x) (same ∙ ap (λ (vs : List Value). shown_elements c.args.item.now (show c.args.item.now) vs) view))
+
+pub write_column-returns-in-U64 : goal.write_column-returns-in-U64
+write_column-returns-in-U64 t c =
+    let f = (λ (n : ℕ). number kinds.U64 (pos n)) in
+    let never : IsI8 c.args.item.now → ⊥ = λ i. both_ways c.is_i8.result c.if-is_i8.false (c.is_i8.ensures.1 i) in
+    let view : map f c.as_slice-in-U64.result.now ≡ view_column c.args.column.now = ap (map f) c.as_slice-in-U64.ensures ∙ ap view_column (sym c.in-U64.is) in
+    let typed = subst (λ (vs : List Value). AllAre (HasValue c.args.item.now) (values vs)) (sym view) c.requires in
+    let same = cells_shown f (λ x. tt) c.args.item.now c.as_slice-in-U64.result.now never typed in
+    on_ok c.write_cells-in-U64.result c.write_cells-in-U64.ensures (λ p. p ∙ ap (λ (x : List ℕ). c.args.out.now ++ x) (same ∙ ap (λ (vs : List Value). shown_elements c.args.item.now (show c.args.item.now) vs) view))
 
 pub write_nested-write_at-requires : goal.write_nested-write_at-requires
 write_nested-write_at-requires t c =

@@ -15,9 +15,9 @@ pub returns-in-I8-I8 : goal.returns-in-I8-I8
 returns-in-I8-I8 c =
     columns_stand int_cmp (number kinds.I8) (λ x y. ints_stand kinds.I8 kinds.I8 x y refl) c.in-I8-I8.x c.in-I8-I8.y _ _ _ _ _ c.cmp-in-I8-I8.ensures c.as_slice-in-I8-I8.ensures c.as_slice-in-I8-I8-2.ensures (ap view_column c.in-I8-I8.is-0) (ap view_column c.in-I8-I8.is-1)
 
-pub returns-in-U8-U8 : goal.returns-in-U8-U8
-returns-in-U8-U8 c =
-    columns_stand nat_cmp (λ (n : ℕ). number kinds.U8 (pos n)) (nats_stand kinds.U8) c.in-U8-U8.x c.in-U8-U8.y _ _ _ _ _ c.cmp-in-U8-U8.ensures c.as_slice-in-U8-U8.ensures c.as_slice-in-U8-U8-2.ensures (ap view_column c.in-U8-U8.is-0) (ap view_column c.in-U8-U8.is-1)
+pub returns-in-I16-I16 : goal.returns-in-I16-I16
+returns-in-I16-I16 c =
+    columns_stand int_cmp (number kinds.I16) (λ x y. ints_stand kinds.I16 kinds.I16 x y refl) c.in-I16-I16.x c.in-I16-I16.y _ _ _ _ _ c.cmp-in-I16-I16.ensures c.as_slice-in-I16-I16.ensures c.as_slice-in-I16-I16-2.ensures (ap view_column c.in-I16-I16.is-0) (ap view_column c.in-I16-I16.is-1)
 
 pub returns-in-I32-I32 : goal.returns-in-I32-I32
 returns-in-I32-I32 c =
@@ -26,3 +26,19 @@ returns-in-I32-I32 c =
 pub returns-in-I64-I64 : goal.returns-in-I64-I64
 returns-in-I64-I64 c =
     columns_stand int_cmp (number kinds.I64) (λ x y. ints_stand kinds.I64 kinds.I64 x y refl) c.in-I64-I64.x c.in-I64-I64.y _ _ _ _ _ c.cmp-in-I64-I64.ensures c.as_slice-in-I64-I64.ensures c.as_slice-in-I64-I64-2.ensures (ap view_column c.in-I64-I64.is-0) (ap view_column c.in-I64-I64.is-1)
+
+pub returns-in-U8-U8 : goal.returns-in-U8-U8
+returns-in-U8-U8 c =
+    columns_stand nat_cmp (λ (n : ℕ). number kinds.U8 (pos n)) (nats_stand kinds.U8) c.in-U8-U8.x c.in-U8-U8.y _ _ _ _ _ c.cmp-in-U8-U8.ensures c.as_slice-in-U8-U8.ensures c.as_slice-in-U8-U8-2.ensures (ap view_column c.in-U8-U8.is-0) (ap view_column c.in-U8-U8.is-1)
+
+pub returns-in-U16-U16 : goal.returns-in-U16-U16
+returns-in-U16-U16 c =
+    columns_stand nat_cmp (λ (n : ℕ). number kinds.U16 (pos n)) (nats_stand kinds.U16) c.in-U16-U16.x c.in-U16-U16.y _ _ _ _ _ c.cmp-in-U16-U16.ensures c.as_slice-in-U16-U16.ensures c.as_slice-in-U16-U16-2.ensures (ap view_column c.in-U16-U16.is-0) (ap view_column c.in-U16-U16.is-1)
+
+pub returns-in-U32-U32 : goal.returns-in-U32-U32
+returns-in-U32-U32 c =
+    columns_stand nat_cmp (λ (n : ℕ). number kinds.U32 (pos n)) (nats_stand kinds.U32) c.in-U32-U32.x c.in-U32-U32.y _ _ _ _ _ c.cmp-in-U32-U32.ensures c.as_slice-in-U32-U32.ensures c.as_slice-in-U32-U32-2.ensures (ap view_column c.in-U32-U32.is-0) (ap view_column c.in-U32-U32.is-1)
+
+pub returns-in-U64-U64 : goal.returns-in-U64-U64
+returns-in-U64-U64 c =
+    columns_stand nat_cmp (λ (n : ℕ). number kinds.U64 (pos n)) (nats_stand kinds.U64) c.in-U64-U64.x c.in-U64-U64.y _ _ _ _ _ c.cmp-in-U64-U64.ensures c.as_slice-in-U64-U64.ensures c.as_slice-in-U64-U64-2.ensures (ap view_column c.in-U64-U64.is-0) (ap view_column c.in-U64-U64.is-1)

@@ -5,9 +5,6 @@ use Rattle.weld_lists.specs.CallMeaning.{group_list_meaning}
 use Rattle.weld_eager.proofs.ByNumber.{enough, kept_as, keys_as}
 use Rattle.weld_eager.proofs.eager.elements.listed_by_keys.Goals as goal
 
-pub kept_kind_at-key-requires : goal.kept_kind_at-key-requires
-kept_kind_at-key-requires c = omega (arith, ap length c.requires.row.3)
-
 pub kept_kind_at-kind-requires : goal.kept_kind_at-kind-requires
 kept_kind_at-kind-requires c = omega (arith, ap length c.requires.row.3)
 
@@ -18,7 +15,7 @@ pub argument-v-requires : goal.argument-v-requires
 argument-v-requires c = omega (arith, enough _ _ _ c.requires.row.3 c.requires.values)
 
 pub group_list-requires-clause-keys : goal.group_list-requires-clause-keys
-group_list-requires-clause-keys c = keys_as _ _ _ 0 _ _ _ c.requires.row.3 c.requires.values (omega arith) refl c.kept_kind_at-key.ensures c.argument-keys.ensures c.requires.row.2
+group_list-requires-clause-keys c = keys_as _ _ _ 0 _ _ c.requires.row.3 c.requires.values (omega arith) refl c.argument-keys.ensures c.requires.row.2
 
 pub group_list-requires-clause-elements : goal.group_list-requires-clause-elements
 group_list-requires-clause-elements c = kept_as _ _ _ 1 _ _ _ c.requires.row.3 c.requires.values (omega arith) refl c.kept_kind_at-kind.ensures c.argument-v.ensures

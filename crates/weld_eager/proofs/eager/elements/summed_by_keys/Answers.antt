@@ -7,9 +7,6 @@ use Rattle.weld_lists.specs.CallMeaning.{kind_at, group_sum_meaning}
 use Rattle.weld_eager.proofs.ByNumber.{enough, has_type, keys_as}
 use Rattle.weld_eager.proofs.eager.elements.summed_by_keys.Goals as goal
 
-pub kept_kind_at-key-requires : goal.kept_kind_at-key-requires
-kept_kind_at-key-requires c = omega (arith, ap length c.requires.row.4)
-
 pub kind_at-kind-requires : goal.kind_at-kind-requires
 kind_at-kind-requires c = omega (arith, ap length c.requires.row.4)
 
@@ -23,7 +20,7 @@ pub group_sum-requires-clause-integer : goal.group_sum-requires-clause-integer
 group_sum-requires-clause-integer c = subst IsInteger (sym (c.kind_at-kind.ensures ∙ ap (kind_at 1) c.requires.row.4)) c.requires.row.3
 
 pub group_sum-requires-clause-keys : goal.group_sum-requires-clause-keys
-group_sum-requires-clause-keys c = keys_as _ _ _ 0 _ _ _ c.requires.row.4 c.requires.values (omega arith) refl c.kept_kind_at-key.ensures c.argument-keys.ensures c.requires.row.2
+group_sum-requires-clause-keys c = keys_as _ _ _ 0 _ _ c.requires.row.4 c.requires.values (omega arith) refl c.argument-keys.ensures c.requires.row.2
 
 pub group_sum-requires-clause-numbers : goal.group_sum-requires-clause-numbers
 group_sum-requires-clause-numbers c = has_type _ _ _ 1 _ _ c.requires.row.4 c.requires.values (omega arith) (ap (λ m. vec (scalar m)) (sym (c.kind_at-kind.ensures ∙ ap (kind_at 1) c.requires.row.4))) c.argument-v.ensures

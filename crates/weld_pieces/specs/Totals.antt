@@ -1,0 +1,32 @@
+-- Totals of the fields of a struct in the code.
+use Rattle.std.specs.Prelude.{ℤ, List, [], ◌∷◌, map}
+use Rattle.weld_data.specs.declared.kind.Kind.{Kind}
+use Rattle.weld_data.specs.declared.num.Num.{Num}
+use Rattle.weld_data.specs.declared.op.MergeOp.{MergeOp}
+use Rattle.weld_data.specs.Kind.{IsInteger}
+use Rattle.weld_data.specs.Value.{Value, number}
+use Rattle.weld_builders.specs.Part.{Part, Totals, totals_part}
+
+-- an operator, and a number for each field
+pub record FieldTotals : Type 0 where
+  pub op : MergeOp
+  pub totals : Totals
+
+abbrev pub part_of_totals : FieldTotals → Part
+part_of_totals t = totals_part t.op t.totals
+
+-- a number with its kind
+abbrev pub total_in : Num → Kind × ℤ
+total_in n = (n.kind, n.value)
+
+abbrev pub totals_in : List Num → Totals
+totals_in ns = map total_in ns
+
+-- a total as a value
+abbrev pub number_in : Kind × ℤ → Value
+number_in x = number x.0 x.1
+
+-- each kind is one of integers
+abbrev pub AreIntegers : List Kind → Type 0
+AreIntegers [] = Unit {0}
+AreIntegers (k ∷ ks) = IsInteger k × AreIntegers ks
