@@ -1,5 +1,5 @@
 -- Two small loops over one name, by which the definitions are checked.
-use Rattle.std.proofs.Common.{◌≡◌, ℕ, Some, None, refl}
+use Rattle.std.proofs.Common.{◌≡◌, ℕ, true, false, Some, None, refl}
 use Rattle.weld_data.specs.declared.kind.Kind.TheVariants.{I64}
 use Rattle.weld_data.specs.declared.op.MergeOp.TheVariants.{Add, Max}
 use Rattle.weld_tree.specs.declared.binder.Binder.{Binder}
@@ -7,7 +7,8 @@ use Rattle.weld_tree.specs.declared.known.Known.TheVariants.{Blank}
 use Rattle.weld_tree.specs.declared.place.Place.{Place}
 use Rattle.weld_tree.specs.TypeTree.{TypeTree, scalar, struct, build, total, no_types, more_types}
 use Rattle.weld_tree.specs.ExprTree.{At, ExprTree, leaf, one, two, many, let_in, loop, no_exprs, more_exprs, whole, no_legs, more_legs, name, fresh, field, finish, merge, make_struct}
-use Rattle.weld_beside.specs.Beside.{Half, half_value, two_lets, node_of, side_by_side}
+use Rattle.weld_beside.specs.Beside.{Half, half_value, node_of, side_by_side}
+use Rattle.weld_beside.specs.Between.{brought_up, may_come_up}
 
 abbrev place : Place
 place = record { line = 0; column = 0 }
@@ -71,3 +72,28 @@ one_loop : side_by_side node node 9 number first second (named node 5)
     (more_exprs (let_in (node_of place (build (total number Max))) (binder 6) (part 1 (build (total number Max)) 8) (two node merge (named node 6) (named (node_of place number) 4))) no_exprs))))
     (let_in node (binder 1) (one node finish (part 0 (build (total number Add)) 7)) (let_in node (binder 5) (one node finish (part 1 (build (total number Max)) 7)) (named node 5)))
 one_loop = refl
+
+-- ---- lets between
+
+-- let q = result(r20.$n); rest
+abbrev result_let : ℕ → ℕ → ExprTree → ExprTree
+result_let q n rest = let_in node (binder q) (one node finish (one node (field n) (named node 20))) rest
+
+abbrev second_let : ExprTree → ExprTree
+second_let rest = let_in node (binder 5) (half_value 9 second) rest
+
+it_comes_up : brought_up (result_let 11 0 (result_let 12 1 (second_let (named node 5)))) ≡ second_let (result_let 11 0 (result_let 12 1 (named node 5)))
+it_comes_up = refl
+
+may_pass_results : may_come_up (result_let 11 0 (result_let 12 1 (second_let (named node 5)))) ≡ true
+may_pass_results = refl
+
+-- let q11 = result(r20.$0); let c5 = q11; c5
+stays_behind_its_names : may_come_up (result_let 11 0 (let_in node (binder 5) (named node 11) (named node 5))) ≡ false
+stays_behind_its_names = refl
+
+stays_behind_others : brought_up (let_in node (binder 11) (named node 20) (second_let (named node 5))) ≡ let_in node (binder 11) (named node 20) (second_let (named node 5))
+stays_behind_others = refl
+
+none_comes_up : may_come_up (result_let 11 0 (named node 11)) ≡ false
+none_comes_up = refl

@@ -16,4 +16,6 @@ pub mod Renaming
 pub mod Counting
 pub mod BesideRule
 pub mod Lighter
+pub mod Exchanging
+pub mod Rising
 pub mod Cases

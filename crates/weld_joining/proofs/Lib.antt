@@ -4,5 +4,6 @@ pub mod Limits
 pub mod Recognised
 pub mod Sound
 pub mod TakenApart
+pub mod TakenOut
 pub mod Together
 pub mod Unused

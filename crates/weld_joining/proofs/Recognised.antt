@@ -1,15 +1,16 @@
 -- Which lets the test recognises: what holds of the pattern holds of them.
-use Rattle.std.proofs.Common.{◌≡◌, ℕ, ◌==◌, if◌then◌else◌, Bool, true, false, ◌&&◌, Option, Some, None, is_some, refl, sym, subst, eqb-true}
+use Rattle.std.proofs.Common.{◌≡◌, ℕ, ◌==◌, if◌then◌else◌, Bool, true, false, ◌&&◌, Option, Some, None, is_some, refl, sym, ap, subst, ◌∙◌, eqb-true}
 use Rattle.weld_tree.specs.declared.binder.Binder.{Binder}
 use Rattle.weld_tree.specs.declared.known.Known.{Known}
 use Rattle.weld_tree.specs.declared.known.Known.TheVariants.{Is, Blank}
 use Rattle.weld_tree.specs.TypeTree.{TypeTree, scalar, vec, struct, dict, build}
-use Rattle.weld_tree.specs.ExprTree.{At, ExprTree, leaf, one, two, three, many, let_in, loop, iterate, LegTree, whole, strided, LegTrees, no_legs, more_legs, Leaf, int, truth, chars, name, fresh, neg, not, cast, len, field, finish, started}
+use Rattle.weld_tree.specs.ExprTree.{At, ExprTree, leaf, one, two, three, many, let_in, loop, iterate, whole, strided, LegTrees, no_legs, more_legs, Leaf, int, truth, chars, name, fresh, neg, not, cast, len, field, finish, started}
 use Rattle.weld_putting.specs.Redex.{noted}
 use Rattle.weld_substitution.specs.Uses.{uses}
 use Rattle.weld_putting.proofs.Following.{and_true}
 use Rattle.weld_beside.specs.Beside.{finish_at, Half, half_value, two_lets}
-use Rattle.weld_joining.specs.Joining.{name_in, name_of, leg_name, only_name, is_known, loop_over, over, same_name, are_beside, is_followed, is_pair, known_type}
+use Rattle.weld_beside.specs.Between.{is_named_result, left_over, taken_out, may_come_up}
+use Rattle.weld_joining.specs.Joining.{name_in, name_of, only_name, is_known, loop_over, over, same_name, are_beside, is_followed, is_pair, known_type, as_neighbours}
 
 none_found : (t : ℕ) {C : Type 0} → ◌≡◌ {A = Option ℕ} None (Some t) → C
 none_found t h = let wrong : ⊥ = cc in absurd wrong
@@ -124,22 +125,45 @@ beside_by P f a m x y v w rest h =
     (record { bound = y; result_at = u; loop_at = n; leg_at = j; start = e; starts = known_type (noted e); builder = g; number = z; row = k; body = body }) rest kept start begun none)
     v both.first) w both.second (eqb-true (uses w x.sym.0) 0 b.1)
 
-followed_by : (P : ExprTree → Type 0) → AtPair P → (a : At) (x : Binder) (v f : ExprTree) → is_followed x v f ≡ true → P (let_in a x v f)
-followed_by P g a x v (leaf p l) h = let nothing : ⊥ = cc in absurd nothing
-followed_by P g a x v (one p o e) h = let nothing : ⊥ = cc in absurd nothing
-followed_by P g a x v (two p o e f) h = let nothing : ⊥ = cc in absurd nothing
-followed_by P g a x v (three p o c e f) h = let nothing : ⊥ = cc in absurd nothing
-followed_by P g a x v (many p o es) h = let nothing : ⊥ = cc in absurd nothing
-followed_by P g a x v (let_in m y w rest) h = beside_by P g a m x y v w rest h
-followed_by P g a x v (loop p ls e b n z f) h = let nothing : ⊥ = cc in absurd nothing
-followed_by P g a x v (iterate p e b f) h = let nothing : ⊥ = cc in absurd nothing
+-- ---- lets between
 
-pub pair_by : (P : ExprTree → Type 0) → AtPair P → (e : ExprTree) → is_pair e ≡ true → P e
+-- the second `let`, whatever its body
+pub record Second (x : Binder) (v f : ExprTree) : Type 0 where
+  pub at : At
+  pub binder : Binder
+  pub bound : ExprTree
+  pub out : (d : ExprTree) → taken_out f d ≡ let_in at binder bound d
+  pub beside : are_beside x v bound ≡ true
+
+pub second_of : (x : Binder) (v f : ExprTree) → is_followed x v f ≡ true → Second x v f
+second_of x v (leaf p l) h = let nothing : ⊥ = cc in absurd nothing
+second_of x v (one p o e) h = let nothing : ⊥ = cc in absurd nothing
+second_of x v (two p o e f) h = let nothing : ⊥ = cc in absurd nothing
+second_of x v (three p o c e f) h = let nothing : ⊥ = cc in absurd nothing
+second_of x v (many p o es) h = let nothing : ⊥ = cc in absurd nothing
+second_of x v (let_in m y w f) h = by (is_named_result w) refl (second_of x v f) h
+  where
+    by : (b : Bool) → is_named_result w ≡ b → (is_followed x v f ≡ true → Second x v f) → (if b then is_followed x v f else are_beside x v w) ≡ true → Second x v (let_in m y w f)
+    by true e k h =
+        let s = k h in
+        record { at = s.at; binder = s.binder; bound = s.bound; out = λ d. ap (λ b. if b then taken_out f d else let_in m y w d) e ∙ s.out d; beside = s.beside }
+    by false e k h = record { at = m; binder = y; bound = w; out = λ d. ap (λ b. if b then taken_out f d else let_in m y w d) e; beside = h }
+second_of x v (loop p ls e b n z f) h = let nothing : ⊥ = cc in absurd nothing
+second_of x v (iterate p e b f) h = let nothing : ⊥ = cc in absurd nothing
+
+-- the second one follows, and may come up
+pub follows : (x : Binder) (v f : ExprTree) → (is_some (over v) && (is_followed x v f && may_come_up f)) ≡ true → (is_followed x v f ≡ true) × (may_come_up f ≡ true)
+follows x v f h = and_true (is_followed x v f) (may_come_up f) (and_true (is_some (over v)) (is_followed x v f && may_come_up f) h).1
+
+-- what holds of the pattern holds of both lets as neighbours
+pub pair_by : (P : ExprTree → Type 0) → AtPair P → (e : ExprTree) → is_pair e ≡ true → P (as_neighbours e)
 pair_by P g (leaf p l) h = let nothing : ⊥ = cc in absurd nothing
 pair_by P g (one p o e) h = let nothing : ⊥ = cc in absurd nothing
 pair_by P g (two p o e f) h = let nothing : ⊥ = cc in absurd nothing
 pair_by P g (three p o c e f) h = let nothing : ⊥ = cc in absurd nothing
 pair_by P g (many p o es) h = let nothing : ⊥ = cc in absurd nothing
-pair_by P g (let_in a x v f) h = followed_by P g a x v f h
+pair_by P g (let_in a x v f) h =
+    let s = second_of x v f (follows x v f h).0 in
+    subst (λ d. P (let_in a x v d)) (sym (s.out (left_over f))) (beside_by P g a s.at x s.binder v s.bound (left_over f) s.beside)
 pair_by P g (loop p ls e b n z f) h = let nothing : ⊥ = cc in absurd nothing
 pair_by P g (iterate p e b f) h = let nothing : ⊥ = cc in absurd nothing

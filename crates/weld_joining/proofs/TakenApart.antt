@@ -1,11 +1,10 @@
 -- A loop or its result, taken apart as the rule and the code do.
-use Rattle.std.proofs.Common.{◌≡◌, ℕ, Bool, true, false, Option, Some, None, is_some, refl, sym, ap, subst, ◌∙◌}
+use Rattle.std.proofs.Common.{◌≡◌, ℕ, false, Option, Some, None, is_some, refl, ◌∙◌}
 use Rattle.weld_tree.specs.declared.binder.Binder.{Binder}
-use Rattle.weld_tree.specs.TypeTree.{TypeTree}
 use Rattle.weld_tree.specs.ExprTree.{At, ExprTree, leaf, one, two, three, many, let_in, loop, iterate, LegTrees, whole, no_legs, more_legs, name, neg, not, cast, len, field, finish, started}
 use Rattle.weld_putting.specs.Redex.{noted}
 use Rattle.weld_beside.specs.Beside.{finish_at, Half, two_lets, side_by_side}
-use Rattle.weld_joining.specs.Joining.{loop_over, over, item_of, known_type, result_of, loop_in, joined_loops, joined_pair}
+use Rattle.weld_joining.specs.Joining.{loop_over, over, item_of, known_type, result_of, loop_in, joined_loops, joined_neighbours}
 
 -- what is noted at the result of a loop, or that it is none
 pub result_is : (r : Option At) (q : At) (ls : LegTrees) (d : ExprTree) (c i x : Binder) (f : ExprTree) → result_of (finish_at r (loop q ls d c i x f)) ≡ r
@@ -35,13 +34,13 @@ bare_loop (iterate a e b f) h = refl
 
 -- two such lets, of halves with these parts
 pub joined_is : (a m : At) (x y : Binder) (p u : Option At) (q w : At) (ls ks : LegTrees) (d e : ExprTree) (c i r g n z : Binder) (f body rest : ExprTree)
-    → joined_pair (let_in a x (finish_at p (loop q ls d c i r f)) (let_in m y (finish_at u (loop w ks e g n z body)) rest)) ≡ joined_loops a m x p (loop q ls d c i r f) y u (loop w ks e g n z body) rest
+    → joined_neighbours (let_in a x (finish_at p (loop q ls d c i r f)) (let_in m y (finish_at u (loop w ks e g n z body)) rest)) ≡ joined_loops a m x p (loop q ls d c i r f) y u (loop w ks e g n z body) rest
 joined_is a m x y p u q w ls ks d e c i r g n z f body rest =
     λ k. joined_loops a m x (result_is p q ls d c i r f k) (loop_is p q ls d c i r f k) y (result_is u w ks e g n z body k) (loop_is u w ks e g n z body k) rest
 
 -- the answer to two halves whose notes are right
 pub answer_is : (a m : At) (s : ℕ) (h k : Half) (rest : ExprTree) → known_type (noted h.start) ≡ h.starts → known_type (noted k.start) ≡ k.starts
-    → joined_pair (two_lets a m s h k rest) ≡ side_by_side a m s (item_of h.leg_at.ty) h k rest
+    → joined_neighbours (two_lets a m s h k rest) ≡ side_by_side a m s (item_of h.leg_at.ty) h k rest
 answer_is a m s h k rest p q =
     joined_is a m h.bound k.bound h.result_at k.result_at h.loop_at k.loop_at (more_legs (whole (leaf h.leg_at (name s))) no_legs) (more_legs (whole (leaf k.leg_at (name s))) no_legs)
     h.start k.start h.builder h.number h.row k.builder k.number k.row h.body k.body rest

@@ -1,5 +1,5 @@
 -- What the code makes of two lets is what the rule says.
-use Rattle.std.proofs.Common.{◌≡◌, ℕ, ◌==◌, true, ◌&&◌, Option, Some, None, is_some, refl, sym, ap, subst, ◌∙◌}
+use Rattle.std.proofs.Common.{◌≡◌, ℕ, ◌==◌, true, Option, Some, None, is_some, refl, sym, ap, subst, ◌∙◌}
 use Rattle.weld_data.specs.declared.kind.Kind.TheVariants as kinds
 use Rattle.weld_tree.specs.declared.binder.Binder.{Binder}
 use Rattle.weld_tree.specs.TypeTree.{TypeTree, scalar}
@@ -10,7 +10,7 @@ use Rattle.weld_putting.specs.Redex.{noted}
 use Rattle.weld_substitution.specs.Uses.{uses}
 use Rattle.weld_putting.proofs.Following.{and_true}
 use Rattle.weld_beside.specs.Beside.{finish_at, node_of, bare, builder_field}
-use Rattle.weld_joining.specs.Joining.{only_name, is_known, over, same_name, are_beside, known_type, joined_loops, joined_pair}
+use Rattle.weld_joining.specs.Joining.{only_name, is_known, over, same_name, are_beside, known_type, joined_loops, joined_neighbours}
 use Rattle.weld_joining.specs.Parts.{loop_of, result_at, IsHalf, IsBoth, legs_item, pair_at, field_let, result_let, from_halves}
 use Rattle.weld_joining.specs.declared.both.Both.{Both}
 use Rattle.weld_joining.specs.declared.halves.Half.{Half}
@@ -34,7 +34,7 @@ leg_of (Some a) q ls d c i r f s h = (where_true (is_known (noted d)) (only_name
 
 whole_is : (a m : At) (x y : Binder) (p u : Option At) (q w : At) (ls ks : LegTrees) (d e : ExprTree) (c i r g n z : Binder) (f body rest : ExprTree)
     → are_beside x (finish_at p (loop q ls d c i r f)) (finish_at u (loop w ks e g n z body)) ≡ true
-    → joined_pair (let_in a x (finish_at p (loop q ls d c i r f)) (let_in m y (finish_at u (loop w ks e g n z body)) rest))
+    → joined_neighbours (let_in a x (finish_at p (loop q ls d c i r f)) (let_in m y (finish_at u (loop w ks e g n z body)) rest))
     ≡ whole_of a m x p ls d c i r f y u e g n z body rest (known_type (noted d)) (known_type (noted e)) (pair_of (known_type (noted d)) (known_type (noted e)))
 whole_is a m x y p u q w ls ks d e c i r g n z f body rest test =
     let one_value : ExprTree = finish_at p (loop q ls d c i r f) in
@@ -51,10 +51,10 @@ whole_is a m x y p u q w ls ks d e c i r g n z f body rest test =
 
 -- the same of what the code has in its hands
 pub pair_is : (both : Both) (a m : At) (x y : Binder) (v w rest : ExprTree) (h k : Half) → are_beside x v w ≡ true → IsHalf v h → IsHalf w k → IsBoth h.run k.run both
-    → from_halves both a m x h y k rest ≡ joined_pair (let_in a x v (let_in m y w rest))
+    → from_halves both a m x h y k rest ≡ joined_neighbours (let_in a x v (let_in m y w rest))
 pair_is both a m x y v w rest h k test hv hw types =
-    subst (λ v. are_beside x v w ≡ true → from_halves both a m x h y k rest ≡ joined_pair (let_in a x v (let_in m y w rest))) (sym hv.1)
-    (subst (λ w. are_beside x first_value w ≡ true → from_halves both a m x h y k rest ≡ joined_pair (let_in a x first_value (let_in m y w rest))) (sym hw.1)
+    subst (λ v. are_beside x v w ≡ true → from_halves both a m x h y k rest ≡ joined_neighbours (let_in a x v (let_in m y w rest))) (sym hv.1)
+    (subst (λ w. are_beside x first_value w ≡ true → from_halves both a m x h y k rest ≡ joined_neighbours (let_in a x first_value (let_in m y w rest))) (sym hw.1)
     (λ test. with_types ∙ sym (whole_is a m x y (result_at h.result) (result_at k.result) hv.0 hw.0 (pack_legs h.run.legs) (pack_legs k.run.legs) h.run.start.value k.run.start.value
     h.run.builder h.run.number h.run.row k.run.builder k.run.number k.run.row h.run.body.value k.run.body.value rest test))) test
   where

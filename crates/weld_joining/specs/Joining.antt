@@ -1,12 +1,12 @@
--- Two neighbouring lets, each of a loop over one name or of the result of one, as one loop: the rule of the pass, and what its
--- answer has none of.
-use Rattle.std.specs.Prelude.{◌≡◌, ℕ, ◌==◌, if◌then◌else◌, Bool, true, false, ◌&&◌, Option, Some, None}
+-- Two lets, each of a loop over one name or of the result of one, as one loop, where between them stand none but lets of results of
+-- names with field accesses: the rule of the pass, and what its answer has none of.
+use Rattle.std.specs.Prelude.{◌≡◌, ℕ, ◌==◌, if◌then◌else◌, Bool, true, false, ◌&&◌, Option, Some, None, is_some}
 use Rattle.weld_tree.specs.declared.binder.Binder.{Binder}
 use Rattle.weld_tree.specs.declared.known.Known.{Known}
 use Rattle.weld_tree.specs.declared.known.Known.TheVariants.{Is, Blank}
 use Rattle.weld_tree.specs.TypeTree.{TypeTree, vec, struct, no_types}
 use Rattle.weld_tree.specs.Types.{pair_of}
-use Rattle.weld_tree.specs.ExprTree.{At, ExprTree, leaf, one, let_in, loop, LegTree, whole, LegTrees, no_legs, more_legs, Leaf, name, One, finish}
+use Rattle.weld_tree.specs.ExprTree.{At, ExprTree, leaf, one, let_in, loop, LegTree, whole, LegTrees, no_legs, more_legs, Leaf, name, finish}
 use Rattle.weld_putting.specs.Redex.{noted}
 use Rattle.weld_types.specs.Tests.{is_within_limits}
 use Rattle.weld_sweep.specs.Nodes.{EachNode}
@@ -14,6 +14,7 @@ use Rattle.weld_sweep.specs.Sweep.{RootRule}
 use Rattle.weld_pass.specs.Tested.{tested}
 use Rattle.weld_substitution.specs.Uses.{uses}
 use Rattle.weld_beside.specs.Beside.{side_by_side}
+use Rattle.weld_beside.specs.Between.{is_named_result, brought_up, may_come_up}
 
 -- ---- a loop over one name, and its result
 
@@ -59,13 +60,14 @@ same_name o p = false
 abbrev pub are_beside : Binder → ExprTree → ExprTree → Bool
 are_beside x v w = same_name (over v) (over w) && (uses w x.sym.0 == 0)
 
+-- the first `let` from there on that binds no result of a name with field accesses is such a second one
 abbrev pub is_followed : Binder → ExprTree → ExprTree → Bool
-is_followed x v (let_in m y w f) = are_beside x v w
+is_followed x v (let_in m y w f) = if is_named_result w then is_followed x v f else are_beside x v w
 is_followed x v e = false
 
--- two neighbouring lets of such values
+-- two lets of such values, and between them, perhaps, results of names with field accesses, none of which the second value uses
 abbrev pub is_pair : ExprTree → Bool
-is_pair (let_in a x v f) = is_followed x v f
+is_pair (let_in a x v f) = is_some (over v) && (is_followed x v f && may_come_up f)
 is_pair e = false
 
 -- ---- the limits on types
@@ -86,7 +88,7 @@ start_type (one a o e) = loop_type e
 start_type e = loop_type e
 
 abbrev pub types_after : ExprTree → ExprTree → TypeTree
-types_after v (let_in m y w f) = pair_of (start_type v) (start_type w)
+types_after v (let_in m y w f) = if is_named_result w then types_after v f else pair_of (start_type v) (start_type w)
 types_after v e = struct no_types
 
 -- the struct of what both start from
@@ -123,15 +125,24 @@ joined_loops a m x p (loop q (more_legs (whole (leaf l (name s))) no_legs) d c i
     (record { bound = y; result_at = u; loop_at = w; leg_at = j; start = e; starts = known_type (noted e); builder = g; number = n; row = z; body = h }) rest
 joined_loops a m x p v y u w rest = rest
 
--- the one loop, and its fields or their results; what is no such pair of lets stays
+-- of two neighbouring lets: the one loop, and its fields or their results
+abbrev pub joined_neighbours : ExprTree → ExprTree
+joined_neighbours (let_in a x v (let_in m y w rest)) = joined_loops a m x (result_of v) (loop_in v) y (result_of w) (loop_in w) rest
+joined_neighbours e = e
+
+-- the second `let` before those that stand between
+abbrev pub as_neighbours : ExprTree → ExprTree
+as_neighbours (let_in a x v f) = let_in a x v (brought_up f)
+as_neighbours e = e
+
+-- the one loop, its fields or their results, and then the lets that stood between
 abbrev pub joined_pair : ExprTree → ExprTree
-joined_pair (let_in a x v (let_in m y w rest)) = joined_loops a m x (result_of v) (loop_in v) y (result_of w) (loop_in w) rest
-joined_pair e = e
+joined_pair e = joined_neighbours (as_neighbours e)
 
 -- the rule: two such lets become one loop and lets of its fields or their results
 abbrev pub beside_rule : RootRule
 beside_rule = tested may_be_one joined_pair
 
--- no two neighbouring lets of the expression are such
+-- no two lets of the expression are such
 abbrev pub HasNoPair : ExprTree → Type 0
 HasNoPair e = EachNode (λ node. may_be_one node ≡ false) e

@@ -5,11 +5,13 @@ use Rattle.weld_tree.specs.declared.binder.Binder.{Binder}
 use Rattle.weld_tree.specs.declared.place.Place.{Place}
 use Rattle.weld_tree.specs.TypeTree.{TypeTree, scalar, struct, no_types}
 use Rattle.weld_tree.specs.Types.{pair_of}
-use Rattle.weld_tree.specs.ExprTree.{At, ExprTree, leaf, many, let_in, loop, no_exprs, more_exprs, LegTree, whole, strided, LegTrees, no_legs, more_legs, pack_legs, name, make_struct}
+use Rattle.weld_tree.specs.ExprTree.{At, ExprTree, leaf, many, let_in, loop, no_exprs, more_exprs, LegTree, whole, LegTrees, no_legs, more_legs, pack_legs, name, make_struct}
 use Rattle.weld_meaning.specs.Names.{put}
 use Rattle.weld_putting.specs.Redex.{noted}
 use Rattle.weld_beside.specs.Beside.{finish_at, node_of, bare, builder_field}
+use Rattle.weld_beside.specs.Between.{left_over, taken_out}
 use Rattle.weld_joining.specs.Joining.{known_type, item_of}
+use Rattle.weld_joining.specs.declared.between.Next.{Next}
 use Rattle.weld_joining.specs.declared.both.Both.{Both}
 use Rattle.weld_joining.specs.declared.halves.Node.{Node}
 use Rattle.weld_joining.specs.declared.halves.Run.{Run}
@@ -17,6 +19,18 @@ use Rattle.weld_joining.specs.declared.halves.Half.{Half}
 
 abbrev pub at_of : Node → At
 at_of n = record { place = n.place; ty = n.ty }
+
+-- the first `let` that binds no result of a name, and what is left without it
+pub record IsNext (e : ExprTree) (n : Next) : Type 0 where
+  pub out : (d : ExprTree) → taken_out e d ≡ let_in (at_of n.at) n.binder n.bound.value d
+  pub left : left_over e ≡ n.rest.value
+
+-- the same of what has a `let` before it
+pub record IsBehind (a : Node) (x : Binder) (v : ExprTree) (n m : Next) : Type 0 where
+  pub at : m.at ≡ n.at
+  pub binder : m.binder ≡ n.binder
+  pub bound : m.bound.value ≡ n.bound.value
+  pub rest : m.rest.value ≡ let_in (at_of a) x v n.rest.value
 
 -- the loop with these parts
 abbrev pub loop_of : At → Run → ExprTree

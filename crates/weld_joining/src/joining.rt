@@ -1,11 +1,13 @@
 //! The one loop in the place of both lets.
 
 ghost use Rattle.std.specs.Prelude.{◌≡◌, true, IfOk};
-ghost use Rattle.weld_joining.specs.Joining.{are_beside, is_followed, is_pair, joined_pair};
+ghost use Rattle.weld_beside.specs.Between.{may_come_up};
+ghost use Rattle.weld_joining.specs.Joining.{are_beside, is_followed, is_pair, joined_neighbours, joined_pair};
 ghost use Rattle.weld_tree.specs.ExprTree.{let_in};
 ghost use Rattle.weld_beside.specs.Beside.{builder_field};
 ghost use Rattle.weld_joining.specs.Parts.{at_of, from_halves, result_at, result_let};
 
+use crate::between::take_next;
 use crate::both::{Both, both_of, loop_of_both};
 use crate::halves::{Half, Node, take_half};
 use crate::parts::{bare, builder_field, result_let};
@@ -13,8 +15,8 @@ use std::alloc::{AllocError, Global};
 use std::mem;
 use weld_tree::{Binder, Expr, Form, LeafForm, Place, Sym};
 
-/// Two neighbouring lets of loops or of their results become one loop and lets of its fields or of
-/// their results.
+/// Two lets of loops or of their results become one loop and lets of its fields or of their
+/// results; what stands between them follows.
 pub(crate) fn join(alloc: Global, e: &mut Expr) -> Result<(), AllocError>
     requires { is_pair e.old ≡ true }
     ensures { IfOk result (λ _. e.new ≡ joined_pair e.old) }
@@ -32,6 +34,7 @@ pub(crate) fn join(alloc: Global, e: &mut Expr) -> Result<(), AllocError>
 }
 
 /// The same of the first `let`, taken apart.
+#[tactic(auto, using(crate::proofs::TakenOut::next_beside, crate::proofs::TakenOut::next_joined))]
 fn from_first(
     alloc: Global,
     outer: Node,
@@ -39,15 +42,21 @@ fn from_first(
     value: Box<Expr>,
     rest: Box<Expr>,
 ) -> Result<Expr, AllocError>
-    requires { is_followed binder value.value rest.value ≡ true }
+    requires followed { is_followed binder value.value rest.value ≡ true }
+    requires comes { may_come_up rest.value ≡ true }
     ensures { IfOk result (λ e. e ≡ joined_pair (let_in (at_of outer) binder value.value rest.value)) }
 {
-    let (form, place, ty) = Box::into_inner(rest).into_parts();
-    let Form::Let(other, after, rest) = form else {
-        unreachable!();
-    };
-    let inner = Node { place, ty };
-    from_lets(alloc, outer, inner, binder, value, other, after, rest)
+    let next = take_next(alloc, rest)?;
+    from_lets(
+        alloc,
+        outer,
+        next.at,
+        binder,
+        value,
+        next.binder,
+        next.bound,
+        next.rest,
+    )
 }
 
 /// The same of both lets, taken apart.
@@ -63,7 +72,7 @@ fn from_lets(
     rest: Box<Expr>,
 ) -> Result<Expr, AllocError>
     requires { are_beside binder value.value after.value ≡ true }
-    ensures { IfOk result (λ e. e ≡ joined_pair (let_in (at_of outer) binder value.value
+    ensures { IfOk result (λ e. e ≡ joined_neighbours (let_in (at_of outer) binder value.value
         (let_in (at_of inner) other after.value rest.value))) }
 {
     let first = take_half(value);

@@ -3,14 +3,17 @@
 ghost use Rattle.std.specs.Prelude.{◌≡◌, IfOk};
 ghost use Rattle.weld_tree.specs.ExprTree.{finish, leaf, name, one, pack_legs};
 ghost use Rattle.weld_tree.specs.TypeTree.{no_types, struct};
+ghost use Rattle.weld_tree.specs.Types.{pair_of};
 ghost use Rattle.weld_tree.specs.ExprView.{view_leg};
 ghost use Rattle.weld_types.specs.Tests.{is_within_limits};
 ghost use Rattle.weld_putting.specs.Redex.{noted};
 ghost use Rattle.weld_beside.specs.Beside.{bare, builder_field, finish_at, node_of};
+ghost use Rattle.weld_beside.specs.Between.{is_named_result};
 ghost use Rattle.weld_joining.specs.Joining.{both_types, item_of, known_type, loop_type, start_type, types_after};
 ghost use Rattle.weld_joining.specs.Parts.{at_of, leg_item, legs_item, pair_at, result_at, result_let};
 
 use crate::halves::Node;
+use crate::pairs::is_named_result;
 use std::alloc::{AllocError, Global};
 use weld_tree::{
     Binder, Expr, Exprs, Form, Known, LeafForm, Leg, Legs, ManyForm, OneForm, Place, Sym, Ty,
@@ -27,7 +30,8 @@ pub(crate) fn is_within_limits(ty: &Ty) -> bool
     ty.is_within_limits()
 }
 
-/// The struct of what both start from, of two neighbouring lets of loops or of their results.
+/// The struct of what both start from, of two lets of loops or of their results, with lets of
+/// results of names between them or none.
 pub(crate) fn both_types(alloc: Global, e: &Expr) -> Result<Ty, AllocError>
     ensures { IfOk result (λ t. t ≡ both_types e.now) }
 {
@@ -41,13 +45,23 @@ fn types_after(alloc: Global, value: &Expr, body: &Expr) -> Result<Ty, AllocErro
     ensures { IfOk result (λ t. t ≡ types_after value.now body.now) }
 {
     match &body.form {
-        Form::Let(_, other, _) => {
-            let first = start_type(alloc, value)?;
-            let second = start_type(alloc, other)?;
-            Ty::pair_of(alloc, first, second)
+        Form::Let(_, other, rest) => {
+            if is_named_result(other) {
+                types_after(alloc, value, rest)
+            } else {
+                pair_of_starts(alloc, value, other)
+            }
         }
         _ => Ok(nothing(alloc)),
     }
+}
+
+fn pair_of_starts(alloc: Global, value: &Expr, other: &Expr) -> Result<Ty, AllocError>
+    ensures { IfOk result (λ t. t ≡ pair_of (start_type value.now) (start_type other.now)) }
+{
+    let first = start_type(alloc, value)?;
+    let second = start_type(alloc, other)?;
+    Ty::pair_of(alloc, first, second)
 }
 
 fn start_type(alloc: Global, e: &Expr) -> Result<Ty, AllocError>

@@ -7,8 +7,8 @@ use std::alloc::{AllocError, Global};
 use weld_sweep::Rule;
 use weld_tree::Expr;
 
-/// Two neighbouring lets of loops over one name, or of their results, become one loop and lets of its
-/// fields or of their results.
+/// Two lets of loops over one name, or of their results, become one loop and lets of its fields or
+/// of their results, where between them stand none but lets of results of names with field accesses.
 #[derive(Clone, Copy)]
 pub struct Beside;
 
