@@ -92,13 +92,13 @@ static BROKEN: [(&[Class], usize); 53] = [
         ],
         5,
     ),
-    // |x: i16| 1
+    // |x: macro| 1
     (
         &[
             Class::Symbol(Symbol::Bar),
             Class::Name,
             Class::Symbol(Symbol::Colon),
-            Class::Reserved(Reserved::I16),
+            Class::Reserved(Reserved::Macro),
             Class::Symbol(Symbol::Bar),
             Class::Int,
         ],

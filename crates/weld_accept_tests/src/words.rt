@@ -8,16 +8,8 @@ use weld_terminals::{Class, Reserved, Symbol};
 static BROKEN: [(&[Class], usize); 25] = [
     // i32 1
     (&[Class::Reserved(Reserved::I32), Class::Int], 1),
-    // i16(1)
-    (
-        &[
-            Class::Reserved(Reserved::I16),
-            Class::Symbol(Symbol::LeftParen),
-            Class::Int,
-            Class::Symbol(Symbol::RightParen),
-        ],
-        0,
-    ),
+    // i16
+    (&[Class::Reserved(Reserved::I16)], 1),
     // bool(1)
     (
         &[

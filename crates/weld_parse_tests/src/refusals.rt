@@ -18,7 +18,7 @@ static REFUSED: [Row; 35] = [
     (b"1 + # one\n\t*2", Code::X2, 2, 2),
     (b"|x: i64| x\n%", Code::X2, 2, 2),
     (b"let x = 1; let", Code::X2, 1, 15),
-    (b"i16(1)", Code::X2, 1, 1),
+    (b"macro(1)", Code::X2, 1, 1),
     (b"vecmerger[i64,+]", Code::X2, 1, 17),
     (b"{1", Code::X2, 1, 3),
     (b"(9999999999", Code::X2, 1, 12),
