@@ -2,12 +2,12 @@
 use Rattle.std.proofs.Common.{◌≡◌, ℕ, ◌+◌, ◌<◌, ◌++◌, ◌∷◌, [], Bool, true, false, List, length, map, take, get_or, Option, Some, None, if◌then◌else◌, refl, sym, ap, ◌∙◌, subst, arith}
 use Rattle.std.proofs.lemmas.List.{take_more, take_all}
 use Rattle.weld_data.specs.declared.op.BinOp.{BinOp}
-use Rattle.weld_data.specs.Value.{Value, struct, and_value, values}
+use Rattle.weld_data.specs.Value.{Value, and_value, values}
 use Rattle.weld_tree.specs.declared.binder.Binder.{Binder}
 use Rattle.weld_tree.specs.ExprTree.{ExprTree, At, leaf, one, two, three, many, let_in, Leaf, name, One, field, binary, and, or, Three, if_else, select, slice, Many, make_vec, make_struct, pack_exprs}
 use Rattle.weld_builders.specs.Outcome.{Outcome, done, and_then, map_out}
 use Rattle.weld_meaning.specs.Environment.{look_for}
-use Rattle.weld_meaning.specs.Thing.{Thing, plain, Things, no_things, more_things, as_values, struct_from, struct_of, field_of}
+use Rattle.weld_meaning.specs.Thing.{Thing, plain, Things, no_things, more_things, as_values, struct_from, field_of}
 use Rattle.weld_meaning.specs.Evaluation.{Env, eval, eval_all, found, leaf_thing, many_thing, one_thing, two_thing, three_thing, operated, truth_value, chosen, value_out}
 use Rattle.weld_blocks.specs.Numbers.{number_at, AreGiven, MayGive, AreNumbersOf, MayBeNumbers, IsChosen, IsName, Chooses}
 use Rattle.weld_blocks.specs.Deeds.{IsStructTree}
@@ -100,7 +100,7 @@ of_if : (a : At) (c e f : ExprTree) (env : Env) (t v w x : Value) → eval c env
 of_if a c e f env t v w x o p q h = ap (λ u. and_then u (λ y. three_thing if_else y (eval e env) (eval f env))) o ∙ choose_thing t v w x (eval e env) (eval f env) h p q
 
 -- `select` evaluates both arms
-of_select : (a : At) (c e f : ExprTree) (env : Env) (t v w x : Value) → eval c env ≡ done (plain t) → eval e env ≡ done (plain v) → eval f env ≡ done (plain w) → IsChosen t v w x → eval (three a select c e f) env ≡ done (plain x)
+pub of_select : (a : At) (c e f : ExprTree) (env : Env) (t v w x : Value) → eval c env ≡ done (plain t) → eval e env ≡ done (plain v) → eval f env ≡ done (plain w) → IsChosen t v w x → eval (three a select c e f) env ≡ done (plain x)
 of_select a c e f env t v w x o p q h =
     ap (λ u. and_then u (λ y. three_thing select y (eval e env) (eval f env))) o
     ∙ ap (λ u. three_thing select (plain t) u (eval f env)) p

@@ -2,13 +2,11 @@
 use Rattle.std.proofs.Common.{◌≡◌, ℕ, zero, suc, ◌+◌, ◌<◌, Box, Global, Result, Ok, Err, refl, sym, ap, subst, ◌∙◌, arith}
 use Rattle.weld_data.specs.declared.stop.Stop.{Stop}
 use Rattle.weld_data.specs.declared.stop.Stop.TheVariants.{Fault, Memory}
-use Rattle.weld_builders.specs.Outcome.{Outcome, done, fault, and_then, map_out}
+use Rattle.weld_builders.specs.Outcome.{Outcome, done, and_then, map_out}
 use Rattle.weld_meaning.specs.Thing.{Thing, plain, building, several, Things, no_things, more_things, fields_of, first_of, rest_of}
 use Rattle.weld_acts.specs.Act.{Acts}
 use Rattle.weld_blocks.specs.Calm.{IsCalm, AreCalm}
 use Rattle.weld_blocks.specs.Deeds.{do_of, do_all, DeedFits, DeedsFit, DoesAll}
-use Rattle.weld_blocks.specs.Numbers.{number_at}
-use Rattle.weld_blocks.specs.Puts.{IsPut}
 use Rattle.weld_blocks.specs.Through.{done_through, FitsThrough}
 use Rattle.weld_blocks.specs.declared.deed.Deed.{Deed}
 use Rattle.weld_blocks.specs.declared.deed.Deed as deed

@@ -24,7 +24,7 @@ use Rattle.weld_blocks.specs.declared.scope.Rows.{Rows}
 use Rattle.weld_blocks.specs.declared.scope.Scope.{Scope}
 use Rattle.weld_blocks.specs.declared.scope.Scope.TheFolds.{fold-roll-Scope}
 use Rattle.weld_blocks.specs.declared.scope.Scope.TheVariants as scopes
-use Rattle.weld_blocks.specs.Scope.{bound_at, struct_at, scope_step, scope_env, row_env}
+use Rattle.weld_blocks.specs.Scope.{bound_at, scope_step, scope_env, row_env}
 use Rattle.weld_eval.specs.FrameView.{env_of}
 use Rattle.weld_eval.specs.ThingView.{thing_of}
 use Rattle.weld_tree.specs.declared.sym.Sym.{Sym}

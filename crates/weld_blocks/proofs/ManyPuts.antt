@@ -4,12 +4,11 @@ use Rattle.weld_data.specs.declared.stop.Stop.{Stop}
 use Rattle.weld_data.specs.declared.stop.Stop.TheVariants.{Fault, Memory}
 use Rattle.weld_data.specs.declared.kind.Kind.{Kind}
 use Rattle.weld_data.specs.Kind.{InRange}
-use Rattle.weld_data.specs.Value.{Value, number}
-use Rattle.weld_builders.specs.Outcome.{Outcome, done, fault, stuck, and_then, map_out}
+use Rattle.weld_data.specs.Value.{number}
+use Rattle.weld_builders.specs.Outcome.{done, and_then, map_out}
 use Rattle.weld_builders.specs.Part.{Part, list_part, total_part, totals_part, cells_part, keyed_part, groups_part, merge_part}
 use Rattle.weld_builders.specs.Range.{AllInRange}
 use Rattle.weld_meaning.specs.Thing.{Thing, plain, building, several}
-use Rattle.weld_meaning.specs.Evaluation.{merged}
 use Rattle.weld_built.specs.Merges.{merge_all, TakesNumbers}
 use Rattle.weld_built.specs.State.{MergeAnswer}
 use Rattle.weld_acts.specs.Act.{Acts}

@@ -1,8 +1,8 @@
 -- What is done on rows one after another.
-use Rattle.std.proofs.Common.{◌≡◌, ℕ, zero, suc, ◌+◌, ◌-◌, ◌<◌, ◌≤◌, Result, Ok, Err, refl, sym, ap, subst, ◌∙◌, arith, add-one}
+use Rattle.std.proofs.Common.{◌≡◌, ℕ, zero, suc, ◌+◌, ◌-◌, ◌<◌, ◌≤◌, Err, refl, sym, ap, subst, ◌∙◌, arith, add-one}
 use Rattle.weld_data.specs.declared.stop.Stop.{Stop}
 use Rattle.weld_data.specs.declared.stop.Stop.TheVariants.{Fault, Memory}
-use Rattle.weld_builders.specs.Outcome.{Outcome, done, fault, and_then}
+use Rattle.weld_builders.specs.Outcome.{Outcome, done, and_then}
 use Rattle.weld_meaning.specs.Thing.{Thing}
 use Rattle.weld_acts.specs.Act.{Acts}
 use Rattle.weld_blocks.specs.Deeds.{do_of}

@@ -6,7 +6,7 @@ use Rattle.weld_data.specs.Value.{Value}
 use Rattle.weld_tree.specs.ExprTree.{ExprTree, ExprTrees, leaf, one, two, three, many, let_in, loop, iterate}
 use Rattle.weld_builders.specs.Outcome.{Outcome, done, fault, and_then, map_out}
 use Rattle.weld_meaning.specs.Thing.{Thing, plain, several, Things, no_things, more_things, fields_of, first_of, rest_of}
-use Rattle.weld_meaning.specs.Evaluation.{Env, eval, merged, truth_of}
+use Rattle.weld_meaning.specs.Evaluation.{Env, eval, merged, truth_of, truth_value}
 use Rattle.weld_built.specs.Pair.{pair}
 use Rattle.weld_eval_values.specs.Fits.{IsTruth}
 use Rattle.weld_acts.specs.Act.{IsMerge, act, act_all}
@@ -54,6 +54,14 @@ pub record IsDeed (e : ExprTree) (envs : ℕ → Env) (d : Deed) (count : ℕ) :
 pub record AreDeeds (es : ExprTrees) (envs : ℕ → Env) (ds : Deeds) (count : ℕ) : Type 0 where
   pub does : (j : ℕ) → j < count → (ss : Things) → ActsFit es (envs j) ss → act_all es (envs j) ss ≡ do_all ds j ss
   pub fits : (j : ℕ) → j < count → (ss : Things) → ActsFit es (envs j) ss → DeedsFit ds j ss
+
+-- what it merges on the row of a place, where it merges a number or two as a struct
+abbrev pub item_at : Deed → ℕ → Value
+item_at deed.Nothing j = truth_value false
+item_at (deed.Number c) j = number_at c j
+item_at (deed.Pair c d) j = pair (number_at c j) (number_at d j)
+item_at (deed.Choice' c a d b e) j = number_at c j
+item_at (deed.Fields ds) j = truth_value false
 
 -- it merges structs of two numbers, each being what is given at its place
 abbrev pub IsPairOf : (ℕ → Value → Type 0) → Deed → ℕ → Type 0

@@ -5,12 +5,14 @@ ghost use Rattle.weld_eval.specs.FrameView.{env_of};
 ghost use Rattle.weld_eval.specs.LegsView.{lists_of};
 ghost use Rattle.weld_eval.specs.ThingView.{thing_of};
 ghost use Rattle.weld_blocks.specs.Block.{MayBeBlock};
-ghost use Rattle.weld_blocks.specs.Deeds.{IsDeed, MayBeDeed, MayBeItem, IsBefore, IsMergeTree, IsQuiet, IsStructTree};
+ghost use Rattle.weld_blocks.specs.Deeds.{IsDeed, MayBeDeed, MayBeItem, MayBePair, IsBefore, IsMergeTree, IsQuiet, IsStructTree, item_at};
 ghost use Rattle.weld_eval_plain.specs.Nodes.{IsIf};
+ghost use Rattle.weld_blocks.specs.Numbers.{number_at, IsChosen};
 ghost use Rattle.weld_blocks.specs.Scope.{scope_env};
 
-use crate::columns::{bound_of, name_of, numbers};
+use crate::columns::{bound_of, chosen, name_of, numbers};
 use crate::deed::{Deed, Deeds};
+use crate::numbers::Numbers;
 use crate::pairs::pair_named;
 use crate::scope::{Rows, Scope, of_rows, with_bound};
 use std::alloc::Global;
@@ -105,14 +107,72 @@ fn item_of(item: &Expr, scope: &Scope, count: usize, alloc: Global) -> Option<De
     }
 }
 
-/// A struct of two numbers: written out, or a name for one.
+/// A struct of two numbers: written out, a name for one, or one of two such.
+#[cycle(pairs)]
 #[tactic(auto, using(crate::proofs::PairLemmas::row_pair))]
 fn pair_of(item: &Expr, scope: &Scope, count: usize, alloc: Global) -> Option<Deed>
     ensures { MayBeItem item.now (scope_env scope.now) result count }
 {
     match name_of(item) {
         Some(name) => pair_named(scope, name, count, alloc),
-        None => written_pair(item, scope, count, alloc),
+        None => match &item.form {
+            Form::Three(_, _, _, _) => chosen_pair(item, scope, count, alloc),
+            _ => written_pair(item, scope, count, alloc),
+        },
+    }
+}
+
+/// One of two structs of two numbers, as a `select` says.
+#[cycle(pairs)]
+#[tactic(auto, using(crate::proofs::PairLemmas::chosen_pair_gives))]
+fn chosen_pair(item: &Expr, scope: &Scope, count: usize, alloc: Global) -> Option<Deed>
+    ensures { MayBeItem item.now (scope_env scope.now) result count }
+{
+    match &item.form {
+        Form::Three(ThreeForm::Select, condition, then, otherwise) => {
+            let condition = match numbers(condition, scope, count, alloc) {
+                Some(condition) => condition,
+                None => return None,
+            };
+            let then = match pair_of(then, scope, count, alloc) {
+                Some(then) => then,
+                None => return None,
+            };
+            match pair_of(otherwise, scope, count, alloc) {
+                Some(otherwise) => choose_pairs(&condition, &then, &otherwise, count, alloc),
+                None => None,
+            }
+        }
+        _ => None,
+    }
+}
+
+/// One of two structs of two numbers at each place, as truth values say.
+#[tactic(auto, using(crate::proofs::PairLemmas::pairs_chosen))]
+fn choose_pairs(
+    condition: &Numbers,
+    then: &Deed,
+    otherwise: &Deed,
+    count: usize,
+    alloc: Global,
+) -> Option<Deed>
+    ensures { MayBePair (λ place v. IsChosen (number_at condition.now place) (item_at then.now place) (item_at otherwise.now place) v) result count }
+{
+    match then {
+        Deed::Pair(first, second) => match otherwise {
+            Deed::Pair(other_first, other_second) => {
+                let firsts = match chosen(condition, first, other_first, count, alloc) {
+                    Some(firsts) => firsts,
+                    None => return None,
+                };
+                match chosen(condition, second, other_second, count, alloc) {
+                    Some(seconds) => Some(Deed::Pair(firsts, seconds)),
+                    None => None,
+                }
+            }
+            _ => None,
+        },
+        _ => None,
     }
 }
 

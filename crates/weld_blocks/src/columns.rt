@@ -279,7 +279,7 @@ fn of_choice(e: &Expr, scope: &Scope, count: usize, alloc: Global) -> Option<Num
 }
 
 /// One of two numbers, as truth values say.
-fn chosen(
+pub(crate) fn chosen(
     condition: &Numbers,
     then: &Numbers,
     otherwise: &Numbers,

@@ -1,4 +1,4 @@
-use Rattle.std.proofs.Common.{◌≡◌, ◌<◌, ◌++◌, ◌∷◌, [], List, length, get_or, sym, ap, ◌∙◌, subst, arith}
+use Rattle.std.proofs.Common.{◌≡◌, ◌<◌, [], List, length, get_or, sym, ap, ◌∙◌, subst, arith}
 use Rattle.weld_tree.specs.ExprTree.{ExprTree, At, three, many, pack_exprs}
 use Rattle.weld_tree.specs.ExprView.{view_form, view_three, view_many}
 use Rattle.weld_tree.specs.declared.expr.Form.{Form}

@@ -1,4 +1,4 @@
-use Rattle.std.proofs.Common.{◌≡◌, ◌<◌, length, get_or, arith}
+use Rattle.std.proofs.Common.{◌<◌, length, arith}
 use Rattle.weld_blocks.proofs.LeafLemmas.{field_bound}
 use Rattle.weld_blocks.proofs.leaves.field_of_bound.Goals as goal
 

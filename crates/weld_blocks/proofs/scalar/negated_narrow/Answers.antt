@@ -1,4 +1,4 @@
-use Rattle.std.proofs.Common.{w64, ap, sym, ◌∙◌, neg_ℤ, ℤ}
+use Rattle.std.proofs.Common.{w64, ap, sym, ◌∙◌, neg_ℤ}
 use Rattle.std.proofs.lemmas.Int.{to_z-of_z, wrapping_neg_is}
 use Rattle.weld_data.specs.Value.{number}
 use Rattle.weld_data.specs.Wrapped.{wrapped}

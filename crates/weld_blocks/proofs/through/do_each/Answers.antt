@@ -1,9 +1,8 @@
 use Rattle.std.proofs.Common.{Err, sym, ◌∙◌}
-use Rattle.weld_builders.specs.Outcome.{Outcome}
 use Rattle.weld_eval.specs.ThingView.{thing_of}
 use Rattle.weld_blocks.specs.Deeds.{DeedFits, do_of}
 use Rattle.weld_blocks.proofs.DeedForms.{acts_as}
-use Rattle.weld_blocks.proofs.ThroughLemmas.{come_start, come_fits, come_next, come_stops, come_end}
+use Rattle.weld_blocks.proofs.ThroughLemmas.{come_fits, come_next, come_stops}
 use Rattle.weld_blocks.proofs.through.do_each.Goals as goal
 
 pub at-requires : goal.at-requires
