@@ -18,7 +18,7 @@ use weld_data::{Stop, Val, Vals};
 use weld_eval::frame::Frame;
 use weld_eval::names::Names;
 use weld_eval::thing::{Held, Owned, into_owned};
-use weld_eval_plain::walk::{eval, eval_turns};
+use weld_rows::evaluate;
 use weld_tree::{Expr, Program};
 
 /// What an expression comes to.
@@ -34,7 +34,7 @@ pub(crate) fn compute(
 {
     let base = parameters(program, inputs);
     let frame = within(names, &base);
-    match eval(e, &frame, alloc) {
+    match evaluate(e, &frame, alloc) {
         Ok(x) => owned(x, alloc),
         Err(stop) => Err(stop),
     }
@@ -55,7 +55,7 @@ pub(crate) fn take_turns(
 {
     let base = parameters(program, inputs);
     let frame = within(names, &base);
-    match eval_turns(e, &frame, state, alloc) {
+    match weld_rows::take_turns(e, &frame, state, alloc) {
         Ok(x) => owned(x, alloc),
         Err(stop) => Err(stop),
     }

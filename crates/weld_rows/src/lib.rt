@@ -3,12 +3,11 @@
 #![tactic(auto)]
 
 mod blocks;
+mod evaluate;
 mod forms;
-mod program;
 mod range;
 mod reads;
 mod walk;
 
-pub use program::eval_program;
+pub use evaluate::{evaluate, take_turns};
 pub use range::run_range;
-pub use walk::{act, number, value};

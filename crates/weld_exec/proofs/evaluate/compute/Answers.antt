@@ -11,8 +11,8 @@ use Rattle.weld_eval_values.specs.Answers.{Answers}
 use Rattle.weld_eval_plain.proofs.Steps.{stops}
 use Rattle.weld_exec.proofs.evaluate.compute.Goals as goal
 
-pub eval-requires : goal.eval-requires
-eval-requires c =
+pub evaluate-requires : goal.evaluate-requires
+evaluate-requires c =
     let scoped : env_of c.within-frame.result ≡ env_of_names c.args.names.now ++ with_arguments c.args.program.now.params c.args.inputs.now = c.within-frame.ensures ∙ ap (λ (g : Env). env_of_names c.args.names.now ++ g) c.parameters-base.ensures in
     subst (λ (g : Env). IsFit c.args.e.now g) (sym scoped) c.requires
 

@@ -12,8 +12,8 @@ use Rattle.weld_eval_plain.specs.Turns.{HoldsState, turns_from}
 use Rattle.weld_eval_plain.proofs.Steps.{stops}
 use Rattle.weld_exec.proofs.evaluate.take_turns.Goals as goal
 
-pub eval_turns-requires-clause-state : goal.eval_turns-requires-clause-state
-eval_turns-requires-clause-state c =
+pub take_turns-requires-clause-state : goal.take_turns-requires-clause-state
+take_turns-requires-clause-state c =
     let scoped : env_of c.within-frame.result ≡ env_of_names c.args.names.now ++ with_arguments c.args.program.now.params c.args.inputs.now = c.within-frame.ensures ∙ ap (λ (g : Env). env_of_names c.args.names.now ++ g) c.parameters-base.ensures in
     subst (λ (g : Env). HoldsState c.args.e.now g (view_val c.args.state)) (sym scoped) c.requires.state
 

@@ -1,17 +1,17 @@
 use Rattle.std.proofs.Common.{◌≡◌, ◌∙◌, ◌∷◌, ◌+◌, ◌-◌, ◌<◌, ◌≤◌, Bool, true, List, length, drop, get_or, refl, ap, sym, subst, arith}
-use Rattle.weld_data.specs.View.{view_column}
+use Rattle.weld_data.specs.View.{view_column, view_val}
 use Rattle.weld_eval.specs.declared.thing.Owned.{Owned}
 use Rattle.weld_eval.specs.declared.thing.Fields.{Fields}
 use Rattle.weld_tree.specs.ExprTree.{ExprTree}
 use Rattle.weld_acts.specs.Act.{Acts, act, act_all}
 use Rattle.weld_rows.specs.RowActs.{row_act, RowActFits, body_nodes}
 use Rattle.weld_tree.specs.ExprFalls.{expr_nodes}
-use Rattle.weld_tree.specs.ExprTree.{Two, one, two, three, many, let_in, loop, pack_exprs, pack_legs}
+use Rattle.weld_tree.specs.ExprTree.{Two, one, two, three, many, let_in, loop, iterate, pack_exprs, pack_legs}
 use Rattle.weld_tree.specs.ExprView.{view_form, view_one, view_two, view_three, view_many}
 use Rattle.weld_tree.specs.declared.expr.Form.{Form}
 use Rattle.weld_builders.specs.Outcome.{done}
 use Rattle.weld_meaning.specs.Thing.{plain, more_things, fields_of}
-use Rattle.weld_meaning.specs.Evaluation.{Env, whole_number}
+use Rattle.weld_meaning.specs.Evaluation.{Env, eval, whole_number}
 use Rattle.weld_eval.specs.FrameView.{env_of}
 use Rattle.weld_eval.specs.LegsView.{lists_of}
 use Rattle.weld_eval.specs.RowLists.{row_in}
@@ -22,7 +22,13 @@ use Rattle.weld_eval_forms.specs.Legs.{leg_lists}
 use Rattle.weld_eval_forms.proofs.Rows.{vector_at}
 use Rattle.weld_acts.specs.ActFits.{ActFits, ActsFit}
 use Rattle.weld_acts.proofs.Children.{let_acts, struct_acts, struct_several, acts_at, acts_after}
+use Rattle.weld_eval_plain.proofs.Nodes.{both_take, all_take}
+use Rattle.weld_eval_plain.proofs.Parts.{parts_take}
+use Rattle.weld_eval_plain.proofs.Turns.{state_is_plain, state_holds, turns_start, turn_gives, turn_answers, turns_go_on, turns_end, turns_exceeded}
+use Rattle.weld_eval_plain.proofs.Steps.{stops, second_faults, middle_faults, third_faults}
 use Rattle.weld_rows.specs.Numbers.{numeric}
+use Rattle.weld_rows.specs.Runs.{Runs}
+use Rattle.weld_rows.proofs.Parts.{turn_runs}
 use Rattle.weld_rows.proofs.Numbers.{numeric_runs, number_given, either_first, either_second, either_truth, left_runs, right_runs, binary_form, binary_answers, are_operands, choice_condition_runs, choice_is_truth, value_condition_runs, value_is_truth, then_runs, otherwise_runs, on_part_runs, on_takes}
 use Rattle.weld_rows.proofs.Values.{part_run_takes, over_count, over_ready, as_many, reach_less, linked, all_linked, expr_some}
 use Rattle.weld_rows.proofs.ActLemmas.{item_runs, act_over_count, act_over_ready, fields_fewer, fields_end, some_left, several_there, reads_some, choice_runs, choice_truth, pair_item_stops}
@@ -284,3 +290,69 @@ run_blocks-pieces-preserved t c =
     let low : c.pieces.reached ≤ c.block_end-end.result = omega (arith, c.block_end-end.ensures.more) in
     range_part_next c.args.e.now (env_of c.args.frame.now) (lists_of c.args.legs.now) c.args.from c.args.to (thing_of c.args.builder.now) (thing_of c.args.own.now) c.pieces.reached c.block_end-end.result (thing_of c.pieces.builder)
     (thing_of c.run_block.new.builder) c.pieces.invariant low c.block_end-end.ensures.within c.in-Ok.ensures
+
+-- ---- forms of two and three parts, vectors and structs, turns
+
+pub value_of_both-two-requires-clause-takes : goal.value_of_both-two-requires-clause-takes
+value_of_both-two-requires-clause-takes t c =
+    both_take _ _ c.deref.result.now c.deref-in-Two.result.now (env_of c.args.frame.now) c.args.e.now (held_of c.in-Ok.x) (held_of c.in-Ok-value.y) (sym c.e.view_is ∙ ap (λ (f : Form). view_form f (record { place = c.e.inside.place; ty = c.e.inside.ty })) c.in-Two.is ∙ (λ i. two (record { place = c.e.inside.place; ty = c.e.inside.ty }) (view_two c.in-Two.form) (sym c.deref.ensures i) (sym c.deref-in-Two.ensures i))) c.requires.runs.fit c.in-Ok.ensures c.in-Ok-value.ensures
+
+pub value_of_both-returns-in-Err-value : goal.value_of_both-returns-in-Err-value
+value_of_both-returns-in-Err-value t c =
+    stops held_of held_of c.in-Err-value.stop (eval c.deref-in-Two.result.now (env_of c.args.frame.now)) (eval c.args.e.now (env_of c.args.frame.now)) (λ q. second_faults _ _ c.deref.result.now c.deref-in-Two.result.now (env_of c.args.frame.now) c.args.e.now (held_of c.in-Ok.x) (sym c.e.view_is ∙ ap (λ (f : Form). view_form f (record { place = c.e.inside.place; ty = c.e.inside.ty })) c.in-Two.is ∙ (λ i. two (record { place = c.e.inside.place; ty = c.e.inside.ty }) (view_two c.in-Two.form) (sym c.deref.ensures i) (sym c.deref-in-Two.ensures i))) c.requires.form c.requires.runs.fit c.in-Ok.ensures q) c.in-Err-value.ensures
+
+pub value_of_three-three-requires-clause-takes : goal.value_of_three-three-requires-clause-takes
+value_of_three-three-requires-clause-takes t c =
+    all_take _ _ c.deref.result.now c.deref-in-Three.result.now c.deref-in-Three-2.result.now (env_of c.args.frame.now) c.args.e.now (held_of c.in-Ok.x) (held_of c.in-Ok-value.y) (held_of c.in-Ok-value-2.z) (sym c.e.view_is ∙ ap (λ (f : Form). view_form f (record { place = c.e.inside.place; ty = c.e.inside.ty })) c.in-Three.is ∙ (λ i. three (record { place = c.e.inside.place; ty = c.e.inside.ty }) (view_three c.in-Three.form) (sym c.deref.ensures i) (sym c.deref-in-Three.ensures i) (sym c.deref-in-Three-2.ensures i))) c.requires.runs.fit c.in-Ok.ensures c.in-Ok-value.ensures c.in-Ok-value-2.ensures
+
+pub value_of_three-returns-in-Err-value : goal.value_of_three-returns-in-Err-value
+value_of_three-returns-in-Err-value t c =
+    stops held_of held_of c.in-Err-value.stop (eval c.deref-in-Three.result.now (env_of c.args.frame.now)) (eval c.args.e.now (env_of c.args.frame.now)) (λ q. middle_faults _ _ c.deref.result.now c.deref-in-Three.result.now c.in-Three.third.value (env_of c.args.frame.now) c.args.e.now (held_of c.in-Ok.x) (sym c.e.view_is ∙ ap (λ (f : Form). view_form f (record { place = c.e.inside.place; ty = c.e.inside.ty })) c.in-Three.is ∙ (λ i. three (record { place = c.e.inside.place; ty = c.e.inside.ty }) (view_three c.in-Three.form) (sym c.deref.ensures i) (sym c.deref-in-Three.ensures i) c.in-Three.third.value)) c.requires.form c.requires.runs.fit c.in-Ok.ensures q) c.in-Err-value.ensures
+
+pub value_of_three-returns-in-Err-value-2 : goal.value_of_three-returns-in-Err-value-2
+value_of_three-returns-in-Err-value-2 t c =
+    stops held_of held_of c.in-Err-value-2.stop (eval c.deref-in-Three-2.result.now (env_of c.args.frame.now)) (eval c.args.e.now (env_of c.args.frame.now)) (λ q. third_faults _ _ c.deref.result.now c.deref-in-Three.result.now c.deref-in-Three-2.result.now (env_of c.args.frame.now) c.args.e.now (held_of c.in-Ok.x) (held_of c.in-Ok-value.y) (sym c.e.view_is ∙ ap (λ (f : Form). view_form f (record { place = c.e.inside.place; ty = c.e.inside.ty })) c.in-Three.is ∙ (λ i. three (record { place = c.e.inside.place; ty = c.e.inside.ty }) (view_three c.in-Three.form) (sym c.deref.ensures i) (sym c.deref-in-Three.ensures i) (sym c.deref-in-Three-2.ensures i))) c.requires.form c.requires.runs.fit c.in-Ok.ensures c.in-Ok-value.ensures q) c.in-Err-value-2.ensures
+
+pub value_of_many-many-requires : goal.value_of_many-many-requires
+value_of_many-many-requires t c =
+    parts_take _ _ (pack_exprs c.in-Many.parts) (env_of c.args.frame.now) c.args.e.now _ (sym c.e.view_is ∙ ap (λ (f : Form). view_form f (record { place = c.e.inside.place; ty = c.e.inside.ty })) c.in-Many.is) c.requires.runs.fit c.in-Ok.ensures
+
+pub first_state-into_value-requires : goal.first_state-into_value-requires
+first_state-into_value-requires t c =
+    state_is_plain _ c.deref.result.now c.in-Iterate.field-1 c.in-Iterate.field-2.value (env_of c.args.frame.now) c.args.e.now (held_of c.in-Ok.x) (sym c.e.view_is ∙ ap (λ (f : Form). view_form f (record { place = c.e.inside.place; ty = c.e.inside.ty })) c.in-Iterate.is ∙ (λ i. iterate (record { place = c.e.inside.place; ty = c.e.inside.ty }) (sym c.deref.ensures i) c.in-Iterate.field-1 c.in-Iterate.field-2.value)) c.requires.runs.fit c.in-Ok.ensures
+
+pub first_state-returns-in-Ok-into_value : goal.first_state-returns-in-Ok-into_value
+first_state-returns-in-Ok-into_value t c =
+    let is : c.args.e.now ≡ iterate (record { place = c.e.inside.place; ty = c.e.inside.ty }) c.deref.result.now c.in-Iterate.field-1 c.in-Iterate.field-2.value = sym c.e.view_is ∙ ap (λ (f : Form). view_form f (record { place = c.e.inside.place; ty = c.e.inside.ty })) c.in-Iterate.is ∙ (λ i. iterate (record { place = c.e.inside.place; ty = c.e.inside.ty }) (sym c.deref.ensures i) c.in-Iterate.field-1 c.in-Iterate.field-2.value) in (
+      state_holds _ c.deref.result.now c.in-Iterate.field-1 c.in-Iterate.field-2.value (env_of c.args.frame.now) c.args.e.now (held_of c.in-Ok.x) (view_val c.in-Ok-into_value.state) is c.requires.runs.fit c.in-Ok.ensures c.in-Ok-into_value.ensures,
+      turns_start _ c.deref.result.now c.in-Iterate.field-1 c.in-Iterate.field-2.value (env_of c.args.frame.now) c.args.e.now (held_of c.in-Ok.x) (view_val c.in-Ok-into_value.state) is c.in-Ok.ensures c.in-Ok-into_value.ensures,
+    )
+
+pub run_turn-value-requires : goal.run_turn-value-requires
+run_turn-value-requires t c =
+    let is : c.args.e.now ≡ iterate (record { place = c.e.inside.place; ty = c.e.inside.ty }) c.in-Iterate.field-0.value c.in-Iterate.binder c.deref.result.now = sym c.e.view_is ∙ ap (λ (f : Form). view_form f (record { place = c.e.inside.place; ty = c.e.inside.ty })) c.in-Iterate.is ∙ (λ i. iterate (record { place = c.e.inside.place; ty = c.e.inside.ty }) c.in-Iterate.field-0.value c.in-Iterate.binder (sym c.deref.ensures i)) in
+    (omega (arith, ap expr_nodes is), subst (λ (g : Env). Runs c.deref.result.now g) (sym c.bind-inner.ensures) (turn_runs _ _ _ c.deref.result.now (env_of c.args.frame.now) c.args.e.now (view_val c.args.state) is c.requires.state c.requires.direct))
+
+pub run_turn-pair_of-requires : goal.run_turn-pair_of-requires
+run_turn-pair_of-requires t c =
+    let is : c.args.e.now ≡ iterate (record { place = c.e.inside.place; ty = c.e.inside.ty }) c.in-Iterate.field-0.value c.in-Iterate.binder c.deref.result.now = sym c.e.view_is ∙ ap (λ (f : Form). view_form f (record { place = c.e.inside.place; ty = c.e.inside.ty })) c.in-Iterate.is ∙ (λ i. iterate (record { place = c.e.inside.place; ty = c.e.inside.ty }) c.in-Iterate.field-0.value c.in-Iterate.binder (sym c.deref.ensures i)) in
+    let q : eval c.deref.result.now ((c.in-Iterate.binder.sym.0, plain (view_val c.args.state)) ∷ env_of c.args.frame.now) ≡ done (held_of c.in-Ok.pair) = sym (ap (λ (g : Env). eval c.deref.result.now g) c.bind-inner.ensures) ∙ c.in-Ok.ensures in
+    turn_gives _ _ _ c.deref.result.now (env_of c.args.frame.now) c.args.e.now (view_val c.args.state) (held_of c.in-Ok.pair) is c.requires.state q
+
+pub run_turn-returns-in-Ok : goal.run_turn-returns-in-Ok
+run_turn-returns-in-Ok t c =
+    let is : c.args.e.now ≡ iterate (record { place = c.e.inside.place; ty = c.e.inside.ty }) c.in-Iterate.field-0.value c.in-Iterate.binder c.deref.result.now = sym c.e.view_is ∙ ap (λ (f : Form). view_form f (record { place = c.e.inside.place; ty = c.e.inside.ty })) c.in-Iterate.is ∙ (λ i. iterate (record { place = c.e.inside.place; ty = c.e.inside.ty }) c.in-Iterate.field-0.value c.in-Iterate.binder (sym c.deref.ensures i)) in
+    let q : eval c.deref.result.now ((c.in-Iterate.binder.sym.0, plain (view_val c.args.state)) ∷ env_of c.args.frame.now) ≡ done (held_of c.in-Ok.pair) = sym (ap (λ (g : Env). eval c.deref.result.now g) c.bind-inner.ensures) ∙ c.in-Ok.ensures in
+    turn_answers _ _ _ c.deref.result.now (env_of c.args.frame.now) c.args.e.now (view_val c.args.state) (held_of c.in-Ok.pair) c.pair_of.result is c.requires.state q c.pair_of.ensures
+
+pub run_turns-loop-turn-preserved : goal.run_turns-loop-turn-preserved
+run_turns-loop-turn-preserved t c =
+    (c.in-Ok-default-true.ensures.0, c.loop-turn.invariant.1 ∙ turns_go_on c.args.e.now (env_of c.args.frame.now) c.loop-turn._turn (view_val c.loop-turn.state) (c.in-Ok-default-true.next, c.in-Ok-default-true.field-0-1) (omega arith) c.in-Ok-default-true.field-0-1-test c.in-Ok-default-true.ensures)
+
+pub run_turns-returns-in-Ok-default-false : goal.run_turns-returns-in-Ok-default-false
+run_turns-returns-in-Ok-default-false t c =
+    c.loop-turn.invariant.1 ∙ turns_end c.args.e.now (env_of c.args.frame.now) c.loop-turn._turn (view_val c.loop-turn.state) (c.in-Ok-default-false.last, c.in-Ok-default-false.field-0-1) (omega arith) c.in-Ok-default-false.field-0-1-test c.in-Ok-default-false.ensures
+
+pub run_turns-returns : goal.run_turns-returns
+run_turns-returns t c =
+    c.loop-turn.invariant.1 ∙ turns_exceeded c.args.e.now (env_of c.args.frame.now) c.loop-turn._turn (view_val c.loop-turn.state) (omega arith)

@@ -1,10 +1,16 @@
-use Rattle.std.proofs.Common.{◌+◌, ◌-◌, ◌*◌, drop, length}
+use Rattle.std.proofs.Common.{◌≡◌, ◌+◌, ◌-◌, ◌*◌, drop, length}
+use Rattle.weld_data.specs.View.{view_val}
 use Rattle.weld_tree.specs.ExprFalls.{expr_nodes, exprs_nodes}
 use Rattle.weld_tree.specs.ExprTree.{pack_exprs}
+use Rattle.weld_builders.specs.Outcome.{map_out}
+use Rattle.weld_meaning.specs.Evaluation.{eval_all, turn_limit}
 use Rattle.weld_eval.specs.FrameView.{env_of}
 use Rattle.weld_eval.specs.LegsView.{lists_of}
 use Rattle.weld_eval.specs.ThingView.{thing_of}
+use Rattle.weld_eval_forms.specs.FormTakes.{all_of, before_things}
+use Rattle.weld_eval_plain.specs.Turns.{HoldsState, turns_from}
 use Rattle.weld_rows.specs.RangeOn.{RangeOn}
+use Rattle.weld_rows.specs.Runs.{AllRun}
 use Rattle.weld_rows.specs.RowActs.{body_nodes}
 use Rattle.weld_rows.proofs.walk.+rows.Given as goal
 
@@ -137,6 +143,33 @@ decreases-run_row l = 64 * body_nodes l.e.now + 32
 abbrev pub decreases-act_fields : goal.decreases-act_fields
 decreases-act_fields l = 64 * exprs_nodes (pack_exprs (drop l.number l.parts.now)) + 32
 
+abbrev pub decreases-selection : goal.decreases-selection
+decreases-selection l = 64 * expr_nodes l.e.now + 9
+
+abbrev pub decreases-value_of_both : goal.decreases-value_of_both
+decreases-value_of_both l = 64 * expr_nodes l.e.now + 7
+
+abbrev pub decreases-value_of_three : goal.decreases-value_of_three
+decreases-value_of_three l = 64 * expr_nodes l.e.now + 7
+
+abbrev pub decreases-value_of_many : goal.decreases-value_of_many
+decreases-value_of_many l = 64 * expr_nodes l.e.now + 7
+
+abbrev pub decreases-things : goal.decreases-things
+decreases-things l = 64 * exprs_nodes (pack_exprs l.parts.now) + 15
+
+abbrev pub decreases-value_of_iterate : goal.decreases-value_of_iterate
+decreases-value_of_iterate l = 64 * expr_nodes l.e.now + 7
+
+abbrev pub decreases-first_state : goal.decreases-first_state
+decreases-first_state l = 64 * expr_nodes l.e.now + 6
+
+abbrev pub decreases-run_turns : goal.decreases-run_turns
+decreases-run_turns l = 64 * expr_nodes l.e.now + 6
+
+abbrev pub decreases-run_turn : goal.decreases-run_turn
+decreases-run_turn l = 64 * expr_nodes l.e.now + 5
+
 -- the builder has come so far
 
 abbrev pub invariant-walk_rows-loop-number : goal.invariant-walk_rows-loop-number
@@ -147,3 +180,15 @@ invariant-run_blocks-pieces l = RangeOn l.e (env_of l.frame) (lists_of l.legs) l
 
 abbrev pub decreases-run_blocks-pieces : goal.decreases-run_blocks-pieces
 decreases-run_blocks-pieces l = l.to - l.reached
+
+-- the turns that are left from the state make the whole
+
+abbrev pub invariant-run_turns-loop-turn : goal.invariant-run_turns-loop-turn
+invariant-run_turns-loop-turn l = HoldsState l.e (env_of l.frame) (view_val l.state) × (turns_from l.e (env_of l.frame) turn_limit (view_val l.fn.start) ≡ turns_from l.e (env_of l.frame) (turn_limit - l._turn) (view_val l.state))
+
+-- what was gathered so far and what is left make the whole
+
+abbrev pub invariant-things-loop-part : goal.invariant-things-loop-part
+invariant-things-loop-part l =
+    AllRun (pack_exprs (drop l.part-index l.part-items)) (env_of l.frame)
+    × (eval_all (pack_exprs l.part-items) (env_of l.frame) ≡ map_out (before_things (all_of l.things.items)) (eval_all (pack_exprs (drop l.part-index l.part-items)) (env_of l.frame)))

@@ -1,0 +1,354 @@
+//! What expressions of builder type do to the builder that they act on.
+
+ghost use Rattle.std.specs.Prelude.{drop as drop_items};
+ghost use Rattle.weld_acts.specs.Act.{Acts, act as act_of, act_all};
+ghost use Rattle.weld_acts.specs.ActFits.{ActFits, ActsFit};
+ghost use Rattle.weld_blocks.specs.Puts.{PutFits, IsWrittenPair, IsTwo, IsTriple};
+ghost use Rattle.weld_eval.specs.FrameView.{env_of};
+ghost use Rattle.weld_eval.specs.ThingView.{thing_of, things_of};
+ghost use Rattle.weld_eval_forms.specs.Legs.{leg_lists, AreVectors};
+ghost use Rattle.weld_eval_plain.specs.Nodes.{IsLet, IsLoop, IsMany};
+ghost use Rattle.weld_eval_plain.specs.Rows.{LegsAre};
+ghost use Rattle.weld_meaning.specs.Evaluation.{eval as eval_of, merged};
+ghost use Rattle.weld_rows.specs.Numbers.{TriesNumber};
+ghost use Rattle.weld_rows.specs.RowActs.{ActAll};
+ghost use Rattle.weld_rows.specs.Runs.{Runs};
+ghost use Rattle.weld_tree.specs.ExprTree.{pack_exprs};
+
+use super::numbers::{number, unread};
+use super::values::{reach, value};
+use crate::forms::{discard, is_numeric, is_pair, no_legs, with_number};
+use crate::reads::{leaf_number, leaf_pair};
+use std::alloc::Global;
+use weld_blocks::puts::{put_held, put_number, put_two};
+use weld_blocks::scalar::truth_of;
+use weld_data::Stop;
+use weld_eval::frame::{Frame, bind};
+use weld_eval::short::Short;
+use weld_eval::thing::{Fields, Held, Owned};
+use weld_eval_forms::legs::count_rows;
+use weld_eval_plain::walk::eval_legs;
+use weld_tree::{Expr, Exprs, Form};
+
+/// What an expression of builder type does to the builder that it acts on.
+#[cycle(rows)]
+#[tactic(auto, using(crate::proofs::ActLemmas::no_turns))]
+pub fn act(e: &Expr, frame: &Frame, builder: &mut Owned, alloc: Global) -> Result<(), Stop>
+    requires { ActFits e.now (env_of frame.now) (thing_of builder.old) }
+    ensures { Acts result (act_of e.now (env_of frame.now) (thing_of builder.old)) (thing_of builder.new) }
+{
+    match &e.form {
+        Form::Leaf(_) => Ok(()),
+        Form::One(_, _) => Ok(()),
+        Form::Two(_, _, _) => act_merge(e, frame, builder, alloc),
+        Form::Three(_, _, _, _) => act_if(e, frame, builder, alloc),
+        Form::Many(_, _) => act_struct(e, frame, builder, alloc),
+        Form::Let(_, _, _) => act_let(e, frame, builder, alloc),
+        Form::For(_, _, _, _, _, _) => act_loop(e, frame, builder, alloc),
+        Form::Iterate(_, _, _) => unreachable!(),
+    }
+}
+
+/// A merge: what its builder does, then the item.
+#[cycle(rows)]
+#[tactic(auto, using(weld_acts::proofs::Children::merge_part_acts, weld_acts::proofs::Children::merge_part_faults, crate::proofs::ActLemmas::item_runs, weld_blocks::proofs::Merges::item_puts, crate::proofs::ActLemmas::merge_by_item))]
+fn act_merge(e: &Expr, frame: &Frame, builder: &mut Owned, alloc: Global) -> Result<(), Stop>
+    requires acts { ActFits e.now (env_of frame.now) (thing_of builder.old) }
+    requires form { IsTwo e.now }
+    ensures { Acts result (act_of e.now (env_of frame.now) (thing_of builder.old)) (thing_of builder.new) }
+{
+    match &e.form {
+        Form::Two(_, first, item) => match act_first(first, frame, builder, alloc) {
+            Ok(()) => put(item, frame, builder, alloc),
+            Err(stop) => Err(stop),
+        },
+        _ => unreachable!(),
+    }
+}
+
+/// What the builder does into which is merged: mostly it is the name alone, which does nothing.
+#[cycle(rows)]
+#[inline(always)]
+fn act_first(e: &Expr, frame: &Frame, builder: &mut Owned, alloc: Global) -> Result<(), Stop>
+    requires { ActFits e.now (env_of frame.now) (thing_of builder.old) }
+    ensures { Acts result (act_of e.now (env_of frame.now) (thing_of builder.old)) (thing_of builder.new) }
+{
+    match &e.form {
+        Form::Leaf(_) => Ok(()),
+        _ => act(e, frame, builder, alloc),
+    }
+}
+
+/// Merges an item: a number without a value made.
+#[cycle(rows)]
+#[tactic(auto, using(weld_blocks::proofs::Merges::put_number_item, weld_blocks::proofs::Merges::put_is, crate::proofs::ActLemmas::put_stops))]
+fn put(item: &Expr, frame: &Frame, builder: &mut Owned, alloc: Global) -> Result<(), Stop>
+    requires runs { Runs item.now (env_of frame.now) }
+    requires fits { PutFits item.now (env_of frame.now) (thing_of builder.old) }
+    ensures { Acts result (merged (thing_of builder.old) (eval_of item.now (env_of frame.now))) (thing_of builder.new) }
+{
+    match tried(item, frame, alloc) {
+        Ok(Some(n)) => put_number(builder, n),
+        Ok(None) => put_other(item, frame, builder, alloc),
+        Err(stop) => Err(stop),
+    }
+}
+
+/// The number that an expression comes to, where it is one by its looks or is read at once.
+#[cycle(rows)]
+#[tactic(auto, using(crate::proofs::Numbers::numeric_runs))]
+#[inline(always)]
+pub(super) fn tried(e: &Expr, frame: &Frame, alloc: Global) -> Result<Option<Short>, Stop>
+    requires { Runs e.now (env_of frame.now) }
+    ensures { TriesNumber result (eval_of e.now (env_of frame.now)) }
+{
+    match leaf_number(e, frame) {
+        Some(n) => Ok(Some(n)),
+        None => {
+            if is_numeric(e) {
+                match unread(e, frame, alloc) {
+                    Ok(n) => Ok(Some(n)),
+                    Err(stop) => Err(stop),
+                }
+            } else {
+                Ok(None)
+            }
+        }
+    }
+}
+
+/// Merges an item that isn't a number by its looks.
+#[cycle(rows)]
+#[tactic(auto, using(weld_blocks::proofs::Merges::put_number_item, weld_blocks::proofs::Merges::put_is))]
+fn put_other(item: &Expr, frame: &Frame, builder: &mut Owned, alloc: Global) -> Result<(), Stop>
+    requires runs { Runs item.now (env_of frame.now) }
+    requires fits { PutFits item.now (env_of frame.now) (thing_of builder.old) }
+    ensures { Acts result (merged (thing_of builder.old) (eval_of item.now (env_of frame.now))) (thing_of builder.new) }
+{
+    match leaf_pair(item, frame) {
+        Some(found) => put_two(builder, found.0, found.1, alloc),
+        None => put_compound(item, frame, builder, alloc),
+    }
+}
+
+/// The same of what isn't read at once.
+#[cycle(rows)]
+fn put_compound(item: &Expr, frame: &Frame, builder: &mut Owned, alloc: Global) -> Result<(), Stop>
+    requires runs { Runs item.now (env_of frame.now) }
+    requires fits { PutFits item.now (env_of frame.now) (thing_of builder.old) }
+    ensures { Acts result (merged (thing_of builder.old) (eval_of item.now (env_of frame.now))) (thing_of builder.new) }
+{
+    if is_pair(item) {
+        put_written(item, frame, builder, alloc)
+    } else {
+        put_made(item, frame, builder, alloc)
+    }
+}
+
+/// Merges the value that an item comes to.
+#[cycle(rows)]
+#[tactic(auto, using(weld_blocks::proofs::Merges::put_plain, weld_blocks::proofs::Merges::put_thing, weld_blocks::proofs::Merges::put_is, crate::proofs::ActLemmas::put_made_stops))]
+fn put_made(item: &Expr, frame: &Frame, builder: &mut Owned, alloc: Global) -> Result<(), Stop>
+    requires runs { Runs item.now (env_of frame.now) }
+    requires fits { PutFits item.now (env_of frame.now) (thing_of builder.old) }
+    ensures { Acts result (merged (thing_of builder.old) (eval_of item.now (env_of frame.now))) (thing_of builder.new) }
+{
+    match value(item, &*frame, alloc) {
+        Ok(x) => put_held(builder, x, alloc),
+        Err(stop) => Err(stop),
+    }
+}
+
+/// Merges a key and its item that are written as a struct.
+#[cycle(rows)]
+#[tactic(auto, using(weld_blocks::proofs::Merges::written_length, crate::proofs::ActLemmas::pair_key_runs, crate::proofs::ActLemmas::pair_item_runs, weld_blocks::proofs::Merges::pair_is, crate::proofs::ActLemmas::pair_key_stops, crate::proofs::ActLemmas::pair_item_stops, weld_blocks::proofs::Merges::put_number_item, weld_blocks::proofs::Merges::put_is))]
+fn put_written(item: &Expr, frame: &Frame, builder: &mut Owned, alloc: Global) -> Result<(), Stop>
+    requires runs { Runs item.now (env_of frame.now) }
+    requires fits { PutFits item.now (env_of frame.now) (thing_of builder.old) }
+    requires form { IsWrittenPair item.now }
+    ensures { Acts result (merged (thing_of builder.old) (eval_of item.now (env_of frame.now))) (thing_of builder.new) }
+{
+    match &item.form {
+        Form::Many(_, parts) => {
+            let parts = parts.as_slice();
+            let key = match tried(&parts[0], frame, alloc) {
+                Ok(key) => key,
+                Err(stop) => return Err(stop),
+            };
+            let x = match tried(&parts[1], frame, alloc) {
+                Ok(x) => x,
+                Err(stop) => return Err(stop),
+            };
+            match (key, x) {
+                (Some(key), Some(x)) => put_two(builder, key, x, alloc),
+                _ => put_made(item, frame, builder, alloc),
+            }
+        }
+        _ => unreachable!(),
+    }
+}
+
+/// An `if`: only the arm that is chosen acts.
+#[cycle(rows)]
+#[tactic(auto, using(crate::proofs::ActLemmas::choice_runs, crate::proofs::ActLemmas::choice_truth, weld_acts::proofs::Children::then_acts, weld_acts::proofs::Children::otherwise_acts, crate::proofs::ActLemmas::acts_then, crate::proofs::ActLemmas::acts_otherwise, weld_acts::proofs::Children::choice_faults))]
+fn act_if(e: &Expr, frame: &Frame, builder: &mut Owned, alloc: Global) -> Result<(), Stop>
+    requires acts { ActFits e.now (env_of frame.now) (thing_of builder.old) }
+    requires form { IsTriple e.now }
+    ensures { Acts result (act_of e.now (env_of frame.now) (thing_of builder.old)) (thing_of builder.new) }
+{
+    match &e.form {
+        Form::Three(_, condition, then, otherwise) => {
+            let chosen = match number(condition, frame, alloc) {
+                Ok(x) => truth_of(x),
+                Err(stop) => return Err(stop),
+            };
+            if chosen {
+                act(then, frame, builder, alloc)
+            } else {
+                act(otherwise, frame, builder, alloc)
+            }
+        }
+        _ => unreachable!(),
+    }
+}
+
+/// A `let`: a number is bound as it is.
+#[cycle(rows)]
+#[tactic(auto, using(crate::proofs::ActLemmas::let_first_runs, weld_acts::proofs::Children::let_acts, crate::proofs::ActLemmas::acts_let, weld_acts::proofs::Children::let_faults))]
+fn act_let(e: &Expr, frame: &Frame, builder: &mut Owned, alloc: Global) -> Result<(), Stop>
+    requires acts { ActFits e.now (env_of frame.now) (thing_of builder.old) }
+    requires form { IsLet e.now }
+    ensures { Acts result (act_of e.now (env_of frame.now) (thing_of builder.old)) (thing_of builder.new) }
+{
+    match &e.form {
+        Form::Let(binder, first, body) => match tried(first, frame, alloc) {
+            Ok(Some(n)) => {
+                let inner = with_number(binder.sym, n, &*frame);
+                act(body, &inner, builder, alloc)
+            }
+            Ok(None) => act_let_value(e, frame, builder, alloc),
+            Err(stop) => Err(stop),
+        },
+        _ => unreachable!(),
+    }
+}
+
+/// A `let` of another value.
+#[cycle(rows)]
+#[tactic(auto, using(crate::proofs::ActLemmas::let_first_runs, weld_acts::proofs::Children::let_acts, crate::proofs::ActLemmas::acts_let, weld_acts::proofs::Children::let_faults))]
+fn act_let_value(e: &Expr, frame: &Frame, builder: &mut Owned, alloc: Global) -> Result<(), Stop>
+    requires acts { ActFits e.now (env_of frame.now) (thing_of builder.old) }
+    requires form { IsLet e.now }
+    ensures { Acts result (act_of e.now (env_of frame.now) (thing_of builder.old)) (thing_of builder.new) }
+{
+    match &e.form {
+        Form::Let(binder, first, body) => {
+            let x = match value(first, &*frame, alloc) {
+                Ok(x) => x,
+                Err(stop) => return Err(stop),
+            };
+            let inner = bind(binder.sym, &x, &*frame);
+            let answer = act(body, &inner, builder, alloc);
+            discard(x);
+            answer
+        }
+        _ => unreachable!(),
+    }
+}
+
+/// A loop over the same builder, which goes on in it.
+#[cycle(rows)]
+#[tactic(auto, using(crate::proofs::Values::loop_legs_acts, weld_acts::proofs::Children::loop_legs_fault))]
+fn act_loop(e: &Expr, frame: &Frame, builder: &mut Owned, alloc: Global) -> Result<(), Stop>
+    requires acts { ActFits e.now (env_of frame.now) (thing_of builder.old) }
+    requires form { IsLoop e.now }
+    ensures { Acts result (act_of e.now (env_of frame.now) (thing_of builder.old)) (thing_of builder.new) }
+{
+    match &e.form {
+        Form::For(legs, _, _, _, _, _) => match eval_legs(legs, &*frame, alloc) {
+            Ok(vectors) => act_over(e, frame, &vectors, builder, alloc),
+            Err(stop) => Err(stop),
+        },
+        _ => unreachable!(),
+    }
+}
+
+/// The same over legs that are evaluated.
+#[cycle(rows)]
+#[tactic(auto, using(crate::proofs::ActLemmas::act_over_count, crate::proofs::ActLemmas::act_over_holds, crate::proofs::ActLemmas::act_over_is, weld_acts::proofs::Children::loop_part_acts, weld_acts::proofs::Children::loop_rows_fault, weld_acts::proofs::Children::loop_part_faults, crate::proofs::Values::as_many))]
+fn act_over(
+    e: &Expr,
+    frame: &Frame,
+    vectors: &[Held],
+    builder: &mut Owned,
+    alloc: Global,
+) -> Result<(), Stop>
+    requires acts { ActFits e.now (env_of frame.now) (thing_of builder.old) }
+    requires form { IsLoop e.now }
+    requires legs { LegsAre e.now (env_of frame.now) (leg_lists vectors.now) }
+    requires vectors { AreVectors vectors.now }
+    ensures { Acts result (act_of e.now (env_of frame.now) (thing_of builder.old)) (thing_of builder.new) }
+{
+    match &e.form {
+        Form::For(_, start, _, _, _, _) => {
+            let count = match count_rows(vectors) {
+                Ok(count) => count,
+                Err(stop) => return Err(stop),
+            };
+            let end = no_legs();
+            match act(start, frame, builder, alloc) {
+                Ok(()) => reach(
+                    e,
+                    frame,
+                    vectors,
+                    vectors.len(),
+                    &end,
+                    count,
+                    builder,
+                    alloc,
+                ),
+                Err(stop) => Err(stop),
+            }
+        }
+        _ => unreachable!(),
+    }
+}
+
+/// A struct of builders, field by field.
+#[cycle(rows)]
+#[tactic(auto, using(weld_acts::proofs::Children::struct_acts, weld_acts::proofs::Children::struct_several, weld_acts::proofs::Children::struct_is, weld_acts::proofs::Children::struct_faults))]
+fn act_struct(e: &Expr, frame: &Frame, builder: &mut Owned, alloc: Global) -> Result<(), Stop>
+    requires acts { ActFits e.now (env_of frame.now) (thing_of builder.old) }
+    requires form { IsMany e.now }
+    ensures { Acts result (act_of e.now (env_of frame.now) (thing_of builder.old)) (thing_of builder.new) }
+{
+    match &e.form {
+        Form::Many(_, parts) => match builder {
+            Owned::Several(fields) => act_fields(parts, 0, frame, fields, alloc),
+            _ => unreachable!(),
+        },
+        _ => unreachable!(),
+    }
+}
+
+/// The fields from a number on.
+#[cycle(rows)]
+#[tactic(auto, using(weld_acts::proofs::Children::acts_at, weld_acts::proofs::Children::acts_after))]
+fn act_fields(
+    parts: &Exprs,
+    number: usize,
+    frame: &Frame,
+    fields: &mut Fields,
+    alloc: Global,
+) -> Result<(), Stop>
+    requires { ActsFit (pack_exprs (drop_items number parts.now)) (env_of frame.now) (things_of fields.old) }
+    ensures { ActAll result (act_all (pack_exprs (drop_items number parts.now)) (env_of frame.now) (things_of fields.old)) (things_of fields.new) }
+{
+    match fields {
+        Fields::End => Ok(()),
+        Fields::And(first, rest) => match act(&parts.as_slice()[number], frame, first, alloc) {
+            Ok(()) => act_fields(parts, number + 1, frame, rest, alloc),
+            Err(stop) => Err(stop),
+        },
+    }
+}

@@ -1,0 +1,209 @@
+//! Expressions that are numbers.
+
+ghost use Rattle.weld_eval.specs.FrameView.{env_of};
+ghost use Rattle.weld_eval_plain.specs.Nodes.{IsEither, IsIf};
+ghost use Rattle.weld_eval_values.specs.Answers.{Answers};
+ghost use Rattle.weld_meaning.specs.Evaluation.{eval as eval_of};
+ghost use Rattle.weld_rows.specs.Numbers.{number_thing, AnswersKind, IsBinary, IsNumberForm};
+ghost use Rattle.weld_rows.specs.Runs.{RunsNumber, IsSelect};
+
+use super::values::other;
+use crate::forms::{decides, number_in, one_number, operator_of};
+use crate::reads::leaf_number;
+use std::alloc::Global;
+use weld_blocks::scalar::{operated, truth_of};
+use weld_data::{Kind, Stop};
+use weld_eval::frame::Frame;
+use weld_eval::short::Short;
+use weld_tree::{Expr, Form, OneForm, ThreeForm, TwoForm};
+
+/// The number that an expression of a scalar type comes to.
+#[cycle(rows)]
+#[inline(always)]
+pub fn number(e: &Expr, frame: &Frame, alloc: Global) -> Result<Short, Stop>
+    requires { RunsNumber e.now (env_of frame.now) }
+    ensures { Answers number_thing result (eval_of e.now (env_of frame.now)) }
+{
+    match leaf_number(e, frame) {
+        Some(n) => Ok(n),
+        None => unread(e, frame, alloc),
+    }
+}
+
+/// The same of what isn't read at once.
+#[cycle(rows)]
+#[inline(always)]
+pub(super) fn unread(e: &Expr, frame: &Frame, alloc: Global) -> Result<Short, Stop>
+    requires { RunsNumber e.now (env_of frame.now) }
+    ensures { Answers number_thing result (eval_of e.now (env_of frame.now)) }
+{
+    let mut word = 0;
+    match compound(e, frame, &mut word, alloc) {
+        Ok(kind) => Ok(Short { kind, word }),
+        Err(stop) => Err(stop),
+    }
+}
+
+/// The same, the number's kind and its word apart: so a call hands both on in registers.
+#[cycle(rows)]
+fn compound(e: &Expr, frame: &Frame, into: &mut i64, alloc: Global) -> Result<Kind, Stop>
+    requires { RunsNumber e.now (env_of frame.now) }
+    ensures { AnswersKind result into.new (eval_of e.now (env_of frame.now)) }
+{
+    match chosen(e, frame, alloc) {
+        Ok(n) => {
+            *into = n.word;
+            Ok(n.kind)
+        }
+        Err(stop) => Err(stop),
+    }
+}
+
+/// The same, by the form.
+#[cycle(rows)]
+#[inline(always)]
+fn chosen(e: &Expr, frame: &Frame, alloc: Global) -> Result<Short, Stop>
+    requires { RunsNumber e.now (env_of frame.now) }
+    ensures { Answers number_thing result (eval_of e.now (env_of frame.now)) }
+{
+    match &e.form {
+        Form::Two(TwoForm::Binary(_), _, _) => binary(e, frame, alloc),
+        Form::Two(TwoForm::And, _, _) => either(e, frame, alloc),
+        Form::Two(TwoForm::Or, _, _) => either(e, frame, alloc),
+        Form::Three(ThreeForm::If, _, _, _) => choice(e, frame, alloc),
+        Form::Three(ThreeForm::Select, _, _, _) => selection(e, frame, alloc),
+        Form::One(OneForm::Neg, _) => on_number(e, frame, alloc),
+        Form::One(OneForm::Not, _) => on_number(e, frame, alloc),
+        Form::One(OneForm::Cast(_), _) => on_number(e, frame, alloc),
+        _ => in_value(e, frame, alloc),
+    }
+}
+
+/// An operator between two numbers.
+#[cycle(rows)]
+#[tactic(auto, using(crate::proofs::Numbers::left_runs, crate::proofs::Numbers::right_runs, crate::proofs::Numbers::binary_form, crate::proofs::Numbers::are_operands, crate::proofs::Numbers::binary_answers))]
+fn binary(e: &Expr, frame: &Frame, alloc: Global) -> Result<Short, Stop>
+    requires runs { RunsNumber e.now (env_of frame.now) }
+    requires form { IsBinary e.now }
+    ensures { Answers number_thing result (eval_of e.now (env_of frame.now)) }
+{
+    match &e.form {
+        Form::Two(form, first, second) => {
+            let op = operator_of(*form);
+            let x = match number(first, frame, alloc) {
+                Ok(x) => x,
+                Err(stop) => return Err(stop),
+            };
+            match number(second, frame, alloc) {
+                Ok(y) => operated(op, x, y),
+                Err(stop) => Err(stop),
+            }
+        }
+        _ => unreachable!(),
+    }
+}
+
+/// `&&` and `||`: the second part is evaluated only where it decides.
+#[cycle(rows)]
+#[tactic(auto, using(crate::proofs::Numbers::either_first, crate::proofs::Numbers::either_second, crate::proofs::Numbers::either_truth, crate::proofs::Numbers::either_goes_on, crate::proofs::Numbers::either_ends))]
+fn either(e: &Expr, frame: &Frame, alloc: Global) -> Result<Short, Stop>
+    requires runs { RunsNumber e.now (env_of frame.now) }
+    requires form { IsEither e.now }
+    ensures { Answers number_thing result (eval_of e.now (env_of frame.now)) }
+{
+    match &e.form {
+        Form::Two(form, first, second) => {
+            let truth = match number(first, frame, alloc) {
+                Ok(x) => truth_of(x),
+                Err(stop) => return Err(stop),
+            };
+            if decides(*form, truth) {
+                Ok(Short::of_truth(truth))
+            } else {
+                number(second, frame, alloc)
+            }
+        }
+        _ => unreachable!(),
+    }
+}
+
+/// An `if` between numbers.
+#[cycle(rows)]
+#[tactic(auto, using(crate::proofs::Numbers::choice_condition_runs, crate::proofs::Numbers::then_runs, crate::proofs::Numbers::otherwise_runs, crate::proofs::Numbers::choice_is_truth, crate::proofs::Numbers::if_is_then, crate::proofs::Numbers::if_is_otherwise))]
+fn choice(e: &Expr, frame: &Frame, alloc: Global) -> Result<Short, Stop>
+    requires runs { RunsNumber e.now (env_of frame.now) }
+    requires form { IsIf e.now }
+    ensures { Answers number_thing result (eval_of e.now (env_of frame.now)) }
+{
+    match &e.form {
+        Form::Three(_, condition, then, otherwise) => {
+            let chosen = match number(condition, frame, alloc) {
+                Ok(x) => truth_of(x),
+                Err(stop) => return Err(stop),
+            };
+            if chosen {
+                number(then, frame, alloc)
+            } else {
+                number(otherwise, frame, alloc)
+            }
+        }
+        _ => unreachable!(),
+    }
+}
+
+/// A `select` between numbers: all three are evaluated, and one is chosen.
+#[cycle(rows)]
+#[tactic(auto, using(crate::proofs::Choosing::selection_condition_runs, crate::proofs::Choosing::selection_then_runs, crate::proofs::Choosing::selection_otherwise_runs, crate::proofs::Choosing::selection_is_truth, crate::proofs::Choosing::selects_then, crate::proofs::Choosing::selects_otherwise))]
+fn selection(e: &Expr, frame: &Frame, alloc: Global) -> Result<Short, Stop>
+    requires runs { RunsNumber e.now (env_of frame.now) }
+    requires form { IsSelect e.now }
+    ensures { Answers number_thing result (eval_of e.now (env_of frame.now)) }
+{
+    match &e.form {
+        Form::Three(_, condition, then, otherwise) => {
+            let chosen = match number(condition, frame, alloc) {
+                Ok(x) => truth_of(x),
+                Err(stop) => return Err(stop),
+            };
+            let x = match number(then, frame, alloc) {
+                Ok(x) => x,
+                Err(stop) => return Err(stop),
+            };
+            match number(otherwise, frame, alloc) {
+                Ok(y) => Ok(if chosen { x } else { y }),
+                Err(stop) => Err(stop),
+            }
+        }
+        _ => unreachable!(),
+    }
+}
+
+/// A form of one part that makes a number of a number.
+#[cycle(rows)]
+#[tactic(auto, using(crate::proofs::Numbers::on_part_runs, crate::proofs::Numbers::on_form, crate::proofs::Numbers::on_takes, crate::proofs::Numbers::on_is))]
+fn on_number(e: &Expr, frame: &Frame, alloc: Global) -> Result<Short, Stop>
+    requires runs { RunsNumber e.now (env_of frame.now) }
+    requires form { IsNumberForm e.now }
+    ensures { Answers number_thing result (eval_of e.now (env_of frame.now)) }
+{
+    match &e.form {
+        Form::One(form, part) => match number(part, frame, alloc) {
+            Ok(x) => Ok(one_number(form, x)),
+            Err(stop) => Err(stop),
+        },
+        _ => unreachable!(),
+    }
+}
+
+/// A number that is in a value.
+#[cycle(rows)]
+#[tactic(auto, using(crate::proofs::Numbers::number_runs, crate::proofs::Numbers::number_given))]
+fn in_value(e: &Expr, frame: &Frame, alloc: Global) -> Result<Short, Stop>
+    requires { RunsNumber e.now (env_of frame.now) }
+    ensures { Answers number_thing result (eval_of e.now (env_of frame.now)) }
+{
+    match other(e, &*frame, alloc) {
+        Ok(x) => Ok(number_in(x)),
+        Err(stop) => Err(stop),
+    }
+}

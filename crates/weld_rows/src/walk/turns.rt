@@ -1,0 +1,104 @@
+//! The turns of an `iterate`.
+
+ghost use Rattle.weld_acts.specs.Act.{AreDirect};
+ghost use Rattle.weld_data.specs.View.{view_val};
+ghost use Rattle.weld_eval.specs.FrameView.{env_of};
+ghost use Rattle.weld_eval.specs.ThingView.{held_of};
+ghost use Rattle.weld_eval_plain.specs.Nodes.{IsIterate};
+ghost use Rattle.weld_eval_plain.specs.Turns.{HoldsState, StateAnswers, TurnAnswers, turns_from};
+ghost use Rattle.weld_eval_values.specs.Answers.{Answers};
+ghost use Rattle.weld_meaning.specs.Evaluation.{eval as eval_of, turn_limit};
+ghost use Rattle.weld_rows.specs.Runs.{Runs};
+
+use super::values::value;
+use std::alloc::Global;
+use weld_data::{Stop, Val};
+use weld_eval::frame::{Frame, bind};
+use weld_eval::thing::{Held, Owned, into_value};
+use weld_eval_forms::turn::pair_of;
+use weld_tree::{Expr, Form};
+
+/// How many turns an `iterate` may take.
+const TURN_LIMIT: u32 = 1_000_000;
+
+/// An `iterate`: its turns, from the state that it starts with.
+#[cycle(rows)]
+pub(super) fn value_of_iterate<'a>(
+    e: &Expr,
+    frame: &'a Frame<'a>,
+    alloc: Global,
+) -> Result<Held<'a>, Stop>
+    requires runs { Runs e.now (env_of frame.now) }
+    requires form { IsIterate e.now }
+    ensures { Answers held_of result (eval_of e.now (env_of frame.now)) }
+{
+    match first_state(e, &*frame, alloc) {
+        Ok(state) => run_turns(e, frame, state, alloc),
+        Err(stop) => Err(stop),
+    }
+}
+
+/// The state that an `iterate` starts with.
+#[cycle(rows)]
+fn first_state(e: &Expr, frame: &Frame, alloc: Global) -> Result<Val, Stop>
+    requires runs { Runs e.now (env_of frame.now) }
+    requires form { IsIterate e.now }
+    ensures { StateAnswers result e.now (env_of frame.now) }
+{
+    match &e.form {
+        Form::Iterate(start, _, _) => match value(start, &*frame, alloc) {
+            Ok(x) => match into_value(x, alloc) {
+                Ok(state) => Ok(state),
+                Err(_) => Err(Stop::Memory),
+            },
+            Err(stop) => Err(stop),
+        },
+        _ => unreachable!(),
+    }
+}
+
+/// The turns of an `iterate` from a state, until one says that it is the last; the millionth may be the
+/// last, and one more is a fault. The loops in a turn run in place, since each acts on its own builder.
+#[cycle(rows)]
+pub fn run_turns<'a>(
+    e: &Expr,
+    frame: &'a Frame<'a>,
+    start: Val,
+    alloc: Global,
+) -> Result<Held<'a>, Stop>
+    requires state { HoldsState e.now (env_of frame.now) (view_val start) }
+    requires direct { AreDirect e.now }
+    requires form { IsIterate e.now }
+    ensures { Answers held_of result (turns_from e.now (env_of frame.now) turn_limit (view_val start)) }
+{
+    let mut state = start;
+    for _turn in 0..TURN_LIMIT {
+        match run_turn(e, &*frame, state, alloc) {
+            Ok((next, true)) => state = next,
+            Ok((last, false)) => return Ok(Held::Made(Owned::Value(last))),
+            Err(stop) => return Err(stop),
+        }
+    }
+    Err(Stop::Fault)
+}
+
+/// One turn: the next state, and whether to go on.
+#[cycle(rows)]
+fn run_turn(e: &Expr, frame: &Frame, state: Val, alloc: Global) -> Result<(Val, bool), Stop>
+    requires state { HoldsState e.now (env_of frame.now) (view_val state) }
+    requires direct { AreDirect e.now }
+    requires form { IsIterate e.now }
+    ensures { TurnAnswers result e.now (env_of frame.now) (view_val state) }
+{
+    match &e.form {
+        Form::Iterate(_, binder, body) => {
+            let state = Held::Made(Owned::Value(state));
+            let inner = bind(binder.sym, &state, &*frame);
+            match value(body, &inner, alloc) {
+                Ok(pair) => pair_of(pair, alloc),
+                Err(stop) => Err(stop),
+            }
+        }
+        _ => unreachable!(),
+    }
+}
