@@ -1,10 +1,9 @@
 -- What is known of a `select` between numbers is known of its parts.
-use Rattle.std.proofs.Common.{◌≡◌, Bool, true, false, if◌then◌else◌, refl, sym, ap, ◌∙◌, subst}
-use Rattle.weld_data.specs.declared.kind.Kind.TheVariants as kinds
+use Rattle.std.proofs.Common.{◌≡◌, Bool, true, false, if◌then◌else◌, sym, ap, ◌∙◌, subst}
 use Rattle.weld_data.specs.Value.{Value}
 use Rattle.weld_tree.specs.ExprTree.{ExprTree, At, three, Three, if_else, select, slice}
-use Rattle.weld_builders.specs.Outcome.{Outcome, done, fault, and_then, map_out}
-use Rattle.weld_meaning.specs.Thing.{Thing, plain}
+use Rattle.weld_builders.specs.Outcome.{done, fault, and_then, map_out}
+use Rattle.weld_meaning.specs.Thing.{plain}
 use Rattle.weld_meaning.specs.ThingType.{HasThing}
 use Rattle.weld_meaning.specs.Typing.{truth_type}
 use Rattle.weld_meaning.specs.Evaluation.{Env, eval, three_thing, truth_of}
@@ -19,7 +18,7 @@ scalar_truth t e = subst IsScalar (sym e) tt
 
 types : (a : At) (o : Three) (c e f : ExprTree) (env : Env) → IsSelect (three a o c e f) → (h : IsFit (three a o c e f) env) → (h.typed.0 ≡ truth_type) × (h.typed.1 ≡ h.answer) × (h.typed.2 ≡ h.answer)
 types a if_else c e f env k h = absurd k
-types a select c e f env k h = (h.typed.6.0, h.typed.6.1, h.typed.6.2.0)
+types a select c e f env k h = (h.typed.6.0, h.typed.6.1, h.typed.6.2)
 types a slice c e f env k h = absurd k
 
 condition : (a : At) (o : Three) (c e f : ExprTree) (env : Env) → IsSelect (three a o c e f) → RunsNumber (three a o c e f) env → RunsNumber c env
@@ -28,17 +27,17 @@ condition a o c e f env k h = record { fit = record { names = h.fit.names; origi
 pub selection_condition_runs : (a : At) (o : Three) (c e f : ExprTree) (env : Env) (n : ExprTree) → n ≡ three a o c e f → IsSelect n → RunsNumber n env → RunsNumber c env
 selection_condition_runs a o c e f env n is k h = condition a o c e f env (subst (λ m. IsSelect m) is k) (subst (λ m. RunsNumber m env) is h)
 
-then : (a : At) (o : Three) (c e f : ExprTree) (env : Env) → IsSelect (three a o c e f) → RunsNumber (three a o c e f) env → RunsNumber e env
-then a o c e f env k h = record { fit = record { names = h.fit.names; origins = h.fit.origins; named = h.fit.named; answer = h.fit.typed.1; typed = h.fit.typed.4; keeps = h.fit.keeps.1 }; direct = h.direct.1; scalar = subst IsScalar (sym (types a o c e f env k h.fit).1) h.scalar }
+first : (a : At) (o : Three) (c e f : ExprTree) (env : Env) → IsSelect (three a o c e f) → RunsNumber (three a o c e f) env → RunsNumber e env
+first a o c e f env k h = record { fit = record { names = h.fit.names; origins = h.fit.origins; named = h.fit.named; answer = h.fit.typed.1; typed = h.fit.typed.4; keeps = h.fit.keeps.1 }; direct = h.direct.1; scalar = subst IsScalar (sym (types a o c e f env k h.fit).1) h.scalar }
 
 pub selection_then_runs : (a : At) (o : Three) (c e f : ExprTree) (env : Env) (n : ExprTree) → n ≡ three a o c e f → IsSelect n → RunsNumber n env → RunsNumber e env
-selection_then_runs a o c e f env n is k h = then a o c e f env (subst (λ m. IsSelect m) is k) (subst (λ m. RunsNumber m env) is h)
+selection_then_runs a o c e f env n is k h = first a o c e f env (subst (λ m. IsSelect m) is k) (subst (λ m. RunsNumber m env) is h)
 
-otherwise : (a : At) (o : Three) (c e f : ExprTree) (env : Env) → IsSelect (three a o c e f) → RunsNumber (three a o c e f) env → RunsNumber f env
-otherwise a o c e f env k h = record { fit = record { names = h.fit.names; origins = h.fit.origins; named = h.fit.named; answer = h.fit.typed.2; typed = h.fit.typed.5; keeps = h.fit.keeps.2 }; direct = h.direct.2; scalar = subst IsScalar (sym (types a o c e f env k h.fit).2) h.scalar }
+second : (a : At) (o : Three) (c e f : ExprTree) (env : Env) → IsSelect (three a o c e f) → RunsNumber (three a o c e f) env → RunsNumber f env
+second a o c e f env k h = record { fit = record { names = h.fit.names; origins = h.fit.origins; named = h.fit.named; answer = h.fit.typed.2; typed = h.fit.typed.5; keeps = h.fit.keeps.2 }; direct = h.direct.2; scalar = subst IsScalar (sym (types a o c e f env k h.fit).2) h.scalar }
 
 pub selection_otherwise_runs : (a : At) (o : Three) (c e f : ExprTree) (env : Env) (n : ExprTree) → n ≡ three a o c e f → IsSelect n → RunsNumber n env → RunsNumber f env
-selection_otherwise_runs a o c e f env n is k h = otherwise a o c e f env (subst (λ m. IsSelect m) is k) (subst (λ m. RunsNumber m env) is h)
+selection_otherwise_runs a o c e f env n is k h = second a o c e f env (subst (λ m. IsSelect m) is k) (subst (λ m. RunsNumber m env) is h)
 
 -- a truth value is one
 truth : (v : Value) → HasThing (plain v) truth_type → IsTruth v

@@ -1,7 +1,8 @@
 -- What is known of a node that is run is known of its parts: two, three, any number of them, and a state.
-use Rattle.std.proofs.Common.{◌≡◌, ◌∷◌, ℕ, ◌+◌, ◌<◌, List, length, drop, get_or, refl, sym, ap, ◌∙◌, subst}
+use Rattle.std.proofs.Common.{◌≡◌, ◌∷◌, ℕ, zero, suc, ◌+◌, ◌<◌, ◌≤◌, List, [], length, drop, get_or, sym, subst, arith}
 use Rattle.weld_data.specs.Value.{Value}
 use Rattle.weld_tree.specs.declared.binder.Binder.{Binder}
+use Rattle.weld_tree.specs.ExprFalls.{expr_nodes, exprs_nodes}
 use Rattle.weld_tree.specs.ExprTree.{ExprTree, ExprTrees, At, two, three, many, iterate, Two, Three, Many, pack_exprs}
 use Rattle.weld_meaning.specs.Thing.{plain}
 use Rattle.weld_meaning.specs.Evaluation.{Env}
@@ -37,3 +38,16 @@ start_runs a e b f env n is h = record { fit = fit_state a e b f env (subst (λ 
 
 pub turn_runs : (a : At) (e : ExprTree) (b : Binder) (f : ExprTree) (env : Env) (n : ExprTree) (v : Value) → n ≡ iterate a e b f → HoldsState n env v → AreDirect n → Runs f ((b.sym.0, plain v) ∷ env)
 turn_runs a e b f env n v is h d = record { fit = turn_fits a e b f env n v is h; direct = direct_turn a e b f n is d }
+
+-- ---- how many nodes there are
+
+under : (es : List ExprTree) (i : ℕ) (d : ExprTree) → i < length es → expr_nodes (get_or es i d) ≤ exprs_nodes (pack_exprs es)
+under [] i d h = absurd (omega arith)
+under (e ∷ es) zero d h = omega arith
+under (e ∷ es) (suc i) d h = let r : expr_nodes (get_or es i d) ≤ exprs_nodes (pack_exprs es) = under es i d (omega arith) in omega arith
+
+pub part_less : (es fs : List ExprTree) (i : ℕ) (e : ExprTree) → es ≡ fs → i < length es → e ≡ get_or es i e → expr_nodes e ≤ exprs_nodes (pack_exprs fs)
+part_less es fs i e same h is =
+    let r : expr_nodes (get_or es i e) ≤ exprs_nodes (pack_exprs es) = under es i e h in
+    let s : expr_nodes e ≤ exprs_nodes (pack_exprs es) = subst (λ d. expr_nodes d ≤ exprs_nodes (pack_exprs es)) (sym is) r in
+    subst (λ l. expr_nodes e ≤ exprs_nodes (pack_exprs l)) same s

@@ -3,11 +3,11 @@
 #![tactic(auto)]
 
 mod blocks;
-mod evaluate;
+mod expression;
 mod forms;
 mod range;
 mod reads;
 mod walk;
 
-pub use evaluate::{evaluate, take_turns};
+pub use expression::{evaluate, take_turns};
 pub use range::run_range;

@@ -153,7 +153,7 @@ fn choice(e: &Expr, frame: &Frame, alloc: Global) -> Result<Short, Stop>
 
 /// A `select` between numbers: all three are evaluated, and one is chosen.
 #[cycle(rows)]
-#[tactic(auto, using(crate::proofs::Choosing::selection_condition_runs, crate::proofs::Choosing::selection_then_runs, crate::proofs::Choosing::selection_otherwise_runs, crate::proofs::Choosing::selection_is_truth, crate::proofs::Choosing::selects_then, crate::proofs::Choosing::selects_otherwise))]
+#[tactic(auto, using(crate::proofs::Choosing::selection_condition_runs, crate::proofs::Choosing::selection_then_runs, crate::proofs::Choosing::selection_otherwise_runs, crate::proofs::Choosing::selection_is_truth, crate::proofs::Choosing::selects_then, crate::proofs::Choosing::selects_otherwise, crate::proofs::Choosing::selection_then_faults, crate::proofs::Choosing::selection_otherwise_faults))]
 fn selection(e: &Expr, frame: &Frame, alloc: Global) -> Result<Short, Stop>
     requires runs { RunsNumber e.now (env_of frame.now) }
     requires form { IsSelect e.now }

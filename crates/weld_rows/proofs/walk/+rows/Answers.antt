@@ -18,17 +18,19 @@ use Rattle.weld_eval.specs.RowLists.{row_in}
 use Rattle.weld_eval.specs.RowView.{row_value}
 use Rattle.weld_eval.specs.ShortView.{view_short}
 use Rattle.weld_eval.specs.ThingView.{thing_of, things_of, held_of}
+use Rattle.weld_eval_forms.specs.FormTakes.{all_of}
 use Rattle.weld_eval_forms.specs.Legs.{leg_lists}
 use Rattle.weld_eval_forms.proofs.Rows.{vector_at}
 use Rattle.weld_acts.specs.ActFits.{ActFits, ActsFit}
 use Rattle.weld_acts.proofs.Children.{let_acts, struct_acts, struct_several, acts_at, acts_after}
 use Rattle.weld_eval_plain.proofs.Nodes.{both_take, all_take}
-use Rattle.weld_eval_plain.proofs.Parts.{parts_take}
+use Rattle.weld_eval_plain.proofs.Parts.{parts_take, part_done}
 use Rattle.weld_eval_plain.proofs.Turns.{state_is_plain, state_holds, turns_start, turn_gives, turn_answers, turns_go_on, turns_end, turns_exceeded}
 use Rattle.weld_eval_plain.proofs.Steps.{stops, second_faults, middle_faults, third_faults}
 use Rattle.weld_rows.specs.Numbers.{numeric}
 use Rattle.weld_rows.specs.Runs.{Runs}
-use Rattle.weld_rows.proofs.Parts.{turn_runs}
+use Rattle.weld_rows.proofs.Choosing.{selection_condition_runs, selection_then_runs, selection_otherwise_runs, selection_is_truth}
+use Rattle.weld_rows.proofs.Parts.{turn_runs, part_runs_at, rest_runs, part_less}
 use Rattle.weld_rows.proofs.Numbers.{numeric_runs, number_given, either_first, either_second, either_truth, left_runs, right_runs, binary_form, binary_answers, are_operands, choice_condition_runs, choice_is_truth, value_condition_runs, value_is_truth, then_runs, otherwise_runs, on_part_runs, on_takes}
 use Rattle.weld_rows.proofs.Values.{part_run_takes, over_count, over_ready, as_many, reach_less, linked, all_linked, expr_some}
 use Rattle.weld_rows.proofs.ActLemmas.{item_runs, act_over_count, act_over_ready, fields_fewer, fields_end, some_left, several_there, reads_some, choice_runs, choice_truth, pair_item_stops}
@@ -37,69 +39,69 @@ use Rattle.weld_built.specs.Pair.{pair}
 use Rattle.weld_rows.proofs.RangeSteps.{row_names, row_same, range_start, range_there, range_row_acts, range_act_stops, range_act_next, range_part, range_part_next, range_part_stops}
 use Rattle.weld_rows.proofs.walk.+rows.Goals as goal
 
-pub value_of_one-one-requires : goal.value_of_one-one-requires
-value_of_one-one-requires t c = part_run_takes _ _ c.deref.result.now (env_of c.args.frame.now) c.args.e.now (held_of c.in-Ok.x) (sym c.e.view_is ∙ ap (λ (f : Form). view_form f (record { place = c.e.inside.place; ty = c.e.inside.ty })) c.in-One.is ∙ (λ i. one (record { place = c.e.inside.place; ty = c.e.inside.ty }) (view_one c.in-One.form) (sym c.deref.ensures i))) c.requires.runs c.in-Ok.ensures
+pub values::value_of_one-one-requires : goal.values::value_of_one-one-requires
+values::value_of_one-one-requires t c = part_run_takes _ _ c.deref.result.now (env_of c.args.frame.now) c.args.e.now (held_of c.in-Ok.x) (sym c.e.view_is ∙ ap (λ (f : Form). view_form f (record { place = c.e.inside.place; ty = c.e.inside.ty })) c.in-One.is ∙ (λ i. one (record { place = c.e.inside.place; ty = c.e.inside.ty }) (view_one c.in-One.form) (sym c.deref.ensures i))) c.requires.runs c.in-Ok.ensures
 
-pub in_value-number_in-requires : goal.in_value-number_in-requires
-in_value-number_in-requires t c = number_given c.args.e.now (env_of c.args.frame.now) (held_of c.in-Ok.x) c.requires c.in-Ok.ensures
+pub numbers::in_value-number_in-requires : goal.numbers::in_value-number_in-requires
+numbers::in_value-number_in-requires t c = number_given c.args.e.now (env_of c.args.frame.now) (held_of c.in-Ok.x) c.requires c.in-Ok.ensures
 
-pub tried-unread-requires : goal.tried-unread-requires
-tried-unread-requires t c = let p : numeric c.args.e.now ≡ true = cc in (omega arith, numeric_runs c.args.e.now (env_of c.args.frame.now) p c.requires)
+pub acts::tried-unread-requires : goal.acts::tried-unread-requires
+acts::tried-unread-requires t c = let p : numeric c.args.e.now ≡ true = cc in (omega arith, numeric_runs c.args.e.now (env_of c.args.frame.now) p c.requires)
 
-pub value-numeral-requires : goal.value-numeral-requires
-value-numeral-requires t c = let p : numeric c.args.e.now ≡ true = cc in (omega arith, numeric_runs c.args.e.now (env_of c.args.frame.now) p c.requires)
+pub values::value-numeral-requires : goal.values::value-numeral-requires
+values::value-numeral-requires t c = let p : numeric c.args.e.now ≡ true = cc in (omega arith, numeric_runs c.args.e.now (env_of c.args.frame.now) p c.requires)
 
-pub act_merge-put-requires : goal.act_merge-put-requires
-act_merge-put-requires t c =
+pub acts::act_merge-put-requires : goal.acts::act_merge-put-requires
+acts::act_merge-put-requires t c =
     let is = sym c.e.view_is ∙ ap (λ (f : Form). view_form f (record { place = c.e.inside.place; ty = c.e.inside.ty })) c.in-Two.is ∙ (λ i. two (record { place = c.e.inside.place; ty = c.e.inside.ty }) (view_two c.in-Two.field-0) (sym c.deref.ensures i) (sym c.deref-in-Ok.ensures i)) in
     (omega (arith, ap expr_nodes is), (item_runs _ _ _ c.deref-in-Ok.result.now (env_of c.args.frame.now) c.args.e.now (thing_of c.args.builder.now) is c.requires.acts, item_puts _ _ c.deref.result.now c.deref-in-Ok.result.now (env_of c.args.frame.now) c.args.e.now (thing_of c.args.builder.now) (thing_of c.act_first.new.builder) is c.requires.acts c.in-Ok.ensures))
 
-pub act_over-count_rows-requires-clause-some : goal.act_over-count_rows-requires-clause-some
-act_over-count_rows-requires-clause-some t c = act_over_count _ _ _ _ _ _ _ (env_of c.args.frame.now) c.args.e.now (thing_of c.args.builder.now) c.args.vectors.now (sym c.e.view_is ∙ ap (λ (f : Form). view_form f (record { place = c.e.inside.place; ty = c.e.inside.ty })) c.in-For.is) c.requires.acts c.requires.legs
+pub acts::act_over-count_rows-requires-clause-some : goal.acts::act_over-count_rows-requires-clause-some
+acts::act_over-count_rows-requires-clause-some t c = act_over_count _ _ _ _ _ _ _ (env_of c.args.frame.now) c.args.e.now (thing_of c.args.builder.now) c.args.vectors.now (sym c.e.view_is ∙ ap (λ (f : Form). view_form f (record { place = c.e.inside.place; ty = c.e.inside.ty })) c.in-For.is) c.requires.acts c.requires.legs
 
-pub value_over-count_rows-requires-clause-some : goal.value_over-count_rows-requires-clause-some
-value_over-count_rows-requires-clause-some t c = over_count _ _ _ _ _ _ _ (env_of c.args.frame.now) c.args.e.now c.args.vectors.now (sym c.e.view_is ∙ ap (λ (f : Form). view_form f (record { place = c.e.inside.place; ty = c.e.inside.ty })) c.in-For.is) c.requires.runs c.requires.legs
+pub values::value_over-count_rows-requires-clause-some : goal.values::value_over-count_rows-requires-clause-some
+values::value_over-count_rows-requires-clause-some t c = over_count _ _ _ _ _ _ _ (env_of c.args.frame.now) c.args.e.now c.args.vectors.now (sym c.e.view_is ∙ ap (λ (f : Form). view_form f (record { place = c.e.inside.place; ty = c.e.inside.ty })) c.in-For.is) c.requires.runs c.requires.legs
 
-pub act_over-reach-requires : goal.act_over-reach-requires
-act_over-reach-requires t c =
+pub acts::act_over-reach-requires : goal.acts::act_over-reach-requires
+acts::act_over-reach-requires t c =
     let is = sym c.e.view_is ∙ ap (λ (f : Form). view_form f (record { place = c.e.inside.place; ty = c.e.inside.ty })) c.in-For.is ∙ (λ i. loop (record { place = c.e.inside.place; ty = c.e.inside.ty }) (pack_legs c.in-For.field-0) (sym c.deref.ensures i) c.in-For.field-2 c.in-For.field-3 c.in-For.field-4 c.in-For.field-5.value) in
     let less = reach_less _ _ _ _ _ _ _ (env_of c.args.frame.now) c.args.e.now c.args.vectors.now (sym c.e.view_is ∙ ap (λ (f : Form). view_form f (record { place = c.e.inside.place; ty = c.e.inside.ty })) c.in-For.is) c.requires.legs in
     (omega arith, (act_over_ready _ _ c.deref.result.now _ _ _ _ (env_of c.args.frame.now) c.args.e.now (thing_of c.args.builder.now) (thing_of c.act.new.builder) (leg_lists c.args.vectors.now) c.in-Ok.count is c.requires.acts c.requires.legs c.in-Ok.ensures c.in-Ok-act.ensures, (c.requires.acts.direct, (c.requires.form, (omega arith, (c.no_legs-end.ensures ∙ all_linked c.args.vectors.now, c.requires.vectors))))))
 
-pub value_over-fill-requires : goal.value_over-fill-requires
-value_over-fill-requires t c =
+pub values::value_over-fill-requires : goal.values::value_over-fill-requires
+values::value_over-fill-requires t c =
     let is = sym c.e.view_is ∙ ap (λ (f : Form). view_form f (record { place = c.e.inside.place; ty = c.e.inside.ty })) c.in-For.is ∙ (λ i. loop (record { place = c.e.inside.place; ty = c.e.inside.ty }) (pack_legs c.in-For.field-0) (sym c.deref.ensures i) c.in-For.field-2 c.in-For.field-3 c.in-For.field-4 c.in-For.field-5.value) in
     let less = reach_less _ _ _ _ _ _ _ (env_of c.args.frame.now) c.args.e.now c.args.vectors.now (sym c.e.view_is ∙ ap (λ (f : Form). view_form f (record { place = c.e.inside.place; ty = c.e.inside.ty })) c.in-For.is) c.requires.legs in
     (omega arith, (over_ready _ _ c.deref.result.now _ _ _ _ (env_of c.args.frame.now) c.args.e.now (leg_lists c.args.vectors.now) c.in-Ok.count (held_of c.in-Ok-value.builder) is c.requires.runs c.requires.legs c.in-Ok.ensures c.in-Ok-value.ensures, (c.requires.runs.direct, (c.requires.form, (as_many _ _ _ _ _ _ _ (env_of c.args.frame.now) c.args.e.now c.args.vectors.now (sym c.e.view_is ∙ ap (λ (f : Form). view_form f (record { place = c.e.inside.place; ty = c.e.inside.ty })) c.in-For.is) c.requires.legs, c.requires.vectors)))))
 
-pub act_let-act-requires : goal.act_let-act-requires
-act_let-act-requires t c =
+pub acts::act_let-act-requires : goal.acts::act_let-act-requires
+acts::act_let-act-requires t c =
     let is : c.args.e.now ≡ let_in (record { place = c.e.inside.place; ty = c.e.inside.ty }) c.in-Let.binder c.deref.result.now c.deref-in-Ok-Some.result.now = sym c.e.view_is ∙ ap (λ (f : Form). view_form f (record { place = c.e.inside.place; ty = c.e.inside.ty })) c.in-Let.is ∙ (λ i. let_in (record { place = c.e.inside.place; ty = c.e.inside.ty }) c.in-Let.binder (sym c.deref.ensures i) (sym c.deref-in-Ok-Some.ensures i)) in
     (omega (arith, ap expr_nodes is), subst (λ (g : Env). ActFits c.deref-in-Ok-Some.result.now g (thing_of c.args.builder.now)) (sym c.with_number-inner.ensures) (let_acts _ _ c.deref.result.now c.deref-in-Ok-Some.result.now (env_of c.args.frame.now) c.args.e.now (thing_of c.args.builder.now) (plain (view_short c.in-Ok-Some.n)) is c.requires.acts (reads_some c.in-Ok-Some.field-0 c.in-Ok-Some.n _ c.in-Ok-Some.field-0-is c.in-Ok-Some.ensures)))
 
-pub act_let_value-act-answer-requires : goal.act_let_value-act-answer-requires
-act_let_value-act-answer-requires t c =
+pub acts::act_let_value-act-answer-requires : goal.acts::act_let_value-act-answer-requires
+acts::act_let_value-act-answer-requires t c =
     let is : c.args.e.now ≡ let_in (record { place = c.e.inside.place; ty = c.e.inside.ty }) c.in-Let.binder c.deref.result.now c.deref-in-Let.result.now = sym c.e.view_is ∙ ap (λ (f : Form). view_form f (record { place = c.e.inside.place; ty = c.e.inside.ty })) c.in-Let.is ∙ (λ i. let_in (record { place = c.e.inside.place; ty = c.e.inside.ty }) c.in-Let.binder (sym c.deref.ensures i) (sym c.deref-in-Let.ensures i)) in
     (omega (arith, ap expr_nodes is), subst (λ (g : Env). ActFits c.deref-in-Let.result.now g (thing_of c.args.builder.now)) (sym c.bind-inner.ensures) (let_acts _ _ c.deref.result.now c.deref-in-Let.result.now (env_of c.args.frame.now) c.args.e.now (thing_of c.args.builder.now) (held_of c.in-Ok.x) is c.requires.acts c.in-Ok.ensures))
 
-pub act_struct-act_fields-requires : goal.act_struct-act_fields-requires
-act_struct-act_fields-requires t c =
+pub acts::act_struct-act_fields-requires : goal.acts::act_struct-act_fields-requires
+acts::act_struct-act_fields-requires t c =
     let is : c.args.e.now ≡ many (record { place = c.e.inside.place; ty = c.e.inside.ty }) (view_many c.in-Many.field-0) (pack_exprs c.in-Many.parts) = sym c.e.view_is ∙ ap (λ (f : Form). view_form f (record { place = c.e.inside.place; ty = c.e.inside.ty })) c.in-Many.is in
     (omega (arith, ap expr_nodes is), subst (λ (b : Owned). ActsFit (pack_exprs c.in-Many.parts) (env_of c.args.frame.now) (fields_of (thing_of b))) c.in-Several.is (struct_acts _ _ (pack_exprs c.in-Many.parts) (env_of c.args.frame.now) c.args.e.now (thing_of c.args.builder.now) is c.requires.acts))
 
-pub act_struct-unreachable-requires : goal.act_struct-unreachable-requires
-act_struct-unreachable-requires t c =
+pub acts::act_struct-unreachable-requires : goal.acts::act_struct-unreachable-requires
+acts::act_struct-unreachable-requires t c =
     let is : c.args.e.now ≡ many (record { place = c.e.inside.place; ty = c.e.inside.ty }) (view_many c.in-Many.field-0) (pack_exprs c.in-Many.parts) = sym c.e.view_is ∙ ap (λ (f : Form). view_form f (record { place = c.e.inside.place; ty = c.e.inside.ty })) c.in-Many.is in
     several_there c.args.builder.now _ (struct_several _ _ (pack_exprs c.in-Many.parts) (env_of c.args.frame.now) c.args.e.now (thing_of c.args.builder.now) is c.requires.acts) c.in_default-builder.not-Several
 
-pub reach-column_of-requires : goal.reach-column_of-requires
-reach-column_of-requires t c = vector_at c.args.vectors.now (c.args.left - 1) c.index-vectors-left.result c.requires.vectors (omega arith) c.index-vectors-left.is
+pub values::reach-column_of-requires : goal.values::reach-column_of-requires
+values::reach-column_of-requires t c = vector_at c.args.vectors.now (c.args.left - 1) c.index-vectors-left.result c.requires.vectors (omega arith) c.index-vectors-left.is
 
-pub reach-reach-requires : goal.reach-reach-requires
-reach-reach-requires t c = (omega arith, (c.requires.rows, (c.requires.direct, (c.requires.form, (omega arith, (c.link-more.ensures ∙ linked c.args.vectors.now c.args.left (c.args.left - 1) c.index-vectors-left.result (view_column c.column_of.result.now) (lists_of c.args.legs.now) (omega arith) c.requires.left c.index-vectors-left.is c.column_of.ensures c.requires.legs, c.requires.vectors))))))
+pub values::reach-reach-requires : goal.values::reach-reach-requires
+values::reach-reach-requires t c = (omega arith, (c.requires.rows, (c.requires.direct, (c.requires.form, (omega arith, (c.link-more.ensures ∙ linked c.args.vectors.now c.args.left (c.args.left - 1) c.index-vectors-left.result (view_column c.column_of.result.now) (lists_of c.args.legs.now) (omega arith) c.requires.left c.index-vectors-left.is c.column_of.ensures c.requires.legs, c.requires.vectors))))))
 
-pub run_row-act-requires : goal.run_row-act-requires
-run_row-act-requires t c =
+pub rows::run_row-act-requires : goal.rows::run_row-act-requires
+rows::run_row-act-requires t c =
     let is : c.args.e.now ≡ loop (record { place = c.e.inside.place; ty = c.e.inside.ty }) (pack_legs c.in-For.field-0) c.in-For.field-1.value c.in-For.own_binder c.in-For.count_binder c.in-For.row_binder c.deref.result.now = sym c.e.view_is ∙ ap (λ (f : Form). view_form f (record { place = c.e.inside.place; ty = c.e.inside.ty })) c.in-For.is ∙ (λ i. loop (record { place = c.e.inside.place; ty = c.e.inside.ty }) (pack_legs c.in-For.field-0) c.in-For.field-1.value c.in-For.own_binder c.in-For.count_binder c.in-For.row_binder (sym c.deref.ensures i)) in
     let same : row_value c.new-row.result ≡ row_in (lists_of c.args.legs.now) c.args.number = row_same c.new-row.result (lists_of c.args.legs.now) c.args.number (row_value c.new-row.result) refl c.new-row.ensures.number c.new-row.ensures.lists in
     let names : env_of c.with_row-inner.result ≡ ((c.in-For.row_binder.sym.0, plain (row_in (lists_of c.args.legs.now) c.args.number)) ∷ (c.in-For.count_binder.sym.0, plain (whole_number c.args.number)) ∷ (c.in-For.own_binder.sym.0, thing_of c.args.own.now) ∷ (env_of c.args.frame.now)) = row_names _ _ _ _ _ _ _ _ _ _ _ _ c.with_row-inner.ensures c.with_number-middle.ensures c.with_builder-outer.ensures same c.whole_number.ensures in (
@@ -107,16 +109,16 @@ run_row-act-requires t c =
       subst (λ (g : Env). ActFits c.deref.result.now g (thing_of c.args.builder.now)) (sym names) (subst (λ k. RowActFits k (env_of c.args.frame.now) (thing_of c.args.own.now) (c.args.number, row_in (lists_of c.args.legs.now) c.args.number) (thing_of c.args.builder.now)) is c.requires.fits),
     )
 
-pub run_row-returns : goal.run_row-returns
-run_row-returns t c =
+pub rows::run_row-returns : goal.rows::run_row-returns
+rows::run_row-returns t c =
     let is : c.args.e.now ≡ loop (record { place = c.e.inside.place; ty = c.e.inside.ty }) (pack_legs c.in-For.field-0) c.in-For.field-1.value c.in-For.own_binder c.in-For.count_binder c.in-For.row_binder c.deref.result.now = sym c.e.view_is ∙ ap (λ (f : Form). view_form f (record { place = c.e.inside.place; ty = c.e.inside.ty })) c.in-For.is ∙ (λ i. loop (record { place = c.e.inside.place; ty = c.e.inside.ty }) (pack_legs c.in-For.field-0) c.in-For.field-1.value c.in-For.own_binder c.in-For.count_binder c.in-For.row_binder (sym c.deref.ensures i)) in
     let same : row_value c.new-row.result ≡ row_in (lists_of c.args.legs.now) c.args.number = row_same c.new-row.result (lists_of c.args.legs.now) c.args.number (row_value c.new-row.result) refl c.new-row.ensures.number c.new-row.ensures.lists in
     let names : env_of c.with_row-inner.result ≡ ((c.in-For.row_binder.sym.0, plain (row_in (lists_of c.args.legs.now) c.args.number)) ∷ (c.in-For.count_binder.sym.0, plain (whole_number c.args.number)) ∷ (c.in-For.own_binder.sym.0, thing_of c.args.own.now) ∷ (env_of c.args.frame.now)) = row_names _ _ _ _ _ _ _ _ _ _ _ _ c.with_row-inner.ensures c.with_number-middle.ensures c.with_builder-outer.ensures same c.whole_number.ensures in
     subst (λ k. Acts c.act.result (row_act k (env_of c.args.frame.now) (thing_of c.args.own.now) (c.args.number, row_in (lists_of c.args.legs.now) c.args.number) (thing_of c.args.builder.now)) (thing_of c.act.new.builder)) (sym is)
     (subst (λ (g : Env). Acts c.act.result (act c.deref.result.now g (thing_of c.args.builder.now)) (thing_of c.act.new.builder)) names c.act.ensures)
 
-pub act_fields-act-requires : goal.act_fields-act-requires
-act_fields-act-requires t c =
+pub acts::act_fields-act-requires : goal.acts::act_fields-act-requires
+acts::act_fields-act-requires t c =
     let h : ActsFit (pack_exprs (drop c.args.number c.args.parts.now)) (env_of c.args.frame.now) (more_things (thing_of c.in-And.first.value) (things_of c.in-And.rest.value)) = subst (λ (fs : Fields). ActsFit (pack_exprs (drop c.args.number c.args.parts.now)) (env_of c.args.frame.now) (things_of fs)) c.in-And.is c.requires in
     let less : c.args.number < length c.args.parts.now = some_left c.args.parts.now c.args.number (env_of c.args.frame.now) _ _ h in
     let at : c.index-as_slice-number.result ≡ get_or c.args.parts.now c.args.number c.index-as_slice-number.result = c.index-as_slice-number.is ∙ ap (λ (l : List ExprTree). get_or l c.args.number c.index-as_slice-number.result) c.as_slice.ensures.value in
@@ -124,8 +126,8 @@ act_fields-act-requires t c =
     let some = expr_some c.index-as_slice-number.result in
     (omega arith, subst (λ (o : Owned). ActFits c.index-as_slice-number.result (env_of c.args.frame.now) (thing_of o)) (sym c.deref_mut.ensures.value) (acts_at c.args.parts.now (env_of c.args.frame.now) c.args.number c.index-as_slice-number.result _ _ less at h))
 
-pub act_fields-act_fields-requires : goal.act_fields-act_fields-requires
-act_fields-act_fields-requires t c =
+pub acts::act_fields-act_fields-requires : goal.acts::act_fields-act_fields-requires
+acts::act_fields-act_fields-requires t c =
     let h : ActsFit (pack_exprs (drop c.args.number c.args.parts.now)) (env_of c.args.frame.now) (more_things (thing_of c.in-And.first.value) (things_of c.in-And.rest.value)) = subst (λ (fs : Fields). ActsFit (pack_exprs (drop c.args.number c.args.parts.now)) (env_of c.args.frame.now) (things_of fs)) c.in-And.is c.requires in
     let less : c.args.number < length c.args.parts.now = some_left c.args.parts.now c.args.number (env_of c.args.frame.now) _ _ h in
     let at : c.index-as_slice-number.result ≡ get_or c.args.parts.now c.args.number c.index-as_slice-number.result = c.index-as_slice-number.is ∙ ap (λ (l : List ExprTree). get_or l c.args.number c.index-as_slice-number.result) c.as_slice.ensures.value in
@@ -133,226 +135,257 @@ act_fields-act_fields-requires t c =
     let some = expr_some c.index-as_slice-number.result in
     (omega arith, subst (λ (fs : Fields). ActsFit (pack_exprs (drop (c.args.number + 1) c.args.parts.now)) (env_of c.args.frame.now) (things_of fs)) (sym c.deref_mut-in-Ok.ensures.value) (acts_after c.args.parts.now (env_of c.args.frame.now) c.args.number c.index-as_slice-number.result _ _ less at h))
 
-pub act_fields-returns-in-End : goal.act_fields-returns-in-End
-act_fields-returns-in-End t c =
+pub acts::act_fields-returns-in-End : goal.acts::act_fields-returns-in-End
+acts::act_fields-returns-in-End t c =
     subst (λ (fs : Fields). act_all (pack_exprs (drop c.args.number c.args.parts.now)) (env_of c.args.frame.now) (things_of fs) ≡ done (things_of fs)) (sym c.in-End.is) (fields_end (pack_exprs (drop c.args.number c.args.parts.now)) (env_of c.args.frame.now) (subst (λ (fs : Fields). ActsFit (pack_exprs (drop c.args.number c.args.parts.now)) (env_of c.args.frame.now) (things_of fs)) c.in-End.is c.requires))
 
-pub either-number-requires : goal.either-number-requires
-either-number-requires t c =
+pub numbers::either-number-requires : goal.numbers::either-number-requires
+numbers::either-number-requires t c =
     let is : c.args.e.now ≡ two (record { place = c.e.inside.place; ty = c.e.inside.ty }) (view_two c.in-Two.form) c.deref.result.now c.in-Two.second.value = sym c.e.view_is ∙ ap (λ (f : Form). view_form f (record { place = c.e.inside.place; ty = c.e.inside.ty })) c.in-Two.is ∙ (λ i. two (record { place = c.e.inside.place; ty = c.e.inside.ty }) (view_two c.in-Two.form) (sym c.deref.ensures i) c.in-Two.second.value) in
     (omega (arith, ap expr_nodes is), either_first _ _ c.deref.result.now c.in-Two.second.value (env_of c.args.frame.now) c.args.e.now is c.requires.form c.requires.runs)
 
-pub either-truth_of-truth-requires : goal.either-truth_of-truth-requires
-either-truth_of-truth-requires t c =
+pub numbers::either-truth_of-truth-requires : goal.numbers::either-truth_of-truth-requires
+numbers::either-truth_of-truth-requires t c =
     let is : c.args.e.now ≡ two (record { place = c.e.inside.place; ty = c.e.inside.ty }) (view_two c.in-Two.form) c.deref.result.now c.in-Two.second.value = sym c.e.view_is ∙ ap (λ (f : Form). view_form f (record { place = c.e.inside.place; ty = c.e.inside.ty })) c.in-Two.is ∙ (λ i. two (record { place = c.e.inside.place; ty = c.e.inside.ty }) (view_two c.in-Two.form) (sym c.deref.ensures i) c.in-Two.second.value) in
     either_truth _ _ c.deref.result.now c.in-Two.second.value (env_of c.args.frame.now) c.args.e.now (view_short c.in-Ok.x) is c.requires.form c.requires.runs c.in-Ok.ensures
 
-pub act_if-number-requires : goal.act_if-number-requires
-act_if-number-requires t c =
+pub acts::act_if-number-requires : goal.acts::act_if-number-requires
+acts::act_if-number-requires t c =
     let is : c.args.e.now ≡ three (record { place = c.e.inside.place; ty = c.e.inside.ty }) (view_three c.in-Three.field-0) c.deref.result.now c.in-Three.then.value c.in-Three.otherwise.value = sym c.e.view_is ∙ ap (λ (f : Form). view_form f (record { place = c.e.inside.place; ty = c.e.inside.ty })) c.in-Three.is ∙ (λ i. three (record { place = c.e.inside.place; ty = c.e.inside.ty }) (view_three c.in-Three.field-0) (sym c.deref.ensures i) c.in-Three.then.value c.in-Three.otherwise.value) in
     (omega (arith, ap expr_nodes is), choice_runs _ _ c.deref.result.now c.in-Three.then.value c.in-Three.otherwise.value (env_of c.args.frame.now) c.args.e.now (thing_of c.args.builder.now) is c.requires.acts)
 
-pub act_if-truth_of-chosen-requires : goal.act_if-truth_of-chosen-requires
-act_if-truth_of-chosen-requires t c =
+pub acts::act_if-truth_of-chosen-requires : goal.acts::act_if-truth_of-chosen-requires
+acts::act_if-truth_of-chosen-requires t c =
     let is : c.args.e.now ≡ three (record { place = c.e.inside.place; ty = c.e.inside.ty }) (view_three c.in-Three.field-0) c.deref.result.now c.in-Three.then.value c.in-Three.otherwise.value = sym c.e.view_is ∙ ap (λ (f : Form). view_form f (record { place = c.e.inside.place; ty = c.e.inside.ty })) c.in-Three.is ∙ (λ i. three (record { place = c.e.inside.place; ty = c.e.inside.ty }) (view_three c.in-Three.field-0) (sym c.deref.ensures i) c.in-Three.then.value c.in-Three.otherwise.value) in
     choice_truth _ _ c.deref.result.now c.in-Three.then.value c.in-Three.otherwise.value (env_of c.args.frame.now) c.args.e.now (thing_of c.args.builder.now) (view_short c.in-Ok.x) is c.requires.acts c.in-Ok.ensures
 
-pub choice-number-requires : goal.choice-number-requires
-choice-number-requires t c =
+pub numbers::choice-number-requires : goal.numbers::choice-number-requires
+numbers::choice-number-requires t c =
     let is : c.args.e.now ≡ three (record { place = c.e.inside.place; ty = c.e.inside.ty }) (view_three c.in-Three.field-0) c.deref.result.now c.in-Three.then.value c.in-Three.otherwise.value = sym c.e.view_is ∙ ap (λ (f : Form). view_form f (record { place = c.e.inside.place; ty = c.e.inside.ty })) c.in-Three.is ∙ (λ i. three (record { place = c.e.inside.place; ty = c.e.inside.ty }) (view_three c.in-Three.field-0) (sym c.deref.ensures i) c.in-Three.then.value c.in-Three.otherwise.value) in
     (omega (arith, ap expr_nodes is), choice_condition_runs _ _ c.deref.result.now c.in-Three.then.value c.in-Three.otherwise.value (env_of c.args.frame.now) c.args.e.now is c.requires.form c.requires.runs)
 
-pub choice-truth_of-chosen-requires : goal.choice-truth_of-chosen-requires
-choice-truth_of-chosen-requires t c =
+pub numbers::choice-truth_of-chosen-requires : goal.numbers::choice-truth_of-chosen-requires
+numbers::choice-truth_of-chosen-requires t c =
     let is : c.args.e.now ≡ three (record { place = c.e.inside.place; ty = c.e.inside.ty }) (view_three c.in-Three.field-0) c.deref.result.now c.in-Three.then.value c.in-Three.otherwise.value = sym c.e.view_is ∙ ap (λ (f : Form). view_form f (record { place = c.e.inside.place; ty = c.e.inside.ty })) c.in-Three.is ∙ (λ i. three (record { place = c.e.inside.place; ty = c.e.inside.ty }) (view_three c.in-Three.field-0) (sym c.deref.ensures i) c.in-Three.then.value c.in-Three.otherwise.value) in
     choice_is_truth _ _ c.deref.result.now c.in-Three.then.value c.in-Three.otherwise.value (env_of c.args.frame.now) c.args.e.now (view_short c.in-Ok.x) is c.requires.form c.requires.runs c.in-Ok.ensures
 
-pub value_of_if-number-requires : goal.value_of_if-number-requires
-value_of_if-number-requires t c =
+pub values::value_of_if-number-requires : goal.values::value_of_if-number-requires
+values::value_of_if-number-requires t c =
     let is : c.args.e.now ≡ three (record { place = c.e.inside.place; ty = c.e.inside.ty }) (view_three c.in-Three.field-0) c.deref.result.now c.in-Three.then.value c.in-Three.otherwise.value = sym c.e.view_is ∙ ap (λ (f : Form). view_form f (record { place = c.e.inside.place; ty = c.e.inside.ty })) c.in-Three.is ∙ (λ i. three (record { place = c.e.inside.place; ty = c.e.inside.ty }) (view_three c.in-Three.field-0) (sym c.deref.ensures i) c.in-Three.then.value c.in-Three.otherwise.value) in
     (omega (arith, ap expr_nodes is), value_condition_runs _ _ c.deref.result.now c.in-Three.then.value c.in-Three.otherwise.value (env_of c.args.frame.now) c.args.e.now is c.requires.form c.requires.runs)
 
-pub value_of_if-truth_of-chosen-requires : goal.value_of_if-truth_of-chosen-requires
-value_of_if-truth_of-chosen-requires t c =
+pub values::value_of_if-truth_of-chosen-requires : goal.values::value_of_if-truth_of-chosen-requires
+values::value_of_if-truth_of-chosen-requires t c =
     let is : c.args.e.now ≡ three (record { place = c.e.inside.place; ty = c.e.inside.ty }) (view_three c.in-Three.field-0) c.deref.result.now c.in-Three.then.value c.in-Three.otherwise.value = sym c.e.view_is ∙ ap (λ (f : Form). view_form f (record { place = c.e.inside.place; ty = c.e.inside.ty })) c.in-Three.is ∙ (λ i. three (record { place = c.e.inside.place; ty = c.e.inside.ty }) (view_three c.in-Three.field-0) (sym c.deref.ensures i) c.in-Three.then.value c.in-Three.otherwise.value) in
     value_is_truth _ _ c.deref.result.now c.in-Three.then.value c.in-Three.otherwise.value (env_of c.args.frame.now) c.args.e.now (view_short c.in-Ok.x) is c.requires.form c.requires.runs c.in-Ok.ensures
 
-pub choice-number-requires-then-chosen : goal.choice-number-requires-then-chosen
-choice-number-requires-then-chosen t c =
+pub numbers::choice-number-requires-then-chosen : goal.numbers::choice-number-requires-then-chosen
+numbers::choice-number-requires-then-chosen t c =
     let is : c.args.e.now ≡ three (record { place = c.e.inside.place; ty = c.e.inside.ty }) (view_three c.in-Three.field-0) c.in-Three.condition.value c.deref-then-chosen.result.now c.in-Three.otherwise.value = sym c.e.view_is ∙ ap (λ (f : Form). view_form f (record { place = c.e.inside.place; ty = c.e.inside.ty })) c.in-Three.is ∙ (λ i. three (record { place = c.e.inside.place; ty = c.e.inside.ty }) (view_three c.in-Three.field-0) c.in-Three.condition.value (sym c.deref-then-chosen.ensures i) c.in-Three.otherwise.value) in
     (omega (arith, ap expr_nodes is), then_runs _ _ c.in-Three.condition.value c.deref-then-chosen.result.now c.in-Three.otherwise.value (env_of c.args.frame.now) c.args.e.now is c.requires.form c.requires.runs)
 
-pub choice-number-requires-else-chosen : goal.choice-number-requires-else-chosen
-choice-number-requires-else-chosen t c =
+pub numbers::choice-number-requires-else-chosen : goal.numbers::choice-number-requires-else-chosen
+numbers::choice-number-requires-else-chosen t c =
     let is : c.args.e.now ≡ three (record { place = c.e.inside.place; ty = c.e.inside.ty }) (view_three c.in-Three.field-0) c.in-Three.condition.value c.in-Three.then.value c.deref-else-chosen.result.now = sym c.e.view_is ∙ ap (λ (f : Form). view_form f (record { place = c.e.inside.place; ty = c.e.inside.ty })) c.in-Three.is ∙ (λ i. three (record { place = c.e.inside.place; ty = c.e.inside.ty }) (view_three c.in-Three.field-0) c.in-Three.condition.value c.in-Three.then.value (sym c.deref-else-chosen.ensures i)) in
     (omega (arith, ap expr_nodes is), otherwise_runs _ _ c.in-Three.condition.value c.in-Three.then.value c.deref-else-chosen.result.now (env_of c.args.frame.now) c.args.e.now is c.requires.form c.requires.runs)
 
-pub binary-operator_of-op-requires : goal.binary-operator_of-op-requires
-binary-operator_of-op-requires t c =
+pub numbers::binary-operator_of-op-requires : goal.numbers::binary-operator_of-op-requires
+numbers::binary-operator_of-op-requires t c =
     let is : c.args.e.now ≡ two (record { place = c.e.inside.place; ty = c.e.inside.ty }) (view_two c.in-Two.form) c.in-Two.first.value c.in-Two.second.value = sym c.e.view_is ∙ ap (λ (f : Form). view_form f (record { place = c.e.inside.place; ty = c.e.inside.ty })) c.in-Two.is ∙ (λ i. two (record { place = c.e.inside.place; ty = c.e.inside.ty }) (view_two c.in-Two.form) c.in-Two.first.value c.in-Two.second.value) in
     binary_form _ _ c.in-Two.first.value c.in-Two.second.value c.args.e.now is c.requires.form
 
-pub binary-number-requires : goal.binary-number-requires
-binary-number-requires t c =
+pub numbers::binary-number-requires : goal.numbers::binary-number-requires
+numbers::binary-number-requires t c =
     let is : c.args.e.now ≡ two (record { place = c.e.inside.place; ty = c.e.inside.ty }) (view_two c.in-Two.form) c.deref.result.now c.in-Two.second.value = sym c.e.view_is ∙ ap (λ (f : Form). view_form f (record { place = c.e.inside.place; ty = c.e.inside.ty })) c.in-Two.is ∙ (λ i. two (record { place = c.e.inside.place; ty = c.e.inside.ty }) (view_two c.in-Two.form) (sym c.deref.ensures i) c.in-Two.second.value) in
     (omega (arith, ap expr_nodes is), left_runs _ _ c.deref.result.now c.in-Two.second.value (env_of c.args.frame.now) c.args.e.now is c.requires.form c.requires.runs)
 
-pub binary-number-requires-in-Two : goal.binary-number-requires-in-Two
-binary-number-requires-in-Two t c =
+pub numbers::binary-number-requires-in-Two : goal.numbers::binary-number-requires-in-Two
+numbers::binary-number-requires-in-Two t c =
     let is : c.args.e.now ≡ two (record { place = c.e.inside.place; ty = c.e.inside.ty }) (view_two c.in-Two.form) c.in-Two.first.value c.deref-in-Two.result.now = sym c.e.view_is ∙ ap (λ (f : Form). view_form f (record { place = c.e.inside.place; ty = c.e.inside.ty })) c.in-Two.is ∙ (λ i. two (record { place = c.e.inside.place; ty = c.e.inside.ty }) (view_two c.in-Two.form) c.in-Two.first.value (sym c.deref-in-Two.ensures i)) in
     (omega (arith, ap expr_nodes is), right_runs _ _ c.in-Two.first.value c.deref-in-Two.result.now (env_of c.args.frame.now) c.args.e.now is c.requires.form c.requires.runs)
 
-pub binary-operated-requires : goal.binary-operated-requires
-binary-operated-requires t c =
+pub numbers::binary-operated-requires : goal.numbers::binary-operated-requires
+numbers::binary-operated-requires t c =
     let is : c.args.e.now ≡ two (record { place = c.e.inside.place; ty = c.e.inside.ty }) (view_two c.in-Two.form) c.deref.result.now c.deref-in-Two.result.now = sym c.e.view_is ∙ ap (λ (f : Form). view_form f (record { place = c.e.inside.place; ty = c.e.inside.ty })) c.in-Two.is ∙ (λ i. two (record { place = c.e.inside.place; ty = c.e.inside.ty }) (view_two c.in-Two.form) (sym c.deref.ensures i) (sym c.deref-in-Two.ensures i)) in
     are_operands _ c.operator_of-op.result c.deref.result.now c.deref-in-Two.result.now (env_of c.args.frame.now) c.args.e.now (view_short c.in-Ok.x) (view_short c.in-Ok-number.y) (is ∙ ap (λ (o : Two). two (record { place = c.e.inside.place; ty = c.e.inside.ty }) o c.deref.result.now c.deref-in-Two.result.now) c.operator_of-op.ensures) c.requires.runs c.in-Ok.ensures c.in-Ok-number.ensures
 
-pub binary-returns-in-Ok-number : goal.binary-returns-in-Ok-number
-binary-returns-in-Ok-number t c =
+pub numbers::binary-returns-in-Ok-number : goal.numbers::binary-returns-in-Ok-number
+numbers::binary-returns-in-Ok-number t c =
     let is : c.args.e.now ≡ two (record { place = c.e.inside.place; ty = c.e.inside.ty }) (view_two c.in-Two.form) c.deref.result.now c.deref-in-Two.result.now = sym c.e.view_is ∙ ap (λ (f : Form). view_form f (record { place = c.e.inside.place; ty = c.e.inside.ty })) c.in-Two.is ∙ (λ i. two (record { place = c.e.inside.place; ty = c.e.inside.ty }) (view_two c.in-Two.form) (sym c.deref.ensures i) (sym c.deref-in-Two.ensures i)) in
     binary_answers c.operated.result _ c.operator_of-op.result c.deref.result.now c.deref-in-Two.result.now (env_of c.args.frame.now) c.args.e.now (view_short c.in-Ok.x) (view_short c.in-Ok-number.y) (is ∙ ap (λ (o : Two). two (record { place = c.e.inside.place; ty = c.e.inside.ty }) o c.deref.result.now c.deref-in-Two.result.now) c.operator_of-op.ensures) c.in-Ok.ensures c.in-Ok-number.ensures c.operated.ensures.value
 
-pub either-number-requires-else-decides : goal.either-number-requires-else-decides
-either-number-requires-else-decides t c =
+pub numbers::either-number-requires-else-decides : goal.numbers::either-number-requires-else-decides
+numbers::either-number-requires-else-decides t c =
     let is : c.args.e.now ≡ two (record { place = c.e.inside.place; ty = c.e.inside.ty }) (view_two c.in-Two.form) c.in-Two.first.value c.deref-else-decides.result.now = sym c.e.view_is ∙ ap (λ (f : Form). view_form f (record { place = c.e.inside.place; ty = c.e.inside.ty })) c.in-Two.is ∙ (λ i. two (record { place = c.e.inside.place; ty = c.e.inside.ty }) (view_two c.in-Two.form) c.in-Two.first.value (sym c.deref-else-decides.ensures i)) in
     (omega (arith, ap expr_nodes is), either_second _ _ c.in-Two.first.value c.deref-else-decides.result.now (env_of c.args.frame.now) c.args.e.now is c.requires.form c.requires.runs)
 
-pub on_number-number-requires : goal.on_number-number-requires
-on_number-number-requires t c =
+pub numbers::on_number-number-requires : goal.numbers::on_number-number-requires
+numbers::on_number-number-requires t c =
     let is : c.args.e.now ≡ one (record { place = c.e.inside.place; ty = c.e.inside.ty }) (view_one c.in-One.form) c.deref.result.now = sym c.e.view_is ∙ ap (λ (f : Form). view_form f (record { place = c.e.inside.place; ty = c.e.inside.ty })) c.in-One.is ∙ (λ i. one (record { place = c.e.inside.place; ty = c.e.inside.ty }) (view_one c.in-One.form) (sym c.deref.ensures i)) in
     (omega (arith, ap expr_nodes is), on_part_runs _ _ c.deref.result.now (env_of c.args.frame.now) c.args.e.now is c.requires.form c.requires.runs)
 
-pub on_number-one_number-requires-clause-takes : goal.on_number-one_number-requires-clause-takes
-on_number-one_number-requires-clause-takes t c =
+pub numbers::on_number-one_number-requires-clause-takes : goal.numbers::on_number-one_number-requires-clause-takes
+numbers::on_number-one_number-requires-clause-takes t c =
     let is : c.args.e.now ≡ one (record { place = c.e.inside.place; ty = c.e.inside.ty }) (view_one c.in-One.form) c.deref.result.now = sym c.e.view_is ∙ ap (λ (f : Form). view_form f (record { place = c.e.inside.place; ty = c.e.inside.ty })) c.in-One.is ∙ (λ i. one (record { place = c.e.inside.place; ty = c.e.inside.ty }) (view_one c.in-One.form) (sym c.deref.ensures i)) in
     on_takes _ _ c.deref.result.now (env_of c.args.frame.now) c.args.e.now (plain (view_short c.in-Ok.x)) is c.requires.runs c.in-Ok.ensures
 
-pub put-put_number-requires : goal.put-put_number-requires
-put-put_number-requires t c = put_number_item c.args.item.now (env_of c.args.frame.now) (thing_of c.args.builder.now) (view_short c.in-Ok-Some.n) c.requires.fits (reads_some c.in-Ok-Some.field-0 c.in-Ok-Some.n _ c.in-Ok-Some.field-0-is c.in-Ok-Some.ensures)
+pub acts::put-put_number-requires : goal.acts::put-put_number-requires
+acts::put-put_number-requires t c = put_number_item c.args.item.now (env_of c.args.frame.now) (thing_of c.args.builder.now) (view_short c.in-Ok-Some.n) c.requires.fits (reads_some c.in-Ok-Some.field-0 c.in-Ok-Some.n _ c.in-Ok-Some.field-0-is c.in-Ok-Some.ensures)
 
-pub put_made-put_held-requires-clause-plain : goal.put_made-put_held-requires-clause-plain
-put_made-put_held-requires-clause-plain t c = put_plain c.args.item.now (env_of c.args.frame.now) (thing_of c.args.builder.now) (held_of c.in-Ok.x) c.requires.fits c.in-Ok.ensures
+pub acts::put_made-put_held-requires-clause-plain : goal.acts::put_made-put_held-requires-clause-plain
+acts::put_made-put_held-requires-clause-plain t c = put_plain c.args.item.now (env_of c.args.frame.now) (thing_of c.args.builder.now) (held_of c.in-Ok.x) c.requires.fits c.in-Ok.ensures
 
-pub walk_rows-run_row-requires : goal.walk_rows-run_row-requires
-walk_rows-run_row-requires t c = (omega arith, (range_there c.args.e.now (env_of c.args.frame.now) (lists_of c.args.legs.now) c.args.from c.args.to _ _ c.loop-number.number (thing_of c.loop-number.builder) c.loop-number.invariant c.loop-number-test.true, range_row_acts c.args.e.now (env_of c.args.frame.now) (lists_of c.args.legs.now) c.args.from c.args.to _ _ c.loop-number.number (thing_of c.loop-number.builder) c.requires.direct c.loop-number.invariant c.loop-number-test.true))
+pub rows::walk_rows-run_row-requires : goal.rows::walk_rows-run_row-requires
+rows::walk_rows-run_row-requires t c = (omega arith, (range_there c.args.e.now (env_of c.args.frame.now) (lists_of c.args.legs.now) c.args.from c.args.to _ _ c.loop-number.number (thing_of c.loop-number.builder) c.loop-number.invariant c.loop-number-test.true, range_row_acts c.args.e.now (env_of c.args.frame.now) (lists_of c.args.legs.now) c.args.from c.args.to _ _ c.loop-number.number (thing_of c.loop-number.builder) c.requires.direct c.loop-number.invariant c.loop-number-test.true))
 
-pub walk_rows-returns-in-Err : goal.walk_rows-returns-in-Err
-walk_rows-returns-in-Err t c = range_act_stops (Unit {0}) (Unit {0}) c.in-Err.stop c.args.e.now (env_of c.args.frame.now) (lists_of c.args.legs.now) c.args.from c.args.to _ _ c.loop-number.number (thing_of c.loop-number.builder) (thing_of c.run_row.new.builder) (thing_of c.run_row.new.builder) c.requires.direct c.loop-number.invariant c.loop-number-test.true c.in-Err.ensures
+pub rows::walk_rows-returns-in-Err : goal.rows::walk_rows-returns-in-Err
+rows::walk_rows-returns-in-Err t c = range_act_stops (Unit {0}) (Unit {0}) c.in-Err.stop c.args.e.now (env_of c.args.frame.now) (lists_of c.args.legs.now) c.args.from c.args.to _ _ c.loop-number.number (thing_of c.loop-number.builder) (thing_of c.run_row.new.builder) (thing_of c.run_row.new.builder) c.requires.direct c.loop-number.invariant c.loop-number-test.true c.in-Err.ensures
 
-pub walk_rows-loop-number-preserved : goal.walk_rows-loop-number-preserved
-walk_rows-loop-number-preserved t c = range_act_next c.args.e.now (env_of c.args.frame.now) (lists_of c.args.legs.now) c.args.from c.args.to _ _ c.loop-number.number (thing_of c.loop-number.builder) (thing_of c.run_row.new.builder) c.requires.direct c.loop-number.invariant c.loop-number-test.true c.in-Ok.ensures
+pub rows::walk_rows-loop-number-preserved : goal.rows::walk_rows-loop-number-preserved
+rows::walk_rows-loop-number-preserved t c = range_act_next c.args.e.now (env_of c.args.frame.now) (lists_of c.args.legs.now) c.args.from c.args.to _ _ c.loop-number.number (thing_of c.loop-number.builder) (thing_of c.run_row.new.builder) c.requires.direct c.loop-number.invariant c.loop-number-test.true c.in-Ok.ensures
 
-pub put_written-returns-in-Err-tried : goal.put_written-returns-in-Err-tried
-put_written-returns-in-Err-tried t c =
+pub acts::put_written-returns-in-Err-tried : goal.acts::put_written-returns-in-Err-tried
+acts::put_written-returns-in-Err-tried t c =
     let is : c.args.item.now ≡ many (record { place = c.item.inside.place; ty = c.item.inside.ty }) (view_many c.in-Many.field-0) (pack_exprs c.in-Many.parts) = sym c.item.view_is ∙ ap (λ (f : Form). view_form f (record { place = c.item.inside.place; ty = c.item.inside.ty })) c.in-Many.is in
     let item : c.index-parts-1.result ≡ get_or c.in-Many.parts 1 c.index-parts-1.result = c.index-parts-1.is ∙ ap (λ (l : List ExprTree). get_or l 1 c.index-parts-1.result) c.as_slice-parts.ensures.value in
     pair_item_stops (Unit {0}) c.in-Err-tried.stop _ _ c.in-Many.parts (env_of c.args.frame.now) c.args.item.now c.index-parts-1.result (thing_of c.args.builder.now) (thing_of c.args.builder.now) is c.requires.form c.requires.runs item c.requires.fits c.in-Err-tried.ensures
 
-pub put_written-put_two-requires : goal.put_written-put_two-requires
-put_written-put_two-requires t c =
+pub acts::put_written-put_two-requires : goal.acts::put_written-put_two-requires
+acts::put_written-put_two-requires t c =
     let is : c.args.item.now ≡ many (record { place = c.item.inside.place; ty = c.item.inside.ty }) (view_many c.in-Many.field-0) (pack_exprs c.in-Many.parts) = sym c.item.view_is ∙ ap (λ (f : Form). view_form f (record { place = c.item.inside.place; ty = c.item.inside.ty })) c.in-Many.is in
     let key : c.index-parts-0.result ≡ get_or c.in-Many.parts 0 c.index-parts-0.result = c.index-parts-0.is ∙ ap (λ (l : List ExprTree). get_or l 0 c.index-parts-0.result) c.as_slice-parts.ensures.value in
     let item : c.index-parts-1.result ≡ get_or c.in-Many.parts 1 c.index-parts-1.result = c.index-parts-1.is ∙ ap (λ (l : List ExprTree). get_or l 1 c.index-parts-1.result) c.as_slice-parts.ensures.value in
     put_number_item c.args.item.now (env_of c.args.frame.now) (thing_of c.args.builder.now) (pair (view_short c.in-Some-Some.key) (view_short c.in-Some-Some.x)) c.requires.fits (pair_is _ _ c.in-Many.parts (env_of c.args.frame.now) c.args.item.now c.index-parts-0.result c.index-parts-1.result (view_short c.in-Some-Some.key) (view_short c.in-Some-Some.x) is c.requires.form key item (reads_some c.in-Ok.key c.in-Some-Some.key _ c.in-Some-Some.is-0 c.in-Ok.ensures) (reads_some c.in-Ok-tried.x c.in-Some-Some.x _ c.in-Some-Some.is-1 c.in-Ok-tried.ensures))
 
-pub put_written-put_made-requires : goal.put_written-put_made-requires
-put_written-put_made-requires t c = (omega arith, (c.requires.runs, c.requires.fits))
+pub acts::put_written-put_made-requires : goal.acts::put_written-put_made-requires
+acts::put_written-put_made-requires t c = (omega arith, (c.requires.runs, c.requires.fits))
 
-pub put_written-returns-in-Some-Some : goal.put_written-returns-in-Some-Some
-put_written-returns-in-Some-Some t c =
+pub acts::put_written-returns-in-Some-Some : goal.acts::put_written-returns-in-Some-Some
+acts::put_written-returns-in-Some-Some t c =
     let is : c.args.item.now ≡ many (record { place = c.item.inside.place; ty = c.item.inside.ty }) (view_many c.in-Many.field-0) (pack_exprs c.in-Many.parts) = sym c.item.view_is ∙ ap (λ (f : Form). view_form f (record { place = c.item.inside.place; ty = c.item.inside.ty })) c.in-Many.is in
     let key : c.index-parts-0.result ≡ get_or c.in-Many.parts 0 c.index-parts-0.result = c.index-parts-0.is ∙ ap (λ (l : List ExprTree). get_or l 0 c.index-parts-0.result) c.as_slice-parts.ensures.value in
     let item : c.index-parts-1.result ≡ get_or c.in-Many.parts 1 c.index-parts-1.result = c.index-parts-1.is ∙ ap (λ (l : List ExprTree). get_or l 1 c.index-parts-1.result) c.as_slice-parts.ensures.value in
     put_is c.put_two.result c.args.item.now (env_of c.args.frame.now) (thing_of c.args.builder.now) (thing_of c.put_two.new.builder) (plain (pair (view_short c.in-Some-Some.key) (view_short c.in-Some-Some.x))) (pair_is _ _ c.in-Many.parts (env_of c.args.frame.now) c.args.item.now c.index-parts-0.result c.index-parts-1.result (view_short c.in-Some-Some.key) (view_short c.in-Some-Some.x) is c.requires.form key item (reads_some c.in-Ok.key c.in-Some-Some.key _ c.in-Some-Some.is-0 c.in-Ok.ensures) (reads_some c.in-Ok-tried.x c.in-Some-Some.x _ c.in-Some-Some.is-1 c.in-Ok-tried.ensures)) c.put_two.ensures
 
-pub put_other-put_two-requires : goal.put_other-put_two-requires
-put_other-put_two-requires t c = put_number_item c.args.item.now (env_of c.args.frame.now) (thing_of c.args.builder.now) (pair (view_short c.in-Some.found.0) (view_short c.in-Some.found.1)) c.requires.fits c.in-Some.ensures
+pub acts::put_other-put_two-requires : goal.acts::put_other-put_two-requires
+acts::put_other-put_two-requires t c = put_number_item c.args.item.now (env_of c.args.frame.now) (thing_of c.args.builder.now) (pair (view_short c.in-Some.found.0) (view_short c.in-Some.found.1)) c.requires.fits c.in-Some.ensures
 
 -- ---- blocks
 
-pub run_rows-run_blocks-answer-requires : goal.run_rows-run_blocks-answer-requires
-run_rows-run_blocks-answer-requires t c =
+pub rows::run_rows-run_blocks-answer-requires : goal.rows::run_rows-run_blocks-answer-requires
+rows::run_rows-run_blocks-answer-requires t c =
     (omega arith, (range_start c.args.e.now (env_of c.args.frame.now) (lists_of c.args.legs.now) c.args.from c.args.to (thing_of c.args.builder.now) (thing_of c.in-Ok.own) c.requires.rows c.in-Ok.ensures, (c.requires.direct, c.requires.form)))
 
-pub run_blocks-run_block-requires : goal.run_blocks-run_block-requires
-run_blocks-run_block-requires t c =
+pub rows::run_blocks-run_block-requires : goal.rows::run_blocks-run_block-requires
+rows::run_blocks-run_block-requires t c =
     let low : c.pieces.reached ≤ c.block_end-end.result = omega (arith, c.block_end-end.ensures.more) in
     (omega arith, (range_part c.args.e.now (env_of c.args.frame.now) (lists_of c.args.legs.now) c.args.from c.args.to (thing_of c.args.builder.now) (thing_of c.args.own.now) c.pieces.reached c.block_end-end.result (thing_of c.pieces.builder) c.pieces.invariant low c.block_end-end.ensures.within, (c.requires.direct, c.requires.form)))
 
-pub run_blocks-returns-in-Err : goal.run_blocks-returns-in-Err
-run_blocks-returns-in-Err t c =
+pub rows::run_blocks-returns-in-Err : goal.rows::run_blocks-returns-in-Err
+rows::run_blocks-returns-in-Err t c =
     let low : c.pieces.reached ≤ c.block_end-end.result = omega (arith, c.block_end-end.ensures.more) in
     range_part_stops Bool (Unit {0}) c.in-Err.stop c.args.e.now (env_of c.args.frame.now) (lists_of c.args.legs.now) c.args.from c.args.to (thing_of c.args.builder.now) (thing_of c.args.own.now) c.pieces.reached c.block_end-end.result (thing_of c.pieces.builder)
     (thing_of c.run_block.new.builder) (thing_of c.run_block.new.builder) c.pieces.invariant low c.block_end-end.ensures.within c.in-Err.ensures
 
-pub run_blocks-pieces-preserved : goal.run_blocks-pieces-preserved
-run_blocks-pieces-preserved t c =
+pub rows::run_blocks-pieces-preserved : goal.rows::run_blocks-pieces-preserved
+rows::run_blocks-pieces-preserved t c =
     let low : c.pieces.reached ≤ c.block_end-end.result = omega (arith, c.block_end-end.ensures.more) in
     range_part_next c.args.e.now (env_of c.args.frame.now) (lists_of c.args.legs.now) c.args.from c.args.to (thing_of c.args.builder.now) (thing_of c.args.own.now) c.pieces.reached c.block_end-end.result (thing_of c.pieces.builder)
     (thing_of c.run_block.new.builder) c.pieces.invariant low c.block_end-end.ensures.within c.in-Ok.ensures
 
 -- ---- forms of two and three parts, vectors and structs, turns
 
-pub value_of_both-two-requires-clause-takes : goal.value_of_both-two-requires-clause-takes
-value_of_both-two-requires-clause-takes t c =
+pub values::value_of_both-two-requires-clause-takes : goal.values::value_of_both-two-requires-clause-takes
+values::value_of_both-two-requires-clause-takes t c =
     both_take _ _ c.deref.result.now c.deref-in-Two.result.now (env_of c.args.frame.now) c.args.e.now (held_of c.in-Ok.x) (held_of c.in-Ok-value.y) (sym c.e.view_is ∙ ap (λ (f : Form). view_form f (record { place = c.e.inside.place; ty = c.e.inside.ty })) c.in-Two.is ∙ (λ i. two (record { place = c.e.inside.place; ty = c.e.inside.ty }) (view_two c.in-Two.form) (sym c.deref.ensures i) (sym c.deref-in-Two.ensures i))) c.requires.runs.fit c.in-Ok.ensures c.in-Ok-value.ensures
 
-pub value_of_both-returns-in-Err-value : goal.value_of_both-returns-in-Err-value
-value_of_both-returns-in-Err-value t c =
+pub values::value_of_both-returns-in-Err-value : goal.values::value_of_both-returns-in-Err-value
+values::value_of_both-returns-in-Err-value t c =
     stops held_of held_of c.in-Err-value.stop (eval c.deref-in-Two.result.now (env_of c.args.frame.now)) (eval c.args.e.now (env_of c.args.frame.now)) (λ q. second_faults _ _ c.deref.result.now c.deref-in-Two.result.now (env_of c.args.frame.now) c.args.e.now (held_of c.in-Ok.x) (sym c.e.view_is ∙ ap (λ (f : Form). view_form f (record { place = c.e.inside.place; ty = c.e.inside.ty })) c.in-Two.is ∙ (λ i. two (record { place = c.e.inside.place; ty = c.e.inside.ty }) (view_two c.in-Two.form) (sym c.deref.ensures i) (sym c.deref-in-Two.ensures i))) c.requires.form c.requires.runs.fit c.in-Ok.ensures q) c.in-Err-value.ensures
 
-pub value_of_three-three-requires-clause-takes : goal.value_of_three-three-requires-clause-takes
-value_of_three-three-requires-clause-takes t c =
+pub values::value_of_three-three-requires-clause-takes : goal.values::value_of_three-three-requires-clause-takes
+values::value_of_three-three-requires-clause-takes t c =
     all_take _ _ c.deref.result.now c.deref-in-Three.result.now c.deref-in-Three-2.result.now (env_of c.args.frame.now) c.args.e.now (held_of c.in-Ok.x) (held_of c.in-Ok-value.y) (held_of c.in-Ok-value-2.z) (sym c.e.view_is ∙ ap (λ (f : Form). view_form f (record { place = c.e.inside.place; ty = c.e.inside.ty })) c.in-Three.is ∙ (λ i. three (record { place = c.e.inside.place; ty = c.e.inside.ty }) (view_three c.in-Three.form) (sym c.deref.ensures i) (sym c.deref-in-Three.ensures i) (sym c.deref-in-Three-2.ensures i))) c.requires.runs.fit c.in-Ok.ensures c.in-Ok-value.ensures c.in-Ok-value-2.ensures
 
-pub value_of_three-returns-in-Err-value : goal.value_of_three-returns-in-Err-value
-value_of_three-returns-in-Err-value t c =
+pub values::value_of_three-returns-in-Err-value : goal.values::value_of_three-returns-in-Err-value
+values::value_of_three-returns-in-Err-value t c =
     stops held_of held_of c.in-Err-value.stop (eval c.deref-in-Three.result.now (env_of c.args.frame.now)) (eval c.args.e.now (env_of c.args.frame.now)) (λ q. middle_faults _ _ c.deref.result.now c.deref-in-Three.result.now c.in-Three.third.value (env_of c.args.frame.now) c.args.e.now (held_of c.in-Ok.x) (sym c.e.view_is ∙ ap (λ (f : Form). view_form f (record { place = c.e.inside.place; ty = c.e.inside.ty })) c.in-Three.is ∙ (λ i. three (record { place = c.e.inside.place; ty = c.e.inside.ty }) (view_three c.in-Three.form) (sym c.deref.ensures i) (sym c.deref-in-Three.ensures i) c.in-Three.third.value)) c.requires.form c.requires.runs.fit c.in-Ok.ensures q) c.in-Err-value.ensures
 
-pub value_of_three-returns-in-Err-value-2 : goal.value_of_three-returns-in-Err-value-2
-value_of_three-returns-in-Err-value-2 t c =
+pub values::value_of_three-returns-in-Err-value-2 : goal.values::value_of_three-returns-in-Err-value-2
+values::value_of_three-returns-in-Err-value-2 t c =
     stops held_of held_of c.in-Err-value-2.stop (eval c.deref-in-Three-2.result.now (env_of c.args.frame.now)) (eval c.args.e.now (env_of c.args.frame.now)) (λ q. third_faults _ _ c.deref.result.now c.deref-in-Three.result.now c.deref-in-Three-2.result.now (env_of c.args.frame.now) c.args.e.now (held_of c.in-Ok.x) (held_of c.in-Ok-value.y) (sym c.e.view_is ∙ ap (λ (f : Form). view_form f (record { place = c.e.inside.place; ty = c.e.inside.ty })) c.in-Three.is ∙ (λ i. three (record { place = c.e.inside.place; ty = c.e.inside.ty }) (view_three c.in-Three.form) (sym c.deref.ensures i) (sym c.deref-in-Three.ensures i) (sym c.deref-in-Three-2.ensures i))) c.requires.form c.requires.runs.fit c.in-Ok.ensures c.in-Ok-value.ensures q) c.in-Err-value-2.ensures
 
-pub value_of_many-many-requires : goal.value_of_many-many-requires
-value_of_many-many-requires t c =
+pub values::value_of_many-many-requires : goal.values::value_of_many-many-requires
+values::value_of_many-many-requires t c =
     parts_take _ _ (pack_exprs c.in-Many.parts) (env_of c.args.frame.now) c.args.e.now _ (sym c.e.view_is ∙ ap (λ (f : Form). view_form f (record { place = c.e.inside.place; ty = c.e.inside.ty })) c.in-Many.is) c.requires.runs.fit c.in-Ok.ensures
 
-pub first_state-into_value-requires : goal.first_state-into_value-requires
-first_state-into_value-requires t c =
+pub turns::first_state-into_value-requires : goal.turns::first_state-into_value-requires
+turns::first_state-into_value-requires t c =
     state_is_plain _ c.deref.result.now c.in-Iterate.field-1 c.in-Iterate.field-2.value (env_of c.args.frame.now) c.args.e.now (held_of c.in-Ok.x) (sym c.e.view_is ∙ ap (λ (f : Form). view_form f (record { place = c.e.inside.place; ty = c.e.inside.ty })) c.in-Iterate.is ∙ (λ i. iterate (record { place = c.e.inside.place; ty = c.e.inside.ty }) (sym c.deref.ensures i) c.in-Iterate.field-1 c.in-Iterate.field-2.value)) c.requires.runs.fit c.in-Ok.ensures
 
-pub first_state-returns-in-Ok-into_value : goal.first_state-returns-in-Ok-into_value
-first_state-returns-in-Ok-into_value t c =
+pub turns::first_state-returns-in-Ok-into_value : goal.turns::first_state-returns-in-Ok-into_value
+turns::first_state-returns-in-Ok-into_value t c =
     let is : c.args.e.now ≡ iterate (record { place = c.e.inside.place; ty = c.e.inside.ty }) c.deref.result.now c.in-Iterate.field-1 c.in-Iterate.field-2.value = sym c.e.view_is ∙ ap (λ (f : Form). view_form f (record { place = c.e.inside.place; ty = c.e.inside.ty })) c.in-Iterate.is ∙ (λ i. iterate (record { place = c.e.inside.place; ty = c.e.inside.ty }) (sym c.deref.ensures i) c.in-Iterate.field-1 c.in-Iterate.field-2.value) in (
       state_holds _ c.deref.result.now c.in-Iterate.field-1 c.in-Iterate.field-2.value (env_of c.args.frame.now) c.args.e.now (held_of c.in-Ok.x) (view_val c.in-Ok-into_value.state) is c.requires.runs.fit c.in-Ok.ensures c.in-Ok-into_value.ensures,
       turns_start _ c.deref.result.now c.in-Iterate.field-1 c.in-Iterate.field-2.value (env_of c.args.frame.now) c.args.e.now (held_of c.in-Ok.x) (view_val c.in-Ok-into_value.state) is c.in-Ok.ensures c.in-Ok-into_value.ensures,
     )
 
-pub run_turn-value-requires : goal.run_turn-value-requires
-run_turn-value-requires t c =
+pub turns::run_turn-value-requires : goal.turns::run_turn-value-requires
+turns::run_turn-value-requires t c =
     let is : c.args.e.now ≡ iterate (record { place = c.e.inside.place; ty = c.e.inside.ty }) c.in-Iterate.field-0.value c.in-Iterate.binder c.deref.result.now = sym c.e.view_is ∙ ap (λ (f : Form). view_form f (record { place = c.e.inside.place; ty = c.e.inside.ty })) c.in-Iterate.is ∙ (λ i. iterate (record { place = c.e.inside.place; ty = c.e.inside.ty }) c.in-Iterate.field-0.value c.in-Iterate.binder (sym c.deref.ensures i)) in
     (omega (arith, ap expr_nodes is), subst (λ (g : Env). Runs c.deref.result.now g) (sym c.bind-inner.ensures) (turn_runs _ _ _ c.deref.result.now (env_of c.args.frame.now) c.args.e.now (view_val c.args.state) is c.requires.state c.requires.direct))
 
-pub run_turn-pair_of-requires : goal.run_turn-pair_of-requires
-run_turn-pair_of-requires t c =
+pub turns::run_turn-pair_of-requires : goal.turns::run_turn-pair_of-requires
+turns::run_turn-pair_of-requires t c =
     let is : c.args.e.now ≡ iterate (record { place = c.e.inside.place; ty = c.e.inside.ty }) c.in-Iterate.field-0.value c.in-Iterate.binder c.deref.result.now = sym c.e.view_is ∙ ap (λ (f : Form). view_form f (record { place = c.e.inside.place; ty = c.e.inside.ty })) c.in-Iterate.is ∙ (λ i. iterate (record { place = c.e.inside.place; ty = c.e.inside.ty }) c.in-Iterate.field-0.value c.in-Iterate.binder (sym c.deref.ensures i)) in
     let q : eval c.deref.result.now ((c.in-Iterate.binder.sym.0, plain (view_val c.args.state)) ∷ env_of c.args.frame.now) ≡ done (held_of c.in-Ok.pair) = sym (ap (λ (g : Env). eval c.deref.result.now g) c.bind-inner.ensures) ∙ c.in-Ok.ensures in
     turn_gives _ _ _ c.deref.result.now (env_of c.args.frame.now) c.args.e.now (view_val c.args.state) (held_of c.in-Ok.pair) is c.requires.state q
 
-pub run_turn-returns-in-Ok : goal.run_turn-returns-in-Ok
-run_turn-returns-in-Ok t c =
+pub turns::run_turn-returns-in-Ok : goal.turns::run_turn-returns-in-Ok
+turns::run_turn-returns-in-Ok t c =
     let is : c.args.e.now ≡ iterate (record { place = c.e.inside.place; ty = c.e.inside.ty }) c.in-Iterate.field-0.value c.in-Iterate.binder c.deref.result.now = sym c.e.view_is ∙ ap (λ (f : Form). view_form f (record { place = c.e.inside.place; ty = c.e.inside.ty })) c.in-Iterate.is ∙ (λ i. iterate (record { place = c.e.inside.place; ty = c.e.inside.ty }) c.in-Iterate.field-0.value c.in-Iterate.binder (sym c.deref.ensures i)) in
     let q : eval c.deref.result.now ((c.in-Iterate.binder.sym.0, plain (view_val c.args.state)) ∷ env_of c.args.frame.now) ≡ done (held_of c.in-Ok.pair) = sym (ap (λ (g : Env). eval c.deref.result.now g) c.bind-inner.ensures) ∙ c.in-Ok.ensures in
     turn_answers _ _ _ c.deref.result.now (env_of c.args.frame.now) c.args.e.now (view_val c.args.state) (held_of c.in-Ok.pair) c.pair_of.result is c.requires.state q c.pair_of.ensures
 
-pub run_turns-loop-turn-preserved : goal.run_turns-loop-turn-preserved
-run_turns-loop-turn-preserved t c =
+pub turns::run_turns-loop-turn-preserved : goal.turns::run_turns-loop-turn-preserved
+turns::run_turns-loop-turn-preserved t c =
     (c.in-Ok-default-true.ensures.0, c.loop-turn.invariant.1 ∙ turns_go_on c.args.e.now (env_of c.args.frame.now) c.loop-turn._turn (view_val c.loop-turn.state) (c.in-Ok-default-true.next, c.in-Ok-default-true.field-0-1) (omega arith) c.in-Ok-default-true.field-0-1-test c.in-Ok-default-true.ensures)
 
-pub run_turns-returns-in-Ok-default-false : goal.run_turns-returns-in-Ok-default-false
-run_turns-returns-in-Ok-default-false t c =
+pub turns::run_turns-returns-in-Ok-default-false : goal.turns::run_turns-returns-in-Ok-default-false
+turns::run_turns-returns-in-Ok-default-false t c =
     c.loop-turn.invariant.1 ∙ turns_end c.args.e.now (env_of c.args.frame.now) c.loop-turn._turn (view_val c.loop-turn.state) (c.in-Ok-default-false.last, c.in-Ok-default-false.field-0-1) (omega arith) c.in-Ok-default-false.field-0-1-test c.in-Ok-default-false.ensures
 
-pub run_turns-returns : goal.run_turns-returns
-run_turns-returns t c =
+pub turns::run_turns-returns : goal.turns::run_turns-returns
+turns::run_turns-returns t c =
     c.loop-turn.invariant.1 ∙ turns_exceeded c.args.e.now (env_of c.args.frame.now) c.loop-turn._turn (view_val c.loop-turn.state) (omega arith)
+
+pub values::things-value-requires : goal.values::things-value-requires
+values::things-value-requires t c =
+    let less = part_less c.as_slice-part-items.result.now c.args.parts.now c.loop-part.part-index c.part-item.result c.as_slice-part-items.ensures.value c.loop-part-test.true c.part-item.is in
+    (omega arith, part_runs_at c.as_slice-part-items.result.now (env_of c.args.frame.now) c.loop-part.part-index c.part-item.result c.loop-part-test.true c.part-item.is c.loop-part.invariant.0)
+
+pub values::things-loop-part-preserved : goal.values::things-loop-part-preserved
+values::things-loop-part-preserved t c = (
+  rest_runs c.as_slice-part-items.result.now (env_of c.args.frame.now) c.loop-part.part-index c.part-item.result c.loop-part-test.true c.part-item.is c.loop-part.invariant.0,
+  c.loop-part.invariant.1 ∙ part_done c.as_slice-part-items.result.now (env_of c.args.frame.now) (all_of c.loop-part.things.items) (all_of c.push_thing.new.things.items) c.loop-part.part-index c.part-item.result (held_of c.in-Ok.x) c.loop-part-test.true c.part-item.is c.in-Ok.ensures c.in-Ok-push_thing.ensures,
+)
+
+pub numbers::selection-number-requires : goal.numbers::selection-number-requires
+numbers::selection-number-requires t c =
+    let is : c.args.e.now ≡ three (record { place = c.e.inside.place; ty = c.e.inside.ty }) (view_three c.in-Three.field-0) c.deref.result.now c.in-Three.then.value c.in-Three.otherwise.value = sym c.e.view_is ∙ ap (λ (f : Form). view_form f (record { place = c.e.inside.place; ty = c.e.inside.ty })) c.in-Three.is ∙ (λ i. three (record { place = c.e.inside.place; ty = c.e.inside.ty }) (view_three c.in-Three.field-0) (sym c.deref.ensures i) c.in-Three.then.value c.in-Three.otherwise.value) in
+    (omega (arith, ap expr_nodes is), selection_condition_runs _ _ c.deref.result.now c.in-Three.then.value c.in-Three.otherwise.value (env_of c.args.frame.now) c.args.e.now is c.requires.form c.requires.runs)
+
+pub numbers::selection-truth_of-chosen-requires : goal.numbers::selection-truth_of-chosen-requires
+numbers::selection-truth_of-chosen-requires t c =
+    let is : c.args.e.now ≡ three (record { place = c.e.inside.place; ty = c.e.inside.ty }) (view_three c.in-Three.field-0) c.deref.result.now c.in-Three.then.value c.in-Three.otherwise.value = sym c.e.view_is ∙ ap (λ (f : Form). view_form f (record { place = c.e.inside.place; ty = c.e.inside.ty })) c.in-Three.is ∙ (λ i. three (record { place = c.e.inside.place; ty = c.e.inside.ty }) (view_three c.in-Three.field-0) (sym c.deref.ensures i) c.in-Three.then.value c.in-Three.otherwise.value) in
+    selection_is_truth _ _ c.deref.result.now c.in-Three.then.value c.in-Three.otherwise.value (env_of c.args.frame.now) c.args.e.now (view_short c.in-Ok.x) is c.requires.form c.requires.runs c.in-Ok.ensures
+
+pub numbers::selection-number-requires-in-Three : goal.numbers::selection-number-requires-in-Three
+numbers::selection-number-requires-in-Three t c =
+    let is : c.args.e.now ≡ three (record { place = c.e.inside.place; ty = c.e.inside.ty }) (view_three c.in-Three.field-0) c.in-Three.condition.value c.deref-in-Three.result.now c.in-Three.otherwise.value = sym c.e.view_is ∙ ap (λ (f : Form). view_form f (record { place = c.e.inside.place; ty = c.e.inside.ty })) c.in-Three.is ∙ (λ i. three (record { place = c.e.inside.place; ty = c.e.inside.ty }) (view_three c.in-Three.field-0) c.in-Three.condition.value (sym c.deref-in-Three.ensures i) c.in-Three.otherwise.value) in
+    (omega (arith, ap expr_nodes is), selection_then_runs _ _ c.in-Three.condition.value c.deref-in-Three.result.now c.in-Three.otherwise.value (env_of c.args.frame.now) c.args.e.now is c.requires.form c.requires.runs)
+
+pub numbers::selection-number-requires-in-Three-2 : goal.numbers::selection-number-requires-in-Three-2
+numbers::selection-number-requires-in-Three-2 t c =
+    let is : c.args.e.now ≡ three (record { place = c.e.inside.place; ty = c.e.inside.ty }) (view_three c.in-Three.field-0) c.in-Three.condition.value c.in-Three.then.value c.deref-in-Three-2.result.now = sym c.e.view_is ∙ ap (λ (f : Form). view_form f (record { place = c.e.inside.place; ty = c.e.inside.ty })) c.in-Three.is ∙ (λ i. three (record { place = c.e.inside.place; ty = c.e.inside.ty }) (view_three c.in-Three.field-0) c.in-Three.condition.value c.in-Three.then.value (sym c.deref-in-Three-2.ensures i)) in
+    (omega (arith, ap expr_nodes is), selection_otherwise_runs _ _ c.in-Three.condition.value c.in-Three.then.value c.deref-in-Three-2.result.now (env_of c.args.frame.now) c.args.e.now is c.requires.form c.requires.runs)

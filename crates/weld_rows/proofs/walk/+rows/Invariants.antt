@@ -17,178 +17,178 @@ use Rattle.weld_rows.proofs.walk.+rows.Given as goal
 -- the measure: the nodes that are left to go over, 64 for each, so that a node and its steps differ; of a loop whose legs are
 -- evaluated those of its body
 
-abbrev pub decreases-number : goal.decreases-number
-decreases-number l = 64 * expr_nodes l.e.now + 13
+abbrev pub decreases-numbers::number : goal.decreases-numbers::number
+decreases-numbers::number l = 64 * expr_nodes l.e.now + 13
 
-abbrev pub decreases-compound : goal.decreases-compound
-decreases-compound l = 64 * expr_nodes l.e.now + 11
+abbrev pub decreases-numbers::compound : goal.decreases-numbers::compound
+decreases-numbers::compound l = 64 * expr_nodes l.e.now + 11
 
-abbrev pub decreases-binary : goal.decreases-binary
-decreases-binary l = 64 * expr_nodes l.e.now + 9
+abbrev pub decreases-numbers::binary : goal.decreases-numbers::binary
+decreases-numbers::binary l = 64 * expr_nodes l.e.now + 9
 
-abbrev pub decreases-either : goal.decreases-either
-decreases-either l = 64 * expr_nodes l.e.now + 9
+abbrev pub decreases-numbers::either : goal.decreases-numbers::either
+decreases-numbers::either l = 64 * expr_nodes l.e.now + 9
 
-abbrev pub decreases-choice : goal.decreases-choice
-decreases-choice l = 64 * expr_nodes l.e.now + 9
+abbrev pub decreases-numbers::choice : goal.decreases-numbers::choice
+decreases-numbers::choice l = 64 * expr_nodes l.e.now + 9
 
-abbrev pub decreases-on_number : goal.decreases-on_number
-decreases-on_number l = 64 * expr_nodes l.e.now + 9
+abbrev pub decreases-numbers::on_number : goal.decreases-numbers::on_number
+decreases-numbers::on_number l = 64 * expr_nodes l.e.now + 9
 
-abbrev pub decreases-in_value : goal.decreases-in_value
-decreases-in_value l = 64 * expr_nodes l.e.now + 9
+abbrev pub decreases-numbers::in_value : goal.decreases-numbers::in_value
+decreases-numbers::in_value l = 64 * expr_nodes l.e.now + 9
 
-abbrev pub decreases-value : goal.decreases-value
-decreases-value l = 64 * expr_nodes l.e.now + 14
+abbrev pub decreases-values::value : goal.decreases-values::value
+decreases-values::value l = 64 * expr_nodes l.e.now + 14
 
-abbrev pub decreases-numeral : goal.decreases-numeral
-decreases-numeral l = 64 * expr_nodes l.e.now + 13
+abbrev pub decreases-values::numeral : goal.decreases-values::numeral
+decreases-values::numeral l = 64 * expr_nodes l.e.now + 13
 
-abbrev pub decreases-other : goal.decreases-other
-decreases-other l = 64 * expr_nodes l.e.now + 8
+abbrev pub decreases-values::other : goal.decreases-values::other
+decreases-values::other l = 64 * expr_nodes l.e.now + 8
 
-abbrev pub decreases-value_of_one : goal.decreases-value_of_one
-decreases-value_of_one l = 64 * expr_nodes l.e.now + 7
+abbrev pub decreases-values::value_of_one : goal.decreases-values::value_of_one
+decreases-values::value_of_one l = 64 * expr_nodes l.e.now + 7
 
-abbrev pub decreases-value_of_if : goal.decreases-value_of_if
-decreases-value_of_if l = 64 * expr_nodes l.e.now + 7
+abbrev pub decreases-values::value_of_if : goal.decreases-values::value_of_if
+decreases-values::value_of_if l = 64 * expr_nodes l.e.now + 7
 
-abbrev pub decreases-value_of_let : goal.decreases-value_of_let
-decreases-value_of_let l = 64 * expr_nodes l.e.now + 7
+abbrev pub decreases-values::value_of_let : goal.decreases-values::value_of_let
+decreases-values::value_of_let l = 64 * expr_nodes l.e.now + 7
 
-abbrev pub decreases-value_of_loop : goal.decreases-value_of_loop
-decreases-value_of_loop l = 64 * expr_nodes l.e.now + 7
+abbrev pub decreases-values::value_of_loop : goal.decreases-values::value_of_loop
+decreases-values::value_of_loop l = 64 * expr_nodes l.e.now + 7
 
-abbrev pub decreases-value_over : goal.decreases-value_over
-decreases-value_over l = 64 * expr_nodes l.e.now + 6
+abbrev pub decreases-values::value_over : goal.decreases-values::value_over
+decreases-values::value_over l = 64 * expr_nodes l.e.now + 6
 
-abbrev pub decreases-tried : goal.decreases-tried
-decreases-tried l = 64 * expr_nodes l.e.now + 15
+abbrev pub decreases-acts::tried : goal.decreases-acts::tried
+decreases-acts::tried l = 64 * expr_nodes l.e.now + 15
 
-abbrev pub decreases-act : goal.decreases-act
-decreases-act l = 64 * expr_nodes l.e.now + 31
+abbrev pub decreases-acts::act : goal.decreases-acts::act
+decreases-acts::act l = 64 * expr_nodes l.e.now + 31
 
-abbrev pub decreases-act_merge : goal.decreases-act_merge
-decreases-act_merge l = 64 * expr_nodes l.e.now + 30
+abbrev pub decreases-acts::act_merge : goal.decreases-acts::act_merge
+decreases-acts::act_merge l = 64 * expr_nodes l.e.now + 30
 
-abbrev pub decreases-act_if : goal.decreases-act_if
-decreases-act_if l = 64 * expr_nodes l.e.now + 30
+abbrev pub decreases-acts::act_if : goal.decreases-acts::act_if
+decreases-acts::act_if l = 64 * expr_nodes l.e.now + 30
 
-abbrev pub decreases-act_let : goal.decreases-act_let
-decreases-act_let l = 64 * expr_nodes l.e.now + 30
+abbrev pub decreases-acts::act_let : goal.decreases-acts::act_let
+decreases-acts::act_let l = 64 * expr_nodes l.e.now + 30
 
-abbrev pub decreases-act_let_value : goal.decreases-act_let_value
-decreases-act_let_value l = 64 * expr_nodes l.e.now + 29
+abbrev pub decreases-acts::act_let_value : goal.decreases-acts::act_let_value
+decreases-acts::act_let_value l = 64 * expr_nodes l.e.now + 29
 
-abbrev pub decreases-act_loop : goal.decreases-act_loop
-decreases-act_loop l = 64 * expr_nodes l.e.now + 30
+abbrev pub decreases-acts::act_loop : goal.decreases-acts::act_loop
+decreases-acts::act_loop l = 64 * expr_nodes l.e.now + 30
 
-abbrev pub decreases-act_over : goal.decreases-act_over
-decreases-act_over l = 64 * expr_nodes l.e.now + 29
+abbrev pub decreases-acts::act_over : goal.decreases-acts::act_over
+decreases-acts::act_over l = 64 * expr_nodes l.e.now + 29
 
-abbrev pub decreases-act_struct : goal.decreases-act_struct
-decreases-act_struct l = 64 * expr_nodes l.e.now + 30
+abbrev pub decreases-acts::act_struct : goal.decreases-acts::act_struct
+decreases-acts::act_struct l = 64 * expr_nodes l.e.now + 30
 
-abbrev pub decreases-put : goal.decreases-put
-decreases-put l = 64 * expr_nodes l.item.now + 21
+abbrev pub decreases-acts::put : goal.decreases-acts::put
+decreases-acts::put l = 64 * expr_nodes l.item.now + 21
 
-abbrev pub decreases-put_other : goal.decreases-put_other
-decreases-put_other l = 64 * expr_nodes l.item.now + 20
+abbrev pub decreases-acts::put_other : goal.decreases-acts::put_other
+decreases-acts::put_other l = 64 * expr_nodes l.item.now + 20
 
-abbrev pub decreases-put_made : goal.decreases-put_made
-decreases-put_made l = 64 * expr_nodes l.item.now + 17
+abbrev pub decreases-acts::put_made : goal.decreases-acts::put_made
+decreases-acts::put_made l = 64 * expr_nodes l.item.now + 17
 
-abbrev pub decreases-put_written : goal.decreases-put_written
-decreases-put_written l = 64 * expr_nodes l.item.now + 18
+abbrev pub decreases-acts::put_written : goal.decreases-acts::put_written
+decreases-acts::put_written l = 64 * expr_nodes l.item.now + 18
 
-abbrev pub decreases-chosen : goal.decreases-chosen
-decreases-chosen l = 64 * expr_nodes l.e.now + 10
+abbrev pub decreases-numbers::chosen : goal.decreases-numbers::chosen
+decreases-numbers::chosen l = 64 * expr_nodes l.e.now + 10
 
-abbrev pub decreases-unread : goal.decreases-unread
-decreases-unread l = 64 * expr_nodes l.e.now + 12
+abbrev pub decreases-numbers::unread : goal.decreases-numbers::unread
+decreases-numbers::unread l = 64 * expr_nodes l.e.now + 12
 
-abbrev pub decreases-act_first : goal.decreases-act_first
-decreases-act_first l = 64 * expr_nodes l.e.now + 32
+abbrev pub decreases-acts::act_first : goal.decreases-acts::act_first
+decreases-acts::act_first l = 64 * expr_nodes l.e.now + 32
 
-abbrev pub decreases-put_compound : goal.decreases-put_compound
-decreases-put_compound l = 64 * expr_nodes l.item.now + 19
+abbrev pub decreases-acts::put_compound : goal.decreases-acts::put_compound
+decreases-acts::put_compound l = 64 * expr_nodes l.item.now + 19
 
-abbrev pub decreases-fill : goal.decreases-fill
-decreases-fill l = 64 * body_nodes l.e.now + 41 + length l.vectors.now
+abbrev pub decreases-values::fill : goal.decreases-values::fill
+decreases-values::fill l = 64 * body_nodes l.e.now + 41 + length l.vectors.now
 
-abbrev pub decreases-reach : goal.decreases-reach
-decreases-reach l = 64 * body_nodes l.e.now + 40 + l.left
+abbrev pub decreases-values::reach : goal.decreases-values::reach
+decreases-values::reach l = 64 * body_nodes l.e.now + 40 + l.left
 
-abbrev pub decreases-run_rows : goal.decreases-run_rows
-decreases-run_rows l = 64 * body_nodes l.e.now + 38
+abbrev pub decreases-rows::run_rows : goal.decreases-rows::run_rows
+decreases-rows::run_rows l = 64 * body_nodes l.e.now + 38
 
-abbrev pub decreases-run_blocks : goal.decreases-run_blocks
-decreases-run_blocks l = 64 * body_nodes l.e.now + 37
+abbrev pub decreases-rows::run_blocks : goal.decreases-rows::run_blocks
+decreases-rows::run_blocks l = 64 * body_nodes l.e.now + 37
 
-abbrev pub decreases-run_block : goal.decreases-run_block
-decreases-run_block l = 64 * body_nodes l.e.now + 36
+abbrev pub decreases-rows::run_block : goal.decreases-rows::run_block
+decreases-rows::run_block l = 64 * body_nodes l.e.now + 36
 
-abbrev pub decreases-try_block : goal.decreases-try_block
-decreases-try_block l = 64 * body_nodes l.e.now + 35
+abbrev pub decreases-rows::try_block : goal.decreases-rows::try_block
+decreases-rows::try_block l = 64 * body_nodes l.e.now + 35
 
-abbrev pub decreases-walk_block : goal.decreases-walk_block
-decreases-walk_block l = 64 * body_nodes l.e.now + 34
+abbrev pub decreases-rows::walk_block : goal.decreases-rows::walk_block
+decreases-rows::walk_block l = 64 * body_nodes l.e.now + 34
 
-abbrev pub decreases-walk_rows : goal.decreases-walk_rows
-decreases-walk_rows l = 64 * body_nodes l.e.now + 33
+abbrev pub decreases-rows::walk_rows : goal.decreases-rows::walk_rows
+decreases-rows::walk_rows l = 64 * body_nodes l.e.now + 33
 
-abbrev pub decreases-run_row : goal.decreases-run_row
-decreases-run_row l = 64 * body_nodes l.e.now + 32
+abbrev pub decreases-rows::run_row : goal.decreases-rows::run_row
+decreases-rows::run_row l = 64 * body_nodes l.e.now + 32
 
-abbrev pub decreases-act_fields : goal.decreases-act_fields
-decreases-act_fields l = 64 * exprs_nodes (pack_exprs (drop l.number l.parts.now)) + 32
+abbrev pub decreases-acts::act_fields : goal.decreases-acts::act_fields
+decreases-acts::act_fields l = 64 * exprs_nodes (pack_exprs (drop l.number l.parts.now)) + 32
 
-abbrev pub decreases-selection : goal.decreases-selection
-decreases-selection l = 64 * expr_nodes l.e.now + 9
+abbrev pub decreases-numbers::selection : goal.decreases-numbers::selection
+decreases-numbers::selection l = 64 * expr_nodes l.e.now + 9
 
-abbrev pub decreases-value_of_both : goal.decreases-value_of_both
-decreases-value_of_both l = 64 * expr_nodes l.e.now + 7
+abbrev pub decreases-values::value_of_both : goal.decreases-values::value_of_both
+decreases-values::value_of_both l = 64 * expr_nodes l.e.now + 7
 
-abbrev pub decreases-value_of_three : goal.decreases-value_of_three
-decreases-value_of_three l = 64 * expr_nodes l.e.now + 7
+abbrev pub decreases-values::value_of_three : goal.decreases-values::value_of_three
+decreases-values::value_of_three l = 64 * expr_nodes l.e.now + 7
 
-abbrev pub decreases-value_of_many : goal.decreases-value_of_many
-decreases-value_of_many l = 64 * expr_nodes l.e.now + 7
+abbrev pub decreases-values::value_of_many : goal.decreases-values::value_of_many
+decreases-values::value_of_many l = 64 * expr_nodes l.e.now + 7
 
-abbrev pub decreases-things : goal.decreases-things
-decreases-things l = 64 * exprs_nodes (pack_exprs l.parts.now) + 15
+abbrev pub decreases-values::things : goal.decreases-values::things
+decreases-values::things l = 64 * exprs_nodes (pack_exprs l.parts.now) + 15
 
-abbrev pub decreases-value_of_iterate : goal.decreases-value_of_iterate
-decreases-value_of_iterate l = 64 * expr_nodes l.e.now + 7
+abbrev pub decreases-turns::value_of_iterate : goal.decreases-turns::value_of_iterate
+decreases-turns::value_of_iterate l = 64 * expr_nodes l.e.now + 7
 
-abbrev pub decreases-first_state : goal.decreases-first_state
-decreases-first_state l = 64 * expr_nodes l.e.now + 6
+abbrev pub decreases-turns::first_state : goal.decreases-turns::first_state
+decreases-turns::first_state l = 64 * expr_nodes l.e.now + 6
 
-abbrev pub decreases-run_turns : goal.decreases-run_turns
-decreases-run_turns l = 64 * expr_nodes l.e.now + 6
+abbrev pub decreases-turns::run_turns : goal.decreases-turns::run_turns
+decreases-turns::run_turns l = 64 * expr_nodes l.e.now + 6
 
-abbrev pub decreases-run_turn : goal.decreases-run_turn
-decreases-run_turn l = 64 * expr_nodes l.e.now + 5
+abbrev pub decreases-turns::run_turn : goal.decreases-turns::run_turn
+decreases-turns::run_turn l = 64 * expr_nodes l.e.now + 5
 
 -- the builder has come so far
 
-abbrev pub invariant-walk_rows-loop-number : goal.invariant-walk_rows-loop-number
-invariant-walk_rows-loop-number l = RangeOn l.e (env_of l.frame) (lists_of l.legs) l.from l.to (thing_of l.fn.builder) (thing_of l.own) l.number (thing_of l.builder)
+abbrev pub invariant-rows::walk_rows-loop-number : goal.invariant-rows::walk_rows-loop-number
+invariant-rows::walk_rows-loop-number l = RangeOn l.e (env_of l.frame) (lists_of l.legs) l.from l.to (thing_of l.fn.builder) (thing_of l.own) l.number (thing_of l.builder)
 
-abbrev pub invariant-run_blocks-pieces : goal.invariant-run_blocks-pieces
-invariant-run_blocks-pieces l = RangeOn l.e (env_of l.frame) (lists_of l.legs) l.from l.to (thing_of l.fn.builder) (thing_of l.own) l.reached (thing_of l.builder)
+abbrev pub invariant-rows::run_blocks-pieces : goal.invariant-rows::run_blocks-pieces
+invariant-rows::run_blocks-pieces l = RangeOn l.e (env_of l.frame) (lists_of l.legs) l.from l.to (thing_of l.fn.builder) (thing_of l.own) l.reached (thing_of l.builder)
 
-abbrev pub decreases-run_blocks-pieces : goal.decreases-run_blocks-pieces
-decreases-run_blocks-pieces l = l.to - l.reached
+abbrev pub decreases-rows::run_blocks-pieces : goal.decreases-rows::run_blocks-pieces
+decreases-rows::run_blocks-pieces l = l.to - l.reached
 
 -- the turns that are left from the state make the whole
 
-abbrev pub invariant-run_turns-loop-turn : goal.invariant-run_turns-loop-turn
-invariant-run_turns-loop-turn l = HoldsState l.e (env_of l.frame) (view_val l.state) × (turns_from l.e (env_of l.frame) turn_limit (view_val l.fn.start) ≡ turns_from l.e (env_of l.frame) (turn_limit - l._turn) (view_val l.state))
+abbrev pub invariant-turns::run_turns-loop-turn : goal.invariant-turns::run_turns-loop-turn
+invariant-turns::run_turns-loop-turn l = HoldsState l.e (env_of l.frame) (view_val l.state) × (turns_from l.e (env_of l.frame) turn_limit (view_val l.fn.start) ≡ turns_from l.e (env_of l.frame) (turn_limit - l._turn) (view_val l.state))
 
 -- what was gathered so far and what is left make the whole
 
-abbrev pub invariant-things-loop-part : goal.invariant-things-loop-part
-invariant-things-loop-part l =
+abbrev pub invariant-values::things-loop-part : goal.invariant-values::things-loop-part
+invariant-values::things-loop-part l =
     AllRun (pack_exprs (drop l.part-index l.part-items)) (env_of l.frame)
     × (eval_all (pack_exprs l.part-items) (env_of l.frame) ≡ map_out (before_things (all_of l.things.items)) (eval_all (pack_exprs (drop l.part-index l.part-items)) (env_of l.frame)))
