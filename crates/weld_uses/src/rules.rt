@@ -56,6 +56,7 @@ pub(crate) fn walk(
 }
 
 #[cycle(walk)]
+#[inline(never)]
 fn walk_one(
     one: &OneForm,
     part: &Expr,
@@ -92,6 +93,7 @@ fn walk_part(
 }
 
 #[cycle(walk)]
+#[inline(never)]
 fn walk_two(
     two: TwoForm,
     first: &Expr,
@@ -143,6 +145,7 @@ fn walk_if(
 }
 
 #[cycle(walk)]
+#[inline(never)]
 fn walk_three(
     three: ThreeForm,
     first: &Expr,
@@ -187,6 +190,7 @@ fn walk_select(
 }
 
 #[cycle(walk)]
+#[inline(never)]
 fn walk_many(
     many: ManyForm,
     parts: &Exprs,
@@ -225,6 +229,7 @@ fn walk_all(
 }
 
 #[cycle(walk)]
+#[inline(never)]
 fn walk_let(
     binder: &Binder,
     value: &Expr,
@@ -255,6 +260,7 @@ fn walk_let(
 }
 
 #[cycle(walk)]
+#[inline(never)]
 fn walk_iterate(
     state: &Expr,
     binder: &Binder,
@@ -274,6 +280,7 @@ fn walk_iterate(
 }
 
 #[cycle(walk)]
+#[inline(never)]
 fn walk_for(
     legs: &Legs,
     builder: &Expr,
