@@ -41,6 +41,7 @@ fn if_deep(levels: u32, place: Place) -> Option<Place>
 /// The first place of a node too deep in an expression for which so many levels are left. A loop goes along bodies of
 /// lets, single and first operands, so that neither a thousand lets nor a long sum takes stack.
 #[cycle(depth)]
+#[tactic(auto, using(crate::proofs::Earlier::rest_step, crate::proofs::Earlier::two_step, crate::proofs::Earlier::let_step, crate::proofs::Earlier::many_step, crate::proofs::Earlier::loop_step))]
 fn first_deep(e: &Expr, levels: u32) -> Option<Place>
     ensures { result ≡ depth.first_deep levels e.now }
 {
@@ -66,7 +67,10 @@ fn first_deep(e: &Expr, levels: u32) -> Option<Place>
             }
             Form::Leaf(_) => return found,
             Form::Iterate(state, _, body) => {
-                return earlier(found, earlier(first_deep(state, below), first_deep(body, below)));
+                return earlier(
+                    found,
+                    earlier(first_deep(state, below), first_deep(body, below)),
+                );
             }
             Form::Three(_, first, second, third) => {
                 let last = earlier(first_deep(second, below), first_deep(third, below));

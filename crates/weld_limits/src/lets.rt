@@ -33,7 +33,9 @@ fn lets_of(e: &Expr) -> u64
             }
             Form::Leaf(_) => return count,
             Form::Iterate(state, _, body) => {
-                return count.saturating_add(lets_of(state)).saturating_add(lets_of(body));
+                return count
+                    .saturating_add(lets_of(state))
+                    .saturating_add(lets_of(body));
             }
             Form::Three(_, first, second, third) => {
                 let last = lets_of(second).saturating_add(lets_of(third));
@@ -42,7 +44,9 @@ fn lets_of(e: &Expr) -> u64
             Form::Many(_, parts) => return count.saturating_add(lets_in(parts)),
             Form::For(legs, builder, _, _, _, body) => {
                 let last = lets_of(builder).saturating_add(lets_of(body));
-                return count.saturating_add(lets_in_legs(legs)).saturating_add(last);
+                return count
+                    .saturating_add(lets_in_legs(legs))
+                    .saturating_add(last);
             }
         }
     }
