@@ -106,24 +106,27 @@ impl<'a> Scope<'a> {
         let mut scope = self;
         while let Some((bound, source, seen, rest, far)) = scope.newest {
             if name.0 == bound.0 {
-                return match source {
-                    Some(source) => source.copy(alloc),
-                    None => Ok(Source::value()),
-                };
+                return copied(source, alloc);
             }
+            let beyond = name.0 < scope.low || scope.high < name.0;
             match seen {
-                Seen::Same => {
-                    scope = if name.0 < scope.low || scope.high < name.0 {
-                        far
-                    } else {
-                        rest
-                    };
-                }
                 Seen::Outside => return rest.origin_of(name, alloc)?.from_within(alloc),
                 Seen::ByName => return rest.origin_of(name, alloc)?.paths_of(name, alloc),
+                Seen::Same => {}
             }
+            scope = if beyond { far } else { rest };
         }
         Ok(Source::value())
+    }
+}
+
+/// A copy of the origin, if there is one, else that of a value.
+fn copied(source: Option<&Source>, alloc: Global) -> Result<Source, AllocError>
+    ensures { IfOk result (λ o. o ≡ origin_in source.entry) }
+{
+    match source {
+        Some(source) => source.copy(alloc),
+        None => Ok(Source::value()),
     }
 }
 

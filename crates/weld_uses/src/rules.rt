@@ -56,7 +56,6 @@ pub(crate) fn walk(
 }
 
 #[cycle(walk)]
-#[inline(never)]
 fn walk_one(
     one: &OneForm,
     part: &Expr,
@@ -93,7 +92,6 @@ fn walk_part(
 }
 
 #[cycle(walk)]
-#[inline(never)]
 fn walk_two(
     two: TwoForm,
     first: &Expr,
@@ -145,7 +143,6 @@ fn walk_if(
 }
 
 #[cycle(walk)]
-#[inline(never)]
 fn walk_three(
     three: ThreeForm,
     first: &Expr,
@@ -190,7 +187,6 @@ fn walk_select(
 }
 
 #[cycle(walk)]
-#[inline(never)]
 fn walk_many(
     many: ManyForm,
     parts: &Exprs,
@@ -229,7 +225,6 @@ fn walk_all(
 }
 
 #[cycle(walk)]
-#[inline(never)]
 fn walk_let(
     binder: &Binder,
     value: &Expr,
@@ -260,7 +255,6 @@ fn walk_let(
 }
 
 #[cycle(walk)]
-#[inline(never)]
 fn walk_iterate(
     state: &Expr,
     binder: &Binder,
@@ -280,7 +274,6 @@ fn walk_iterate(
 }
 
 #[cycle(walk)]
-#[inline(never)]
 fn walk_for(
     legs: &Legs,
     builder: &Expr,

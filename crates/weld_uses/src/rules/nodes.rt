@@ -41,7 +41,6 @@ pub(super) fn use_leaf(
 }
 
 /// A name followed by field accesses: its builders are of within the lambda and are left, and are taken.
-#[inline(never)]
 pub(super) fn use_chain(
     chain: &Builder,
     place: Place,
@@ -166,7 +165,6 @@ pub(super) fn own_builder(
 }
 
 /// The origin, by the names before a `let`, of what its body answers by these and the one that is bound.
-#[inline(never)]
 pub(super) fn named_before(
     answer: &Source,
     name: Sym,
