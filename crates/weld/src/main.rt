@@ -28,9 +28,23 @@ fn read_words(rt: &(impl Env + AllocGlobal)) -> Result<Vec<String>, AllocError> 
     Ok(words)
 }
 
-/// The bytes of stack that a job is given: many times what the deepest jobs that were tried took. Only what is used of it takes
-/// memory.
+/// The bytes of stack that a job which runs is given: many times what the deepest jobs that were tried took. Only what is
+/// used of it takes memory.
 const STACK: usize = 256 << 20;
+
+/// Whether the first word asks for a check alone. That is as deep as the limits on texts let it be.
+fn is_check(rt: &(impl Env + AllocGlobal)) -> bool {
+    match env::args(rt) {
+        Ok(args) => {
+            let mut words = args.skip(1);
+            match words.next() {
+                Some(word) => word.as_str() == "check",
+                None => false,
+            }
+        }
+        Err(_) => false,
+    }
+}
 
 /// The status of the job that the words and the standard input are.
 fn answer<R: Threads + Sync + Env + Input + Print + AllocGlobal>(rt: &R) -> Status {
@@ -49,9 +63,13 @@ fn answer<R: Threads + Sync + Env + Input + Print + AllocGlobal>(rt: &R) -> Stat
     }
 }
 
-/// The job has a thread of its own, whose stack doesn't depend on what the system gives the program; it has the program's own
-/// stack where no such thread can be made.
+/// A job that may run has a thread of its own, whose stack doesn't depend on what the system gives the program; it has the
+/// program's own stack where no such thread can be made. A check has the program's own stack, and so its own memory, which
+/// the system hands out in larger parts than a thread's.
 fn main(rt: HostRuntime) -> ExitCode {
+    if is_check(&rt) {
+        return ExitCode::from(answer(&rt).exit());
+    }
     let status = match Builder::new()
         .stack_size(STACK)
         .spawn(&rt, move || answer(&rt))

@@ -2,3 +2,4 @@ pub mod Begun
 pub mod Made
 pub mod Ranks
 pub mod Tokens
+pub mod AtOnce

@@ -6,6 +6,7 @@ pub mod derivation;
 pub mod entry;
 pub mod lead;
 pub mod machine;
+pub mod operand;
 pub mod stack;
 pub mod starts;
 pub mod step;

@@ -7,6 +7,7 @@ ghost use Rattle.weld_grammar.specs.Pending.{depth, behind, first_begun as first
 ghost use Rattle.weld_accept.specs.Machine.{items_of, Moves, Opens};
 
 use crate::entry::Entry;
+use crate::operand::{operand, plain};
 use crate::stack::Stack;
 use crate::starts::begins;
 use crate::step::Step;
@@ -79,6 +80,24 @@ fn open(item: Item, class: Class, stack: &mut Stack, steps: &mut Steps) -> Resul
     }
 }
 
+/// The same, at once where a name or a number begins what it mostly begins.
+fn begin(item: Item, class: Class, stack: &mut Stack, steps: &mut Steps) -> Result<(), AllocError>
+    requires { IsTrue (begins_class item class) }
+    ensures pending { OnOk result (items_of stack.new
+        ≡ behind depth (one_item item) class (items_of stack.old)) }
+    ensures opened { OnOk result (Opens item class stack.old steps.old stack.new steps.new) }
+{
+    if let Item::Part(rule) = item {
+        if let Some(terminal) = plain(class) {
+            if let Some(entries) = operand(rule) {
+                stack.extend(entries)?;
+                return steps.push(Step::Shift(terminal));
+            }
+        }
+    }
+    open(item, class, stack, steps)
+}
+
 /// Uses one token up: ends the rules that end before it, and opens the first pending item that a token of
 /// the class may begin, where all before it can be empty. False where there is none.
 pub fn step(stack: &mut Stack, steps: &mut Steps, class: Class) -> Result<bool, AllocError>
@@ -93,7 +112,7 @@ pub fn step(stack: &mut Stack, steps: &mut Steps, class: Class) -> Result<bool, 
             Entry::End(rule) => steps.push(Step::Reduce(rule))?,
             Entry::Due(item) => {
                 if begins(item, class) {
-                    open(item, class, stack, steps)?;
+                    begin(item, class, stack, steps)?;
                     return Ok(true);
                 }
                 if !nullable(item) {

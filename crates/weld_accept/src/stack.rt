@@ -1,4 +1,4 @@
-ghost use Rattle.std.specs.Prelude.{◌≡◌, ◌∷◌, [], ◌++◌, MatchOption, OnOk};
+ghost use Rattle.std.specs.Prelude.{◌≡◌, ◌∷◌, [], ◌++◌, reverse, MatchOption, OnOk};
 ghost use Rattle.weld_accept.specs.Machine.{due};
 
 use crate::entry::Entry;
@@ -44,6 +44,13 @@ impl Stack {
         ensures { MatchOption result (self.old ≡ []) (λ entry. self.old ≡ entry ∷ self.new) }
     {
         self.entries.pop()
+    }
+
+    /// Puts these entries in front of all, the last of them first.
+    pub fn extend(&mut self, entries: &[Entry]) -> Result<(), AllocError>
+        ensures { OnOk result (self.new ≡ reverse entries.now ++ self.old) }
+    {
+        self.entries.extend_from_slice(entries)
     }
 
     /// Puts these items in front of all, in this order.

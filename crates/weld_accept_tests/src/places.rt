@@ -1,9 +1,8 @@
 use crate::breaks::first_break;
 use std::alloc::{AllocError, Global};
 use std::test::Fail;
-use weld_data::Text;
 use weld_grammar::Rule;
-use weld_terminals::{Class, Reserved, Symbol, Token};
+use weld_terminals::{Class, Reserved, Symbol, Token, Word};
 use weld_tree::Place;
 
 /// The tokens of these classes.
@@ -12,7 +11,7 @@ pub(crate) fn tokens_of(alloc: Global, classes: &[Class]) -> Result<Vec<Token>, 
     for class in classes {
         tokens.push(Token {
             class: *class,
-            word: Text::new(alloc),
+            word: Word::copy_of(alloc, b"")?,
             place: Place { line: 1, column: 1 },
         })?;
     }

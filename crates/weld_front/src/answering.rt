@@ -12,7 +12,8 @@ use crate::running::answer_run;
 use crate::scripting::{answer_session, answer_soak};
 use crate::showing::answer_show;
 use std::alloc::{AllocError, Global};
-use std::thread::Threads;
+use std::snapshot::Snapshot;
+use std::thread::{Builder, Promise, Threads};
 use weld_job::{Job, JobFault, read_job};
 use weld_ports::{Gate, Source};
 use weld_tree::{Code, Refusal};
@@ -28,22 +29,69 @@ fn answer_check(alloc: Global, job: &Job) -> Result<Answer, AllocError>
     }
 }
 
+/// The bytes of stack for the check of a program of many lets.
+const STACK: usize = 64 << 20;
+
+/// A thread that checks promises what `check` answers to the job.
+#[derive(Drop)]
+struct Checks(Snapshot<Job>);
+
+impl Promise<Result<Answer, AllocError>> for Checks {
+    ghost use Rattle.std.specs.Prelude.{IfOk};
+    ghost use Rattle.weld_front.specs.Answer.{CheckAnswers};
+
+    ghost kept_by = { λ p r. IfOk r (λ answer. CheckAnswers p.0.value answer.status answer.text) };
+}
+
+/// Whether the text may have more lets, one in the body of another, than any program's own stack has room for: some
+/// take stack by the kilobyte. Each has a semicolon.
+fn may_be_deep(text: &[u8]) -> bool {
+    let mut lets = 0u32;
+    for byte in text {
+        if *byte == b';' {
+            if lets == 256 {
+                return true;
+            }
+            lets += 1;
+        }
+    }
+    false
+}
+
+/// What `check` answers to a job that isn't too long, found on a stack of its own where the program's may be too small.
+fn check_job<R: Threads + Sync>(rt: &R, alloc: Global, job: Job) -> Result<Answer, AllocError>
+    ensures { IfOk result (λ answer. CheckAnswers job answer.status answer.text) }
+{
+    if !may_be_deep(job.text()) {
+        return answer_check(alloc, &job);
+    }
+    let promise = Checks(Snapshot::of(&job));
+    let check = move || answer_check(alloc, &job);
+    match Builder::new().stack_size(STACK).spawn_with(rt, promise, check) {
+        Ok(thread) => thread.join(rt),
+        Err(unstarted) => {
+            let check = unstarted.value;
+            check()
+        }
+    }
+}
+
 /// The answer to a job that isn't too long.
 fn answer_parts<R: Threads + Sync, G: Gate>(
     rt: &R,
     alloc: Global,
-    job: &Job,
+    job: Job,
     asked: Asked,
     gate: &G,
 ) -> Result<Answer, AllocError>
     requires { reads_a_job asked.options.command ≡ true }
-    ensures { IfOk result (λ answer. AnswersParts asked.options job.now answer.status answer.text) }
+    ensures { IfOk result (λ answer. AnswersParts asked.options job answer.status answer.text) }
 {
     match asked.options.command {
-        Command::Run => answer_run(rt, alloc, job, asked, gate),
-        Command::Check => answer_check(alloc, job),
-        Command::Show => answer_show(alloc, job),
-        Command::Session => answer_session(rt, alloc, job, asked, gate),
+        Command::Run => answer_run(rt, alloc, &job, asked, gate),
+        Command::Check => check_job(rt, alloc, job),
+        Command::Show => answer_show(alloc, &job),
+        Command::Session => answer_session(rt, alloc, &job, asked, gate),
         Command::Soak => unreachable!(),
     }
 }
@@ -67,7 +115,7 @@ fn read_answer<R: Threads + Sync, S: Source, G: Gate>(
     ensures never_falls { S.faults input.old ≤ S.faults input.new }
 {
     match read_job(alloc, input) {
-        Ok(job) => match answer_parts(rt, alloc, &job, asked, gate) {
+        Ok(job) => match answer_parts(rt, alloc, job, asked, gate) {
             Ok(answer) => Ok(answer),
             Err(_) => Err(NoAnswer::Memory),
         },

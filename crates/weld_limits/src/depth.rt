@@ -38,28 +38,49 @@ fn if_deep(levels: u32, place: Place) -> Option<Place>
     if levels == 0 { Some(place) } else { None }
 }
 
-/// The first place of a node too deep in an expression for which so many levels are left.
+/// The first place of a node too deep in an expression for which so many levels are left. A loop goes along bodies of
+/// lets, single and first operands, so that neither a thousand lets nor a long sum takes stack.
 #[cycle(depth)]
+#[tactic(auto, using(crate::proofs::Earlier::rest_step, crate::proofs::Earlier::two_step, crate::proofs::Earlier::let_step, crate::proofs::Earlier::many_step, crate::proofs::Earlier::loop_step))]
 fn first_deep(e: &Expr, levels: u32) -> Option<Place>
     ensures { result ≡ depth.first_deep levels e.now }
 {
-    let own = if_deep(levels, e.place);
-    let below = levels.saturating_sub(1);
-    match &e.form {
-        Form::Leaf(_) => own,
-        Form::One(_, e) => earlier(own, first_deep(e, below)),
-        Form::Two(_, e, f) | Form::Iterate(e, _, f) => {
-            earlier(own, earlier(first_deep(e, below), first_deep(f, below)))
-        }
-        Form::Let(_, e, f) => earlier(own, earlier(first_deep(e, below), first_deep(f, levels))),
-        Form::Three(_, e, f, g) => {
-            let last = earlier(first_deep(f, below), first_deep(g, below));
-            earlier(own, earlier(first_deep(e, below), last))
-        }
-        Form::Many(_, es) => first_deep_in(es, below, own),
-        Form::For(legs, builder, _, _, _, body) => {
-            let last = earlier(first_deep(builder, below), first_deep(body, below));
-            earlier(first_deep_in_legs(legs, below, own), last)
+    let mut found = None;
+    let mut rest = e;
+    let mut left = levels;
+    loop {
+        found = earlier(found, if_deep(left, rest.place));
+        let below = left.saturating_sub(1);
+        match &rest.form {
+            Form::One(_, part) => {
+                rest = part;
+                left = below;
+            }
+            Form::Two(_, first, second) => {
+                found = earlier(found, first_deep(second, below));
+                rest = first;
+                left = below;
+            }
+            Form::Let(_, value, body) => {
+                found = earlier(found, first_deep(value, below));
+                rest = body;
+            }
+            Form::Leaf(_) => return found,
+            Form::Iterate(state, _, body) => {
+                return earlier(
+                    found,
+                    earlier(first_deep(state, below), first_deep(body, below)),
+                );
+            }
+            Form::Three(_, first, second, third) => {
+                let last = earlier(first_deep(second, below), first_deep(third, below));
+                return earlier(found, earlier(first_deep(first, below), last));
+            }
+            Form::Many(_, parts) => return first_deep_in(parts, below, found),
+            Form::For(legs, builder, _, _, _, body) => {
+                let last = earlier(first_deep(builder, below), first_deep(body, below));
+                return earlier(first_deep_in_legs(legs, below, found), last);
+            }
         }
     }
 }

@@ -12,23 +12,43 @@ pub fn has_too_many_lets(e: &Expr) -> bool
     lets_of(e) > 1_024
 }
 
-/// How many `let` nodes stand in the expression, or the greatest u64 where that is less.
+/// How many `let` nodes stand in the expression, or the greatest u64 where that is less. A loop goes along bodies of lets,
+/// single and first operands.
 #[cycle(lets)]
 fn lets_of(e: &Expr) -> u64
     ensures { result ≡ min (lets.lets e.now) u64.MAX }
 {
-    match &e.form {
-        Form::Leaf(_) => 0,
-        Form::One(_, e) => lets_of(e),
-        Form::Two(_, e, f) | Form::Iterate(e, _, f) => lets_of(e).saturating_add(lets_of(f)),
-        Form::Let(_, e, f) => lets_of(e).saturating_add(lets_of(f)).saturating_add(1),
-        Form::Three(_, e, f, g) => lets_of(e)
-            .saturating_add(lets_of(f))
-            .saturating_add(lets_of(g)),
-        Form::Many(_, es) => lets_in(es),
-        Form::For(legs, builder, _, _, _, body) => lets_in_legs(legs)
-            .saturating_add(lets_of(builder))
-            .saturating_add(lets_of(body)),
+    let mut count = 0u64;
+    let mut rest = e;
+    loop {
+        match &rest.form {
+            Form::One(_, part) => rest = part,
+            Form::Two(_, first, second) => {
+                count = count.saturating_add(lets_of(second));
+                rest = first;
+            }
+            Form::Let(_, value, body) => {
+                count = count.saturating_add(1).saturating_add(lets_of(value));
+                rest = body;
+            }
+            Form::Leaf(_) => return count,
+            Form::Iterate(state, _, body) => {
+                return count
+                    .saturating_add(lets_of(state))
+                    .saturating_add(lets_of(body));
+            }
+            Form::Three(_, first, second, third) => {
+                let last = lets_of(second).saturating_add(lets_of(third));
+                return count.saturating_add(lets_of(first)).saturating_add(last);
+            }
+            Form::Many(_, parts) => return count.saturating_add(lets_in(parts)),
+            Form::For(legs, builder, _, _, _, body) => {
+                let last = lets_of(builder).saturating_add(lets_of(body));
+                return count
+                    .saturating_add(lets_in_legs(legs))
+                    .saturating_add(last);
+            }
+        }
     }
 }
 

@@ -103,28 +103,30 @@ impl<'a> Scope<'a> {
     pub fn origin_of(&self, name: Sym, alloc: Global) -> Result<Source, AllocError>
         ensures { IfOk result (λ o. o ≡ origin_of_name name.0 self.now) }
     {
-        match self.newest {
-            None => Ok(Source::value()),
-            Some((bound, source, seen, rest, far)) => {
-                if name.0 == bound.0 {
-                    return match source {
-                        Some(source) => source.copy(alloc),
-                        None => Ok(Source::value()),
-                    };
-                }
-                match seen {
-                    Seen::Same => {
-                        if name.0 < self.low || self.high < name.0 {
-                            far.origin_of(name, alloc)
-                        } else {
-                            rest.origin_of(name, alloc)
-                        }
-                    }
-                    Seen::Outside => rest.origin_of(name, alloc)?.from_within(alloc),
-                    Seen::ByName => rest.origin_of(name, alloc)?.paths_of(name, alloc),
-                }
+        let mut scope = self;
+        while let Some((bound, source, seen, rest, far)) = scope.newest {
+            if name.0 == bound.0 {
+                return copied(source, alloc);
             }
+            let beyond = name.0 < scope.low || scope.high < name.0;
+            match seen {
+                Seen::Outside => return rest.origin_of(name, alloc)?.from_within(alloc),
+                Seen::ByName => return rest.origin_of(name, alloc)?.paths_of(name, alloc),
+                Seen::Same => {}
+            }
+            scope = if beyond { far } else { rest };
         }
+        Ok(Source::value())
+    }
+}
+
+/// A copy of the origin, if there is one, else that of a value.
+fn copied(source: Option<&Source>, alloc: Global) -> Result<Source, AllocError>
+    ensures { IfOk result (λ o. o ≡ origin_in source.entry) }
+{
+    match source {
+        Some(source) => source.copy(alloc),
+        None => Ok(Source::value()),
     }
 }
 

@@ -1,2 +1,3 @@
 pub mod Symbols
 pub mod ReservedWords
+pub mod Words

@@ -6,8 +6,8 @@ use crate::place::place_after;
 use crate::scan::gap_len;
 use crate::token_at::token_at;
 use std::alloc::{AllocError, Global};
-use weld_data::{Items, Text};
-use weld_terminals::{Class, Token};
+use weld_data::Items;
+use weld_terminals::{Class, Token, Word};
 use weld_tree::{Code, Place, Refusal};
 
 /// A list of tokens.
@@ -33,7 +33,7 @@ pub fn class_of(word: &[u8]) -> Option<Class>
 fn token_of(alloc: Global, class: Class, word: &[u8], place: Place) -> Result<Token, AllocError>
     ensures { IfOk result (λ token. (token.class ≡ class) × (token.word ≡ word.now) × (token.place ≡ place)) }
 {
-    let word = Text::copy_of(alloc, word)?;
+    let word = Word::copy_of(alloc, word)?;
     Ok(Token { class, word, place })
 }
 

@@ -86,17 +86,17 @@ impl<'a> Scope<'a> {
     pub fn type_of(&self, name: Sym) -> Option<&Ty>
         ensures { MatchOption result (look_for name.0 self.now ≡ None) (λ t. look_for name.0 self.now ≡ Some t.now) }
     {
-        match self.newest {
-            None => None,
-            Some((bound, ty, rest, far)) => {
-                if bound.0 == name.0 {
-                    Some(ty)
-                } else if name.0 < self.low || self.high < name.0 {
-                    far.type_of(name)
-                } else {
-                    rest.type_of(name)
-                }
+        let mut scope = self;
+        while let Some((bound, ty, rest, far)) = scope.newest {
+            if bound.0 == name.0 {
+                return Some(ty);
             }
+            scope = if name.0 < scope.low || scope.high < name.0 {
+                far
+            } else {
+                rest
+            };
         }
+        None
     }
 }

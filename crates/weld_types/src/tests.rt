@@ -6,7 +6,7 @@ ghost use Rattle.weld_tree.specs.TypeTree.{scalar};
 ghost use Rattle.weld_meaning.specs.Typing.{truth_type, place_type};
 
 use weld_data::Kind;
-use weld_tree::{BuildTy, Ty};
+use weld_tree::{BuildTy, Ty, TyForm};
 
 /// Whether the two are one type.
 pub(crate) fn same(ty: &Ty, other: &Ty) -> bool
@@ -57,6 +57,10 @@ pub(crate) fn is_well_formed_build(build: &BuildTy) -> bool
 pub(crate) fn is_within_limits(ty: &Ty) -> bool
     ensures { result ≡ is_within_limits ty.now }
 {
+    // (most types are scalars, whose depth and nodes needn't be counted)
+    if let TyForm::Scalar(_) = &ty.form {
+        return true;
+    }
     ty.is_within_limits()
 }
 
