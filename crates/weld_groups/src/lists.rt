@@ -1,8 +1,7 @@
-//! Lists by keys in std's ordered map.
+//! Lists by keys in a hashed map.
 
 ghost use Rattle.std.specs.Prelude.{◌≡◌, ◌∷◌, [], OnOk, OnErr};
 ghost use Rattle.std.specs.Map.{values_of};
-ghost use Rattle.std.specs.BTreeMap.{IsOrdered};
 ghost use Rattle.weld_data.specs.View.{view_val};
 ghost use Rattle.weld_builders.specs.Part.{appended};
 ghost use Rattle.weld_pieces.specs.Items.{items_of_list, kind_of_items};
@@ -10,22 +9,24 @@ ghost use Rattle.weld_pieces.specs.Kept.{IsKeptAs};
 ghost use Rattle.weld_pieces.specs.Keyed.{entry_with, entries_with};
 ghost use Rattle.weld_groups.specs.Groups.{lists_in, AreListsOf};
 
+use indexmap::IndexMap;
 use std::alloc::{AllocError, Global};
-use std::collections::BTreeMap;
+use std::hash::Hash;
+use std::mem::swap;
 use weld_data::{Kind, Val};
 use weld_pieces::ListPart;
 
 /// Appends an item to the list at a key. Where memory is wanting, the map stays as it was.
-pub(crate) fn push_at<K: Ord + Drop>(
+pub(crate) fn push_at<K: Eq + Hash + Drop>(
     alloc: Global,
-    map: &mut BTreeMap<K, ListPart>,
+    map: &mut IndexMap<K, ListPart>,
     kind: Option<Kind>,
     key: K,
     item: Val,
 ) -> Result<(), AllocError>
     requires lists { AreListsOf kind (values_of map.old.entries) }
     requires item { IsKeptAs kind (view_val item) }
-    ensures ok { OnOk result (lists_in map.new.entries ≡ entry_with K.cmp appended (lists_in map.old.entries) key (view_val item ∷ [])) }
+    ensures ok { OnOk result (lists_in map.new.entries ≡ entry_with K.eq appended (lists_in map.old.entries) key (view_val item ∷ [])) }
     ensures err { OnErr result (lists_in map.new.entries ≡ lists_in map.old.entries) }
     ensures lists { AreListsOf kind (values_of map.new.entries) }
 {
@@ -42,15 +43,15 @@ pub(crate) fn push_at<K: Ord + Drop>(
 
 /// Appends the items of a later list to the list at a key. Where memory is wanting, the map stays as
 /// it was.
-pub(crate) fn append_at<K: Ord + Drop>(
-    map: &mut BTreeMap<K, ListPart>,
+pub(crate) fn append_at<K: Eq + Hash + Drop>(
+    map: &mut IndexMap<K, ListPart>,
     kind: Option<Kind>,
     key: K,
     later: ListPart,
 ) -> Result<(), AllocError>
     requires lists { AreListsOf kind (values_of map.old.entries) }
     requires later { kind_of_items later ≡ kind }
-    ensures ok { OnOk result (lists_in map.new.entries ≡ entry_with K.cmp appended (lists_in map.old.entries) key (items_of_list later)) }
+    ensures ok { OnOk result (lists_in map.new.entries ≡ entry_with K.eq appended (lists_in map.old.entries) key (items_of_list later)) }
     ensures err { OnErr result (lists_in map.new.entries ≡ lists_in map.old.entries) }
     ensures lists { AreListsOf kind (values_of map.new.entries) }
 {
@@ -64,17 +65,21 @@ pub(crate) fn append_at<K: Ord + Drop>(
 }
 
 /// Appends the lists of a later map at their keys.
-pub(crate) fn append_all<K: Ord + Drop>(
-    map: &mut BTreeMap<K, ListPart>,
+pub(crate) fn append_all<K: Eq + Hash + Drop>(
+    map: &mut IndexMap<K, ListPart>,
     kind: Option<Kind>,
-    later: BTreeMap<K, ListPart>,
+    later: IndexMap<K, ListPart>,
 ) -> Result<(), AllocError>
     requires lists { AreListsOf kind (values_of map.old.entries) }
     requires later { AreListsOf kind (values_of later.entries) }
-    ensures ok { OnOk result (lists_in map.new.entries ≡ entries_with K.cmp appended (lists_in map.old.entries) (lists_in later.entries)) }
+    ensures ok { OnOk result (lists_in map.new.entries ≡ entries_with K.eq appended (lists_in map.old.entries) (lists_in later.entries)) }
     ensures lists { AreListsOf kind (values_of map.new.entries) }
-    ensures keys { IsOrdered K.cmp later }
 {
+    let mut later = later;
+    if map.is_empty() {
+        swap(map, &mut later);
+        return Ok(());
+    }
     for (key, list) in later {
         append_at(map, kind, key, list)?;
     }

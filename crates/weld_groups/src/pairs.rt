@@ -10,17 +10,18 @@ ghost use Rattle.weld_builders.specs.Range.{AllInRange};
 ghost use Rattle.weld_pieces.specs.Keyed.{map_of, itself, KeysAreKept, HasOneKeyType, shown};
 ghost use Rattle.weld_groups.specs.Groups.{lists_in, list_value};
 
+use indexmap::IndexMap;
 use std::alloc::{AllocError, Global};
-use std::collections::BTreeMap;
 use weld_data::{Kind, Num, Pair, Pairs, Val};
 use weld_pieces::ListPart;
 use weld_pieces::key::Key;
+use weld_pieces::key_map::in_order;
 
 /// The dictionary of lists at keys that are numbers.
 fn number_pairs(
     alloc: Global,
     key_kind: Kind,
-    map: BTreeMap<i64, ListPart>,
+    map: IndexMap<i64, ListPart>,
 ) -> Result<Pairs, AllocError>
     requires { AllInRange key_kind (keys_of map.entries) }
     ensures { IfOk result (λ pairs. pairs ≡ shown (number key_kind) list_value (lists_in map.entries)) }
@@ -36,7 +37,7 @@ fn number_pairs(
 }
 
 /// The dictionary of lists at keys that are kept as values.
-fn value_pairs(alloc: Global, map: BTreeMap<Key, ListPart>) -> Result<Pairs, AllocError>
+fn value_pairs(alloc: Global, map: IndexMap<Key, ListPart>) -> Result<Pairs, AllocError>
     requires kept { KeysAreKept None (map_of itself (lists_in map.entries)) }
     requires one_type { HasOneKeyType (map_of itself (lists_in map.entries)) }
     ensures { IfOk result (λ pairs. pairs ≡ shown itself list_value (lists_in map.entries)) }
@@ -55,22 +56,22 @@ fn value_pairs(alloc: Global, map: BTreeMap<Key, ListPart>) -> Result<Pairs, All
 pub(crate) fn kept_pairs(
     alloc: Global,
     key_kind: Kind,
-    map: BTreeMap<i64, ListPart>,
+    map: IndexMap<i64, ListPart>,
 ) -> Result<Pairs, AllocError>
     requires { KeysAreKept (Some key_kind) (map_of (number key_kind) (lists_in map.entries)) }
     ensures { IfOk result (λ pairs. pairs ≡ shown itself list_value (finite.entries (map_of (number key_kind) (lists_in map.entries)))) }
 {
-    let _count = map.len();
+    let map = in_order(map)?;
     number_pairs(alloc, key_kind, map)
 }
 
 /// The same of keys that are kept as values, as the map of them shows.
-pub(crate) fn plain_pairs(alloc: Global, map: BTreeMap<Key, ListPart>) -> Result<Pairs, AllocError>
+pub(crate) fn plain_pairs(alloc: Global, map: IndexMap<Key, ListPart>) -> Result<Pairs, AllocError>
     requires kept { KeysAreKept None (map_of itself (lists_in map.entries)) }
     requires one_type { HasOneKeyType (map_of itself (lists_in map.entries)) }
     ensures { IfOk result (λ pairs. pairs ≡ shown itself list_value (finite.entries (map_of itself (lists_in map.entries)))) }
 {
-    let _count = map.len();
+    let map = in_order(map)?;
     value_pairs(alloc, map)
 }
 

@@ -10,8 +10,9 @@ ghost use Rattle.weld_builders.specs.Range.{AllInRange};
 ghost use Rattle.weld_pieces.specs.Keyed.{map_of, itself, KeysAreKept, HasOneKeyType, shown};
 
 use crate::key::Key;
+use crate::key_map::in_order;
+use indexmap::IndexMap;
 use std::alloc::{AllocError, Global};
-use std::collections::BTreeMap;
 use weld_data::{Kind, Num, Pair, Pairs, Val};
 
 /// The dictionary of numbers at keys that are numbers.
@@ -19,7 +20,7 @@ fn number_pairs(
     alloc: Global,
     key_kind: Kind,
     kind: Kind,
-    map: BTreeMap<i64, i128>,
+    map: IndexMap<i64, i128>,
 ) -> Result<Pairs, AllocError>
     requires keys { AllInRange key_kind (keys_of map.entries) }
     requires values { AllInRange kind (values_of map.entries) }
@@ -36,7 +37,7 @@ fn number_pairs(
 }
 
 /// The dictionary of numbers at keys that are kept as values.
-fn value_pairs(alloc: Global, kind: Kind, map: BTreeMap<Key, i128>) -> Result<Pairs, AllocError>
+fn value_pairs(alloc: Global, kind: Kind, map: IndexMap<Key, i128>) -> Result<Pairs, AllocError>
     requires kept { KeysAreKept None (map_of itself map.entries) }
     requires one_type { HasOneKeyType (map_of itself map.entries) }
     requires values { AllInRange kind (values_of map.entries) }
@@ -57,13 +58,13 @@ pub(crate) fn kept_pairs(
     alloc: Global,
     key_kind: Kind,
     kind: Kind,
-    map: BTreeMap<i64, i128>,
+    map: IndexMap<i64, i128>,
 ) -> Result<Pairs, AllocError>
     requires keys { KeysAreKept (Some key_kind) (map_of (number key_kind) map.entries) }
     requires values { AllInRange kind (values_of map.entries) }
     ensures { IfOk result (λ pairs. pairs ≡ shown itself (number kind) (finite.entries (map_of (number key_kind) map.entries))) }
 {
-    let _count = map.len();
+    let map = in_order(map)?;
     number_pairs(alloc, key_kind, kind, map)
 }
 
@@ -71,14 +72,14 @@ pub(crate) fn kept_pairs(
 pub(crate) fn plain_pairs(
     alloc: Global,
     kind: Kind,
-    map: BTreeMap<Key, i128>,
+    map: IndexMap<Key, i128>,
 ) -> Result<Pairs, AllocError>
     requires kept { KeysAreKept None (map_of itself map.entries) }
     requires one_type { HasOneKeyType (map_of itself map.entries) }
     requires values { AllInRange kind (values_of map.entries) }
     ensures { IfOk result (λ pairs. pairs ≡ shown itself (number kind) (finite.entries (map_of itself map.entries))) }
 {
-    let _count = map.len();
+    let map = in_order(map)?;
     value_pairs(alloc, kind, map)
 }
 
