@@ -10,7 +10,8 @@ ghost use Rattle.weld_pieces.specs.Items.{items_of_list, kind_of_items};
 ghost use Rattle.weld_pieces.specs.Kept.{IsKeptAs};
 ghost use Rattle.weld_pieces.specs.Keyed.{map_of, itself, by_value, merged_from, CanKeep, KeysAreKept};
 ghost use Rattle.weld_groups.specs.Groups.{lists_in, CanKeepEach};
-ghost use Rattle.weld_groups.specs.GroupsView.{kind_of_keys, groups_in, all_lists, AreGroupsOf};
+ghost use Rattle.weld_pieces.specs.KeyMapView.{kind_of_keys};
+ghost use Rattle.weld_groups.specs.GroupsView.{groups_in, all_lists, AreGroupsOf};
 
 use crate::lists::{append_all, append_at, push_at};
 use crate::pairs::{kept_pairs, number_of, plain_pairs};
@@ -39,7 +40,8 @@ impl Model for GroupsPart {
 
     ghost coded = { coded_groups };
 
-    ghost use Rattle.weld_groups.specs.GroupsView.{kind_of_keys, groups_in, AreGroupsOf};
+    ghost use Rattle.weld_pieces.specs.KeyMapView.{kind_of_keys};
+    ghost use Rattle.weld_groups.specs.GroupsView.{groups_in, AreGroupsOf};
 
     ghost view = { λ g. record { key = kind_of_keys g.map; items = g.items; groups = groups_in g.map } };
 

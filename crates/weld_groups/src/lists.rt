@@ -6,13 +6,13 @@ ghost use Rattle.weld_data.specs.View.{view_val};
 ghost use Rattle.weld_builders.specs.Part.{appended};
 ghost use Rattle.weld_pieces.specs.Items.{items_of_list, kind_of_items};
 ghost use Rattle.weld_pieces.specs.Kept.{IsKeptAs};
-ghost use Rattle.weld_pieces.specs.Keyed.{entry_with, entries_with};
+ghost use Rattle.weld_pieces.specs.Keyed.{entry_with, entries_with, JoinsAs};
 ghost use Rattle.weld_groups.specs.Groups.{lists_in, AreListsOf};
 
 use indexmap::IndexMap;
+use indexmap::map::Entry;
 use std::alloc::{AllocError, Global};
 use std::hash::Hash;
-use std::mem::swap;
 use weld_data::{Kind, Val};
 use weld_pieces::ListPart;
 
@@ -30,12 +30,16 @@ pub(crate) fn push_at<K: Eq + Hash + Drop>(
     ensures err { OnErr result (lists_in map.new.entries ≡ lists_in map.old.entries) }
     ensures lists { AreListsOf kind (values_of map.new.entries) }
 {
-    match map.get_mut(&key) {
-        Some(list) => list.push(item),
-        None => {
+    let found = match map.entry(key) {
+        Ok(found) => found,
+        Err(_) => return Err(AllocError),
+    };
+    match found {
+        Entry::Occupied(there) => there.into_mut().push(item),
+        Entry::Vacant(place) => {
             let mut list = ListPart::empty(alloc, kind);
             list.push(item)?;
-            map.insert(key, list)?;
+            place.insert(list);
             Ok(())
         }
     }
@@ -55,16 +59,38 @@ pub(crate) fn append_at<K: Eq + Hash + Drop>(
     ensures err { OnErr result (lists_in map.new.entries ≡ lists_in map.old.entries) }
     ensures lists { AreListsOf kind (values_of map.new.entries) }
 {
-    match map.get_mut(&key) {
-        Some(list) => list.append(later),
-        None => {
-            map.insert(key, later)?;
+    let found = match map.entry(key) {
+        Ok(found) => found,
+        Err(_) => return Err(AllocError),
+    };
+    match found {
+        Entry::Occupied(there) => there.into_mut().append(later),
+        Entry::Vacant(place) => {
+            place.insert(later);
             Ok(())
         }
     }
 }
 
-/// Appends the lists of a later map at their keys.
+/// Appends the lists of a map at their keys, one after another.
+fn append_each<K: Eq + Hash + Drop>(
+    map: &mut IndexMap<K, ListPart>,
+    kind: Option<Kind>,
+    more: IndexMap<K, ListPart>,
+) -> Result<(), AllocError>
+    requires lists { AreListsOf kind (values_of map.old.entries) }
+    requires more { AreListsOf kind (values_of more.entries) }
+    ensures ok { OnOk result (lists_in map.new.entries ≡ entries_with K.eq appended (lists_in map.old.entries) (lists_in more.entries)) }
+    ensures lists { AreListsOf kind (values_of map.new.entries) }
+{
+    for (key, list) in more {
+        append_at(map, kind, key, list)?;
+    }
+    Ok(())
+}
+
+/// Appends the lists of a later map at their keys, behind what is there. To an empty map they come
+/// as they are.
 pub(crate) fn append_all<K: Eq + Hash + Drop>(
     map: &mut IndexMap<K, ListPart>,
     kind: Option<Kind>,
@@ -72,16 +98,13 @@ pub(crate) fn append_all<K: Eq + Hash + Drop>(
 ) -> Result<(), AllocError>
     requires lists { AreListsOf kind (values_of map.old.entries) }
     requires later { AreListsOf kind (values_of later.entries) }
-    ensures ok { OnOk result (lists_in map.new.entries ≡ entries_with K.eq appended (lists_in map.old.entries) (lists_in later.entries)) }
+    ensures ok { OnOk result (JoinsAs K.eq appended (lists_in map.old.entries) (lists_in later.entries) (lists_in map.new.entries)) }
     ensures lists { AreListsOf kind (values_of map.new.entries) }
 {
-    let mut later = later;
     if map.is_empty() {
-        swap(map, &mut later);
+        *map = later;
         return Ok(());
     }
-    for (key, list) in later {
-        append_at(map, kind, key, list)?;
-    }
-    Ok(())
+    let _count = later.len();
+    append_each(map, kind, later)
 }

@@ -2,7 +2,10 @@
 
 ghost use Rattle.std.specs.Prelude.{◌≡◌, Some, None, IfOk};
 ghost use Rattle.std.specs.FinMap as finite;
+ghost use Rattle.std.specs.List.Sorted.{IsStrictlySortedBy};
+ghost use Rattle.std.specs.Ordering.{int_cmp};
 ghost use Rattle.std.specs.Map.{keys_of};
+ghost use Rattle.weld_builders.specs.ValueOrder.{value_cmp};
 ghost use Rattle.weld_data.specs.Value.{number};
 ghost use Rattle.weld_data.specs.Kind.{InRange};
 ghost use Rattle.weld_data.specs.View.{view_val};
@@ -23,7 +26,8 @@ fn number_pairs(
     key_kind: Kind,
     map: IndexMap<i64, ListPart>,
 ) -> Result<Pairs, AllocError>
-    requires { AllInRange key_kind (keys_of map.entries) }
+    requires keys { AllInRange key_kind (keys_of map.entries) }
+    requires sorted { IsStrictlySortedBy int_cmp (keys_of map.entries) }
     ensures { IfOk result (λ pairs. pairs ≡ shown (number key_kind) list_value (lists_in map.entries)) }
 {
     let mut items = Vec::with_capacity(alloc, map.len())?;
@@ -40,6 +44,7 @@ fn number_pairs(
 fn value_pairs(alloc: Global, map: IndexMap<Key, ListPart>) -> Result<Pairs, AllocError>
     requires kept { KeysAreKept None (map_of itself (lists_in map.entries)) }
     requires one_type { HasOneKeyType (map_of itself (lists_in map.entries)) }
+    requires sorted { IsStrictlySortedBy value_cmp (keys_of map.entries) }
     ensures { IfOk result (λ pairs. pairs ≡ shown itself list_value (lists_in map.entries)) }
 {
     let mut items = Vec::with_capacity(alloc, map.len())?;
@@ -61,8 +66,8 @@ pub(crate) fn kept_pairs(
     requires { KeysAreKept (Some key_kind) (map_of (number key_kind) (lists_in map.entries)) }
     ensures { IfOk result (λ pairs. pairs ≡ shown itself list_value (finite.entries (map_of (number key_kind) (lists_in map.entries)))) }
 {
-    let map = in_order(map)?;
-    number_pairs(alloc, key_kind, map)
+    let sorted = in_order(map)?;
+    number_pairs(alloc, key_kind, sorted)
 }
 
 /// The same of keys that are kept as values, as the map of them shows.
@@ -71,8 +76,8 @@ pub(crate) fn plain_pairs(alloc: Global, map: IndexMap<Key, ListPart>) -> Result
     requires one_type { HasOneKeyType (map_of itself (lists_in map.entries)) }
     ensures { IfOk result (λ pairs. pairs ≡ shown itself list_value (finite.entries (map_of itself (lists_in map.entries)))) }
 {
-    let map = in_order(map)?;
-    value_pairs(alloc, map)
+    let sorted = in_order(map)?;
+    value_pairs(alloc, sorted)
 }
 
 /// A number of a kind as a value.

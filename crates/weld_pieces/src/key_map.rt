@@ -1,10 +1,9 @@
 //! What stands at keys, hashed while it is filled and put in the order of keys once, at the end.
 
-ghost use Rattle.std.specs.Prelude.{◌≡◌, [], Option, Some, None, IsTrue, IfOk, OnOk, IsSorted};
-ghost use Rattle.std.specs.List.Sorted.{IsStrictlySortedBy};
+ghost use Rattle.std.specs.Prelude.{IfOk};
+ghost use Rattle.std.specs.List.{IsDistinct};
+ghost use Rattle.std.specs.List.Sorted.{IsStrictlySortedBy, IsPermutation};
 ghost use Rattle.std.specs.Map.{keys_of};
-ghost use Rattle.weld_pieces.specs.Kept.{IsNarrowKey};
-ghost use Rattle.weld_pieces.specs.KeyMapView.{kind_of_keys, SameEntries};
 
 use crate::key::Key;
 use indexmap::IndexMap;
@@ -21,9 +20,13 @@ pub enum KeyMap<V> {
 }
 
 impl<V> KeyMap<V> {
+    ghost use Rattle.std.specs.Prelude.{◌≡◌, [], IsTrue};
+    ghost use Rattle.weld_pieces.specs.KeyMapView.{kind_of_keys, entries_in};
+
     /// The map without keys, which are to be numbers of a kind, or other values. It takes no memory.
     pub fn empty(alloc: Global, key: Option<Kind>) -> KeyMap<V>
         ensures key { kind_of_keys result ≡ key }
+        ensures entries { entries_in result ≡ [] }
     {
         match key {
             Some(kind) => KeyMap::Numbers(kind, IndexMap::new(alloc)),
@@ -43,6 +46,7 @@ impl<V> KeyMap<V> {
 
     /// Whether there are no keys. It takes no memory.
     pub fn is_empty(&self) -> bool
+        ensures { IsTrue result → entries_in self.now ≡ [] }
     {
         match self {
             KeyMap::Numbers(_, map) => map.is_empty(),
@@ -52,7 +56,12 @@ impl<V> KeyMap<V> {
 }
 
 /// The same entries in the order of their keys.
-pub fn in_order<K: Ord + Hash + Drop, V: Drop>(map: IndexMap<K, V>) -> Result<IndexMap<K, V>, AllocError>
+pub fn in_order<K: Ord + Hash + Drop, V: Drop>(
+    map: IndexMap<K, V>,
+) -> Result<IndexMap<K, V>, AllocError>
+    ensures moved { IfOk result (λ m. IsPermutation map.entries m.entries) }
+    ensures distinct { IfOk result (λ m. IsDistinct K.eq (keys_of m.entries)) }
+    ensures sorted { IfOk result (λ m. IsStrictlySortedBy K.cmp (keys_of m.entries)) }
 {
     let mut map = map;
     match map.sort_unstable_keys() {

@@ -7,7 +7,8 @@ ghost use Rattle.weld_data.specs.Order.{IsKey};
 ghost use Rattle.std.specs.Map.{keys_of, values_of};
 ghost use Rattle.weld_builders.specs.Range.{AllInRange};
 ghost use Rattle.weld_pieces.specs.Keyed.{map_of, itself, by_value, merged_from, CanKeep, KeysAreKept};
-ghost use Rattle.weld_pieces.specs.KeyedView.{kind_of_keys, numbers_in, IsKeyed};
+ghost use Rattle.weld_pieces.specs.KeyMapView.{kind_of_keys};
+ghost use Rattle.weld_pieces.specs.KeyedView.{numbers_in, IsKeyed};
 
 use crate::key::Key;
 use crate::key_map::KeyMap;
@@ -36,7 +37,9 @@ impl Model for KeyedPart {
 
     ghost coded = { coded_keyed };
 
-    ghost use Rattle.weld_pieces.specs.KeyedView.{kind_of_keys, numbers_in, IsKeyed};
+    ghost use Rattle.weld_pieces.specs.KeyMapView.{kind_of_keys};
+
+    ghost use Rattle.weld_pieces.specs.KeyedView.{numbers_in, IsKeyed};
 
     ghost view = { λ k. record { key = kind_of_keys k.map; op = k.op; kind = k.kind; numbers = numbers_in k.map } };
 

@@ -1,18 +1,19 @@
 //! Numbers by keys in a hashed map.
 
 ghost use Rattle.std.specs.Prelude.{◌≡◌, OnOk, OnErr};
-ghost use Rattle.std.specs.Map.{values_of};
+ghost use Rattle.std.specs.List.{IsDistinct};
+ghost use Rattle.std.specs.Map.{keys_of, values_of};
 ghost use Rattle.weld_data.specs.Kind.{IsInteger, InRange};
 ghost use Rattle.weld_builders.specs.Part.{combined};
 ghost use Rattle.weld_builders.specs.Range.{AllInRange};
-ghost use Rattle.weld_pieces.specs.Keyed.{entry_with, entries_with};
+ghost use Rattle.weld_pieces.specs.Keyed.{entry_with, entries_with, JoinsAs};
 
 use crate::number::combine_wide;
 use indexmap::IndexMap;
 use indexmap::map::Entry;
 use std::alloc::AllocError;
 use std::hash::Hash;
-use std::mem::swap;
+use std::mem::replace;
 use weld_data::{Kind, MergeOp};
 
 /// Merges a number at a key. It takes memory for a new key alone; where that is wanting, the map
@@ -48,7 +49,27 @@ pub(crate) fn merge_at<K: Eq + Hash + Drop>(
     }
 }
 
-/// Merges the numbers of a later map at their keys.
+/// Merges the numbers of a map at their keys, one after another.
+fn merge_each<K: Eq + Hash + Drop>(
+    map: &mut IndexMap<K, i128>,
+    op: MergeOp,
+    kind: Kind,
+    more: IndexMap<K, i128>,
+) -> Result<(), AllocError>
+    requires integer { IsInteger kind }
+    requires values { AllInRange kind (values_of map.old.entries) }
+    requires more { AllInRange kind (values_of more.entries) }
+    ensures ok { OnOk result (map.new.entries ≡ entries_with K.eq (combined op kind) map.old.entries more.entries) }
+    ensures values { AllInRange kind (values_of map.new.entries) }
+    ensures distinct { IsDistinct K.eq (keys_of more.entries) }
+{
+    for (key, x) in more {
+        merge_at(map, op, kind, key, x)?;
+    }
+    Ok(())
+}
+
+/// Merges the numbers of a later map at their keys: those of the smaller map into the larger.
 pub(crate) fn merge_all<K: Eq + Hash + Drop>(
     map: &mut IndexMap<K, i128>,
     op: MergeOp,
@@ -58,14 +79,12 @@ pub(crate) fn merge_all<K: Eq + Hash + Drop>(
     requires integer { IsInteger kind }
     requires values { AllInRange kind (values_of map.old.entries) }
     requires later { AllInRange kind (values_of later.entries) }
+    ensures ok { OnOk result (JoinsAs K.eq (combined op kind) map.old.entries later.entries map.new.entries) }
     ensures values { AllInRange kind (values_of map.new.entries) }
 {
-    let mut later = later;
     if map.len() < later.len() {
-        swap(map, &mut later);
+        let earlier = replace(map, later);
+        return merge_each(map, op, kind, earlier);
     }
-    for (key, x) in later {
-        merge_at(map, op, kind, key, x)?;
-    }
-    Ok(())
+    merge_each(map, op, kind, later)
 }

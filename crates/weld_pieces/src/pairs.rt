@@ -2,7 +2,10 @@
 
 ghost use Rattle.std.specs.Prelude.{◌≡◌, Some, None, IfOk};
 ghost use Rattle.std.specs.FinMap as finite;
+ghost use Rattle.std.specs.List.Sorted.{IsStrictlySortedBy};
+ghost use Rattle.std.specs.Ordering.{int_cmp};
 ghost use Rattle.std.specs.Map.{keys_of, values_of};
+ghost use Rattle.weld_builders.specs.ValueOrder.{value_cmp};
 ghost use Rattle.weld_data.specs.Value.{number};
 ghost use Rattle.weld_data.specs.Kind.{InRange};
 ghost use Rattle.weld_data.specs.View.{view_val};
@@ -23,6 +26,7 @@ fn number_pairs(
     map: IndexMap<i64, i128>,
 ) -> Result<Pairs, AllocError>
     requires keys { AllInRange key_kind (keys_of map.entries) }
+    requires sorted { IsStrictlySortedBy int_cmp (keys_of map.entries) }
     requires values { AllInRange kind (values_of map.entries) }
     ensures { IfOk result (λ pairs. pairs ≡ shown (number key_kind) (number kind) map.entries) }
 {
@@ -40,6 +44,7 @@ fn number_pairs(
 fn value_pairs(alloc: Global, kind: Kind, map: IndexMap<Key, i128>) -> Result<Pairs, AllocError>
     requires kept { KeysAreKept None (map_of itself map.entries) }
     requires one_type { HasOneKeyType (map_of itself map.entries) }
+    requires sorted { IsStrictlySortedBy value_cmp (keys_of map.entries) }
     requires values { AllInRange kind (values_of map.entries) }
     ensures { IfOk result (λ pairs. pairs ≡ shown itself (number kind) map.entries) }
 {
@@ -64,8 +69,8 @@ pub(crate) fn kept_pairs(
     requires values { AllInRange kind (values_of map.entries) }
     ensures { IfOk result (λ pairs. pairs ≡ shown itself (number kind) (finite.entries (map_of (number key_kind) map.entries))) }
 {
-    let map = in_order(map)?;
-    number_pairs(alloc, key_kind, kind, map)
+    let sorted = in_order(map)?;
+    number_pairs(alloc, key_kind, kind, sorted)
 }
 
 /// The same of keys that are kept as values, as the map of them shows.
@@ -79,8 +84,8 @@ pub(crate) fn plain_pairs(
     requires values { AllInRange kind (values_of map.entries) }
     ensures { IfOk result (λ pairs. pairs ≡ shown itself (number kind) (finite.entries (map_of itself map.entries))) }
 {
-    let map = in_order(map)?;
-    value_pairs(alloc, kind, map)
+    let sorted = in_order(map)?;
+    value_pairs(alloc, kind, sorted)
 }
 
 /// A key that is kept as a number as a value.
