@@ -1,5 +1,5 @@
 -- Entries of different keys, as a map from values.
-use Rattle.std.proofs.Common.{◌≡◌, Result, Ok, Err, OnOk, suc, ◌+◌, ◌<◌, slice_index_or, ℤ, Option, Some, None, List, [], ◌∷◌, map, Bool, true, false, true≢false, cond, T, ◌&&◌, Ordering, Less, Equal, Greater, int_cmp, ap, ap₂, sym, subst, refl, ◌∙◌, arith}
+use Rattle.std.proofs.Common.{◌≡◌, Result, Ok, Err, OnOk, suc, ◌+◌, slice_index_or, ℤ, Option, Some, None, List, [], ◌∷◌, map, Bool, true, false, true≢false, cond, T, ◌&&◌, Ordering, Less, Equal, Greater, int_cmp, ap, ap₂, sym, subst, refl, ◌∙◌, arith}
 use Rattle.std.specs.Ordering.{eq_by_cmp, int_eq, is_eq, is_lt, is_gt, ordering_then, ordering_reverse}
 use Rattle.std.specs.Cmp.{Equal-is, IsEquivalence, IsTotalOrder, int_cmp_total, tied_itself}
 use Rattle.std.specs.List.{AllByRecursion, IsDistinct}

@@ -1,5 +1,5 @@
 -- The laws of comparisons and of hashes, of keys in the one order of all values.
-use Rattle.std.proofs.Common.{◌≡◌, true, IsTrue, ap, refl}
+use Rattle.std.proofs.Common.{◌≡◌, IsTrue, ap, refl}
 use Rattle.std.specs.Ordering.{eq_by_cmp, as_partial_cmp}
 use Rattle.std.specs.Cmp.{IsPartialEquivalence, IsEquivalence, IsPartialOrder, IsTotalOrder, Equal-is, partial_equiv_from_equiv, eq_by_cmp_equiv, po}
 use Rattle.weld_builders.specs.ValueOrder.{value_cmp}

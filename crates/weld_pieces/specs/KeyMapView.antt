@@ -1,6 +1,5 @@
 -- What a map of keys in the code stands for.
-use Rattle.std.specs.Prelude.{◌≡◌, Option, Some, None, List}
-use Rattle.std.specs.Map.{values_of}
+use Rattle.std.specs.Prelude.{Option, Some, None, List}
 use Rattle.weld_data.specs.declared.kind.Kind.{Kind}
 use Rattle.weld_data.specs.Value.{Value, number}
 use Rattle.weld_pieces.specs.Keyed.{by_value, itself}

@@ -1,5 +1,5 @@
 -- What numbers by keys in the code stand for.
-use Rattle.std.specs.Prelude.{ℤ, Option, Some, None, List}
+use Rattle.std.specs.Prelude.{ℤ, List}
 use Rattle.std.specs.Map.{values_of}
 use Rattle.weld_data.specs.declared.kind.Kind.{Kind}
 use Rattle.weld_data.specs.Kind.{IsInteger}

@@ -1,6 +1,4 @@
-use Rattle.std.proofs.Common.{◌≡◌, ap, sym, subst, ◌∙◌}
-use Rattle.std.specs.List.{IsDistinct}
-use Rattle.std.specs.Map.{keys_of}
+use Rattle.std.proofs.Common.{◌∙◌}
 use Rattle.weld_builders.specs.Part.{combined}
 use Rattle.weld_pieces.specs.Keyed.{entries_with}
 use Rattle.weld_pieces.proofs.MapLemmas.{joined_small, joined_all, on_ok}

@@ -1,6 +1,5 @@
 use Rattle.std.proofs.Common.{◌≡◌, Some, rules}
 use Rattle.std.specs.Map.{lookup}
-use Rattle.indexmap.specs.IndexMap.{insert_entry}
 use Rattle.weld_pieces.proofs.CellLemmas.{wide_bits, wide_bits_in_range}
 use Rattle.weld_pieces.proofs.MapLemmas.{found_in_range, inserted_in_range}
 use Rattle.weld_pieces.proofs.ordered.merge_at.Goals as goal

@@ -3,7 +3,7 @@ use Rattle.std.specs.Result.{IfOk}
 use Rattle.std.specs.FinMap as finite
 use Rattle.weld_data.specs.Value.{number}
 use Rattle.weld_data.specs.Kind.{InRange}
-use Rattle.weld_pieces.specs.Keyed.{map_of, itself, shown, KeysAreKept}
+use Rattle.weld_pieces.specs.Keyed.{itself, shown, KeysAreKept}
 use Rattle.weld_pieces.proofs.MapLemmas.{numbers_moved, values_moved}
 use Rattle.weld_pieces.proofs.PairLemmas.{keys_in_range, numbers_shown}
 use Rattle.weld_pieces.proofs.pairs.kept_pairs.Goals as goal
