@@ -1,9 +1,9 @@
 -- Lists by keys in a hashed map.
-use Rattle.std.proofs.Common.{Result, Ok, Err, OnErr, ◌≡◌, ℤ, Option, Some, None, List, [], ◌∷◌, ◌++◌, Bool, true, false, true≢false, cond, is_some, ap, sym, subst, refl, ◌∙◌}
+use Rattle.std.proofs.Common.{Result, Ok, Err, OnErr, ◌≡◌, ℤ, Option, Some, None, List, [], ◌∷◌, ◌++◌, Bool, true, false, true≢false, cond, is_some, length, arith, ap, sym, subst, refl, ◌∙◌}
 use Rattle.std.specs.Ordering.{eq_by_cmp, int_eq}
 use Rattle.std.specs.List.{IsDistinct}
 use Rattle.std.specs.List.Sorted.{IsPermutation}
-use Rattle.std.specs.Map.{lookup, keys_of, values_of}
+use Rattle.std.specs.Map.{lookup, set_value, keys_of, values_of}
 use Rattle.std.specs.Option.{option_map, IfSome}
 use Rattle.std.proofs.lemmas.List.Sorted.{IsPermutation-map}
 use Rattle.indexmap.specs.IndexMap.{insert_entry}
@@ -45,6 +45,16 @@ module _ {K : Type 0} (eq : K → K → Bool) where
       ∙ lists_in-insert es k w
       ∙ ap (insert_entry eq (lists_in es) k) so
       ∙ ap (λ (o : Option (List Value)). insert_entry eq (lists_in es) k (appended o xs)) (sym (lookup-lists_in (eq k) es ∙ ap (option_map items_of_list) (sym found)))
+
+  -- a value written at a key that is there stands where an insert puts it
+  pub set_is_insert : {X : Type 0} (es : List (K × X)) (k : K) (l w : X) → Some l ≡ lookup (eq k) es → set_value (eq k) es w ≡ insert_entry eq es k w
+  set_is_insert [] k l w found = absurd (true≢false (ap is_some found))
+  set_is_insert {X} (e ∷ es) k l w found = by (set_is_insert es k l w) (eq k e.0) found
+    where
+      by : (Some l ≡ lookup (eq k) es → set_value (eq k) es w ≡ insert_entry eq es k w) → (b : Bool) → Some l ≡ cond b (Some e.1) (lookup (eq k) es)
+          → cond b ((e.0, w) ∷ es) (e ∷ set_value (eq k) es w) ≡ cond b ((e.0, w) ∷ es) (e ∷ insert_entry eq es k w)
+      by rest true f = refl
+      by rest false f = ap (λ ds. e ∷ ds) (rest f)
 
   -- a list for a key that isn't there
   pub new_appended : (es ds : List (K × ListPart)) (k : K) (w : ListPart) (xs : List Value) → None ≡ lookup (eq k) es → ds ≡ insert_entry eq es k w → items_of_list w ≡ xs
@@ -106,10 +116,14 @@ keys_of-lists_in (e ∷ es) = ap (λ ks. e.0 ∷ ks) (keys_of-lists_in es)
 pub distinct_lists : {K : Type 0} (eq : K → K → Bool) (es : List (K × ListPart)) → IsDistinct eq (keys_of es) → IsDistinct eq (keys_of (lists_in es))
 distinct_lists eq es h = subst (IsDistinct eq) (sym (keys_of-lists_in es)) h
 
+none_long : {X : Type 0} (xs : List X) → length xs ≡ 0 → xs ≡ []
+none_long [] n = refl
+none_long (x ∷ xs) n = absurd (omega arith)
+
 -- the later lists come to no lists as they are
-pub joined_whole : {K : Type 0} (eq : K → K → Bool) (es later : List (K × ListPart)) → es ≡ [] → JoinsAs eq appended (lists_in es) (lists_in later) (lists_in later)
+pub joined_whole : {K : Type 0} (eq : K → K → Bool) (es later : List (K × ListPart)) → length es ≡ 0 → JoinsAs eq appended (lists_in es) (lists_in later) (lists_in later)
 joined_whole eq es later none key agree =
-    sym (ap (λ ds. join_maps appended (map_of key (lists_in ds)) (map_of key (lists_in later))) none ∙ empty-join_maps appended-IsMerging (map_of key (lists_in later)))
+    sym (ap (λ ds. join_maps appended (map_of key (lists_in ds)) (map_of key (lists_in later))) (none_long es none) ∙ empty-join_maps appended-IsMerging (map_of key (lists_in later)))
 
 -- ---- in any order
 

@@ -312,7 +312,11 @@ fn list_in_values(
 }
 
 /// Appends the lists of a later map at their keys.
-fn all_in(map: &mut KeyMap<ListPart>, items: Option<Kind>, later: KeyMap<ListPart>) -> Result<(), AllocError>
+fn all_in(
+    map: &mut KeyMap<ListPart>,
+    items: Option<Kind>,
+    later: KeyMap<ListPart>,
+) -> Result<(), AllocError>
     requires kept { kind_of_keys map.old ≡ kind_of_keys later }
     requires lists { AreGroupsOf items map.old }
     requires later { AreGroupsOf items later }
@@ -327,9 +331,7 @@ fn all_in(map: &mut KeyMap<ListPart>, items: Option<Kind>, later: KeyMap<ListPar
             Ok(()) => return Ok(()),
             Err(e) => return Err(e),
         },
-        (KeyMap::Values(lists), KeyMap::Values(more)) => match append_all(
-            lists, items, more,
-        ) {
+        (KeyMap::Values(lists), KeyMap::Values(more)) => match append_all(lists, items, more) {
             Ok(()) => return Ok(()),
             Err(e) => return Err(e),
         },

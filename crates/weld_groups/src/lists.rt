@@ -1,6 +1,6 @@
 //! Lists by keys in a hashed map.
 
-ghost use Rattle.std.specs.Prelude.{◌≡◌, ◌∷◌, [], OnOk, OnErr};
+ghost use Rattle.std.specs.Prelude.{◌≡◌, ◌∷◌, [], IfOk, OnOk, OnErr};
 ghost use Rattle.std.specs.Map.{values_of};
 ghost use Rattle.weld_data.specs.View.{view_val};
 ghost use Rattle.weld_builders.specs.Part.{appended};
@@ -16,6 +16,19 @@ use std::hash::Hash;
 use weld_data::{Kind, Val};
 use weld_pieces::ListPart;
 
+/// The list of one item.
+fn list_of(alloc: Global, kind: Option<Kind>, item: Val) -> Result<ListPart, AllocError>
+    requires { IsKeptAs kind (view_val item) }
+    ensures items { IfOk result (λ list. items_of_list list ≡ view_val item ∷ []) }
+    ensures kind { IfOk result (λ list. kind_of_items list ≡ kind) }
+{
+    let mut list = ListPart::empty(alloc, kind);
+    match list.push(item) {
+        Ok(()) => Ok(list),
+        Err(e) => Err(e),
+    }
+}
+
 /// Appends an item to the list at a key. Where memory is wanting, the map stays as it was.
 pub(crate) fn push_at<K: Eq + Hash + Drop>(
     alloc: Global,
@@ -30,16 +43,11 @@ pub(crate) fn push_at<K: Eq + Hash + Drop>(
     ensures err { OnErr result (lists_in map.new.entries ≡ lists_in map.old.entries) }
     ensures lists { AreListsOf kind (values_of map.new.entries) }
 {
-    let found = match map.entry(key) {
-        Ok(found) => found,
-        Err(_) => return Err(AllocError),
-    };
-    match found {
-        Entry::Occupied(there) => there.into_mut().push(item),
-        Entry::Vacant(place) => {
-            let mut list = ListPart::empty(alloc, kind);
-            list.push(item)?;
-            place.insert(list);
+    match map.get_mut(&key) {
+        Some(list) => list.push(item),
+        None => {
+            let list = list_of(alloc, kind, item)?;
+            map.insert(key, list)?;
             Ok(())
         }
     }

@@ -139,8 +139,7 @@ module _ {K X : Type 0} (key : K → Value) (P : Value → Type 0) (all : List (
   each_found [] w = tt
   each_found (e ∷ es) w =
       let first : is_some (finite.find value_cmp (key e.0) (by_value key (e ∷ es))) ≡ true = ap (λ b. is_some (cond b (Some e.1) (finite.find value_cmp (key e.0) (by_value key es)))) (own (key e.0) (key e.0) refl) in
-      let there : finite.find value_cmp (key e.0) (finite.entries (map_of key all)) ≡ finite.find value_cmp (key e.0) (by_value key all) = sym (finite.get-entries (map_of key all) (key e.0)) ∙ finite.get-from_entries value_cmp_total (by_value key all) (key e.0) in
-      (
+      let there : finite.find value_cmp (key e.0) (finite.entries (map_of key all)) ≡ finite.find value_cmp (key e.0) (by_value key all) = sym (finite.get-entries (map_of key all) (key e.0)) ∙ finite.get-from_entries value_cmp_total (by_value key all) (key e.0) in (
         found_holds P (finite.entries (map_of key all)) (key e.0) h (ap is_some there ∙ w (key e.0) first),
         each_found es (λ q s. w q (still_found (eq_by_cmp value_cmp q (key e.0)) e.1 _ s)),
       )

@@ -38,7 +38,6 @@ impl Model for KeyedPart {
     ghost coded = { coded_keyed };
 
     ghost use Rattle.weld_pieces.specs.KeyMapView.{kind_of_keys};
-
     ghost use Rattle.weld_pieces.specs.KeyedView.{numbers_in, IsKeyed};
 
     ghost view = { λ k. record { key = kind_of_keys k.map; op = k.op; kind = k.kind; numbers = numbers_in k.map } };
@@ -251,7 +250,12 @@ fn value_in(
 }
 
 /// Merges the numbers of a later map at their keys.
-fn all_in(map: &mut KeyMap<i128>, op: MergeOp, kind: Kind, later: KeyMap<i128>) -> Result<(), AllocError>
+fn all_in(
+    map: &mut KeyMap<i128>,
+    op: MergeOp,
+    kind: Kind,
+    later: KeyMap<i128>,
+) -> Result<(), AllocError>
     requires kept { kind_of_keys map.old ≡ kind_of_keys later }
     requires keyed { IsKeyed kind map.old }
     requires later { IsKeyed kind later }
@@ -266,9 +270,7 @@ fn all_in(map: &mut KeyMap<i128>, op: MergeOp, kind: Kind, later: KeyMap<i128>) 
             Ok(()) => return Ok(()),
             Err(e) => return Err(e),
         },
-        (KeyMap::Values(values), KeyMap::Values(more)) => match merge_all(
-            values, op, kind, more,
-        ) {
+        (KeyMap::Values(values), KeyMap::Values(more)) => match merge_all(values, op, kind, more) {
             Ok(()) => return Ok(()),
             Err(e) => return Err(e),
         },
