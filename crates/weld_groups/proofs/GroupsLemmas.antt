@@ -1,19 +1,20 @@
 -- Lists by keys, in the map in the code.
-use Rattle.std.proofs.Common.{◌≡◌, ℤ, Option, Some, None, List, [], ◌∷◌, ap, sym, subst, ◌∙◌}
+use Rattle.std.proofs.Common.{◌≡◌, ℤ, Option, Some, None, List, [], ◌∷◌, length, arith, refl, ap, sym, subst, ◌∙◌}
 use Rattle.std.specs.Ordering.{eq_by_cmp, int_eq}
 use Rattle.std.specs.HashMap.{HashMap}
+use Rattle.std.specs.FinMap as finite
 use Rattle.weld_data.specs.declared.kind.Kind.{Kind}
 use Rattle.weld_data.specs.Value.{Value, number}
 use Rattle.weld_builders.specs.Part.{appended, merge_key, join_maps}
 use Rattle.weld_builders.specs.ValueOrder.{value_cmp}
 use Rattle.weld_pieces.specs.Kept.{IsNarrowKey}
-use Rattle.weld_pieces.specs.Keyed.{entry_with, map_of, itself, CanKeep, JoinsAs}
+use Rattle.weld_pieces.specs.Keyed.{entry_with, map_of, by_value, itself, CanKeep, JoinsAs}
 use Rattle.weld_pieces.specs.declared.list.ListPart.{ListPart}
 use Rattle.weld_pieces.proofs.CellLemmas.{bits}
 use Rattle.weld_pieces.proofs.KeyedLemmas.{Hashing}
 use Rattle.weld_pieces.proofs.MapLemmas.{numbers_same, values_same}
 use Rattle.weld_groups.specs.Groups.{lists_in, AreListsOf, CanKeepEach}
-use Rattle.weld_pieces.specs.KeyMapView.{kind_of_keys}
+use Rattle.weld_pieces.specs.KeyMapView.{kind_of_keys, entries_in}
 use Rattle.weld_groups.specs.GroupsView.{groups_in}
 use Rattle.weld_pieces.specs.declared.key_map.KeyMap.{KeyMap}
 use Rattle.weld_pieces.specs.declared.key_map.KeyMap.TheVariants as maps
@@ -30,6 +31,16 @@ narrow_kept (Some kind) own can h = subst IsNarrowKey can h
 pub can_keep_each : (items own : Option Kind) (ls : List ListPart) → CanKeep items own → AreListsOf own ls → CanKeepEach items ls
 can_keep_each items own [] can h = tt
 can_keep_each items own (l ∷ ls) can h = (subst (CanKeep items) (sym h.0) can, can_keep_each items own ls can h.1)
+
+-- a map without entries has no lists
+nothing : {K X : Type 0} (key : K → Value) (es : List (K × X)) → by_value key es ≡ [] → es ≡ []
+nothing key [] e = refl
+nothing key (d ∷ es) e =
+    let n : length (by_value key (d ∷ es)) ≡ 0 = ap length e in absurd (omega (arith, n))
+
+pub none_in : (m : KeyMap ListPart) → entries_in m ≡ [] → groups_in m ≡ finite.empty
+none_in (maps.Numbers k m) e = ap (λ es. map_of (number k) (lists_in es)) (nothing (number k) m.entries e)
+none_in (maps.Values m) e = ap (λ es. map_of itself (lists_in es)) (nothing itself m.entries e)
 
 pub number_done : (before : KeyMap ListPart) (k key_kind : Kind) (m : HashMap ℤ ListPart Hashing) (ds : List (ℤ × ListPart)) (key : ℤ) (xs : List Value) → before ≡ maps.Numbers k m → kind_of_keys before ≡ Some key_kind → bits key ≡ key
     → lists_in ds ≡ entry_with int_eq appended (lists_in m.entries) (bits key) xs → map_of (number k) (lists_in ds) ≡ merge_key appended (groups_in before) (number key_kind key) xs
