@@ -10,15 +10,17 @@ ghost use Rattle.weld_pieces.specs.Items.{items_of_list, kind_of_items};
 ghost use Rattle.weld_pieces.specs.Kept.{IsKeptAs};
 ghost use Rattle.weld_pieces.specs.Keyed.{map_of, itself, by_value, merged_from, CanKeep, KeysAreKept};
 ghost use Rattle.weld_groups.specs.Groups.{lists_in, CanKeepEach};
-ghost use Rattle.weld_groups.specs.GroupsView.{kind_of_keys, groups_in, all_lists, AreGroupsOf};
+ghost use Rattle.weld_pieces.specs.KeyMapView.{kind_of_keys};
+ghost use Rattle.weld_groups.specs.GroupsView.{groups_in, all_lists, AreGroupsOf};
 
 use crate::lists::{append_all, append_at, push_at};
 use crate::pairs::{kept_pairs, number_of, plain_pairs};
+use indexmap::IndexMap;
 use std::alloc::{AllocError, Global};
-use std::collections::BTreeMap;
 use std::marker::Model;
 use weld_data::{Kind, Pairs, Stop, Val};
 use weld_pieces::key::Key;
+use weld_pieces::key_map::KeyMap;
 use weld_pieces::{ListPart, Part};
 
 /// Lists of items by keys, the items of a key in the order of their merges. Keys that are one number
@@ -28,13 +30,7 @@ use weld_pieces::{ListPart, Part};
 pub struct GroupsPart {
     alloc: Global,
     items: Option<Kind>,
-    map: GroupsMap,
-}
-
-#[derive(Drop)]
-enum GroupsMap {
-    Numbers(Kind, BTreeMap<i64, ListPart>),
-    Values(BTreeMap<Key, ListPart>),
+    map: KeyMap<ListPart>,
 }
 
 impl Model for GroupsPart {
@@ -44,7 +40,8 @@ impl Model for GroupsPart {
 
     ghost coded = { coded_groups };
 
-    ghost use Rattle.weld_groups.specs.GroupsView.{kind_of_keys, groups_in, AreGroupsOf};
+    ghost use Rattle.weld_pieces.specs.KeyMapView.{kind_of_keys};
+    ghost use Rattle.weld_groups.specs.GroupsView.{groups_in, AreGroupsOf};
 
     ghost view = { λ g. record { key = kind_of_keys g.map; items = g.items; groups = groups_in g.map } };
 
@@ -72,10 +69,7 @@ impl GroupsPart {
         ensures items { result.items ≡ items }
         ensures groups { result.groups ≡ finite.empty }
     {
-        let map = match key {
-            Some(key) => GroupsMap::Numbers(key, BTreeMap::new(alloc)),
-            None => GroupsMap::Values(BTreeMap::new(alloc)),
-        };
+        let map = KeyMap::empty(alloc, key);
         GroupsPart { alloc, items, map }
     }
 
@@ -84,10 +78,7 @@ impl GroupsPart {
         ensures key { result ≡ self.now.key }
         ensures narrow { IsNarrowKey self.now.key }
     {
-        match &self.map {
-            GroupsMap::Numbers(kind, _) => Some(*kind),
-            GroupsMap::Values(_) => None,
-        }
+        self.map.key()
     }
 
     /// How the items of each list are kept: as numbers of a kind, or as values. It takes no memory.
@@ -101,10 +92,7 @@ impl GroupsPart {
     pub fn is_empty(&self) -> bool
         ensures none { IsTrue result → self.now.groups ≡ finite.empty }
     {
-        match &self.map {
-            GroupsMap::Numbers(_, lists) => lists.is_empty(),
-            GroupsMap::Values(lists) => lists.is_empty(),
-        }
+        self.map.is_empty()
     }
 
     /// A part that has the same lists. Its keys and items are to be kept as they are here, or as
@@ -217,15 +205,15 @@ impl GroupsPart {
             map,
         } = self;
         match map {
-            GroupsMap::Numbers(key_kind, lists) => kept_pairs(alloc, key_kind, lists),
-            GroupsMap::Values(lists) => plain_pairs(alloc, lists),
+            KeyMap::Numbers(key_kind, lists) => kept_pairs(alloc, key_kind, lists),
+            KeyMap::Values(lists) => plain_pairs(alloc, lists),
         }
     }
 }
 
 /// Appends an item at a key that is a number.
 fn number_in(
-    map: &mut GroupsMap,
+    map: &mut KeyMap<ListPart>,
     alloc: Global,
     items: Option<Kind>,
     key_kind: Kind,
@@ -241,17 +229,17 @@ fn number_in(
     ensures kept { kind_of_keys map.new ≡ kind_of_keys map.old }
 {
     match map {
-        GroupsMap::Numbers(_, lists) => match push_at(alloc, lists, items, key, item) {
+        KeyMap::Numbers(_, lists) => match push_at(alloc, lists, items, key, item) {
             Ok(()) => return Ok(()),
             Err(e) => return Err(e),
         },
-        GroupsMap::Values(_) => unreachable!(),
+        KeyMap::Values(_) => unreachable!(),
     }
 }
 
 /// Appends an item at a key that is kept as a value.
 fn value_in(
-    map: &mut GroupsMap,
+    map: &mut KeyMap<ListPart>,
     alloc: Global,
     items: Option<Kind>,
     key: Val,
@@ -267,8 +255,8 @@ fn value_in(
     ensures kept { kind_of_keys map.new ≡ kind_of_keys map.old }
 {
     match map {
-        GroupsMap::Numbers(_, _) => unreachable!(),
-        GroupsMap::Values(lists) => match push_at(alloc, lists, items, Key::new(key), item) {
+        KeyMap::Numbers(_, _) => unreachable!(),
+        KeyMap::Values(lists) => match push_at(alloc, lists, items, Key::new(key), item) {
             Ok(()) => return Ok(()),
             Err(e) => return Err(e),
         },
@@ -277,7 +265,7 @@ fn value_in(
 
 /// Appends items at a key that is a number.
 fn list_in_numbers(
-    map: &mut GroupsMap,
+    map: &mut KeyMap<ListPart>,
     items: Option<Kind>,
     key_kind: Kind,
     key: i64,
@@ -291,17 +279,17 @@ fn list_in_numbers(
     ensures kept { kind_of_keys map.new ≡ kind_of_keys map.old }
 {
     match map {
-        GroupsMap::Numbers(_, lists) => match append_at(lists, items, key, list) {
+        KeyMap::Numbers(_, lists) => match append_at(lists, items, key, list) {
             Ok(()) => return Ok(()),
             Err(e) => return Err(e),
         },
-        GroupsMap::Values(_) => unreachable!(),
+        KeyMap::Values(_) => unreachable!(),
     }
 }
 
 /// Appends items at a key that is kept as a value.
 fn list_in_values(
-    map: &mut GroupsMap,
+    map: &mut KeyMap<ListPart>,
     items: Option<Kind>,
     key: Val,
     list: ListPart,
@@ -315,8 +303,8 @@ fn list_in_values(
     ensures kept { kind_of_keys map.new ≡ kind_of_keys map.old }
 {
     match map {
-        GroupsMap::Numbers(_, _) => unreachable!(),
-        GroupsMap::Values(lists) => match append_at(lists, items, Key::new(key), list) {
+        KeyMap::Numbers(_, _) => unreachable!(),
+        KeyMap::Values(lists) => match append_at(lists, items, Key::new(key), list) {
             Ok(()) => return Ok(()),
             Err(e) => return Err(e),
         },
@@ -324,7 +312,11 @@ fn list_in_values(
 }
 
 /// Appends the lists of a later map at their keys.
-fn all_in(map: &mut GroupsMap, items: Option<Kind>, later: GroupsMap) -> Result<(), AllocError>
+fn all_in(
+    map: &mut KeyMap<ListPart>,
+    items: Option<Kind>,
+    later: KeyMap<ListPart>,
+) -> Result<(), AllocError>
     requires kept { kind_of_keys map.old ≡ kind_of_keys later }
     requires lists { AreGroupsOf items map.old }
     requires later { AreGroupsOf items later }
@@ -333,15 +325,13 @@ fn all_in(map: &mut GroupsMap, items: Option<Kind>, later: GroupsMap) -> Result<
     ensures kept { kind_of_keys map.new ≡ kind_of_keys map.old }
 {
     match (map, later) {
-        (GroupsMap::Numbers(_, lists), GroupsMap::Numbers(_, more)) => match append_all(
+        (KeyMap::Numbers(_, lists), KeyMap::Numbers(_, more)) => match append_all(
             lists, items, more,
         ) {
             Ok(()) => return Ok(()),
             Err(e) => return Err(e),
         },
-        (GroupsMap::Values(lists), GroupsMap::Values(more)) => match append_all(
-            lists, items, more,
-        ) {
+        (KeyMap::Values(lists), KeyMap::Values(more)) => match append_all(lists, items, more) {
             Ok(()) => return Ok(()),
             Err(e) => return Err(e),
         },
@@ -350,7 +340,7 @@ fn all_in(map: &mut GroupsMap, items: Option<Kind>, later: GroupsMap) -> Result<
 }
 
 /// Appends the lists of a map at their keys.
-fn add_map(part: &mut GroupsPart, alloc: Global, map: &GroupsMap) -> Result<(), AllocError>
+fn add_map(part: &mut GroupsPart, alloc: Global, map: &KeyMap<ListPart>) -> Result<(), AllocError>
     requires kept { KeysAreKept (kind_of_keys map.now) (groups_in map.now) }
     requires lists { CanKeepEach part.old.items (all_lists map.now) }
     requires key { CanKeep part.old.key (kind_of_keys map.now) }
@@ -359,8 +349,8 @@ fn add_map(part: &mut GroupsPart, alloc: Global, map: &GroupsMap) -> Result<(), 
     ensures items { part.new.items ≡ part.old.items }
 {
     match map {
-        GroupsMap::Numbers(key_kind, lists) => add_sorted_numbers(part, alloc, *key_kind, lists),
-        GroupsMap::Values(lists) => add_sorted_values(part, alloc, lists),
+        KeyMap::Numbers(key_kind, lists) => add_sorted_numbers(part, alloc, *key_kind, lists),
+        KeyMap::Values(lists) => add_sorted_values(part, alloc, lists),
     }
 }
 
@@ -369,7 +359,7 @@ fn add_sorted_numbers(
     part: &mut GroupsPart,
     alloc: Global,
     key_kind: Kind,
-    map: &BTreeMap<i64, ListPart>,
+    map: &IndexMap<i64, ListPart>,
 ) -> Result<(), AllocError>
     requires kept { KeysAreKept (Some key_kind) (map_of (number key_kind) (lists_in map.now.entries)) }
     requires lists { CanKeepEach part.old.items (values_of map.now.entries) }
@@ -386,7 +376,7 @@ fn add_sorted_numbers(
 fn add_sorted_values(
     part: &mut GroupsPart,
     alloc: Global,
-    map: &BTreeMap<Key, ListPart>,
+    map: &IndexMap<Key, ListPart>,
 ) -> Result<(), AllocError>
     requires lists { CanKeepEach part.old.items (values_of map.now.entries) }
     requires key { part.old.key ≡ None }
@@ -403,7 +393,7 @@ fn add_numbers(
     part: &mut GroupsPart,
     alloc: Global,
     key_kind: Kind,
-    map: &BTreeMap<i64, ListPart>,
+    map: &IndexMap<i64, ListPart>,
 ) -> Result<(), AllocError>
     requires keys { AllInRange key_kind (keys_of map.now.entries) }
     requires lists { CanKeepEach part.old.items (values_of map.now.entries) }
@@ -426,7 +416,7 @@ fn add_numbers(
 fn add_values(
     part: &mut GroupsPart,
     alloc: Global,
-    map: &BTreeMap<Key, ListPart>,
+    map: &IndexMap<Key, ListPart>,
 ) -> Result<(), AllocError>
     requires lists { CanKeepEach part.old.items (values_of map.now.entries) }
     requires key { part.old.key ≡ None }

@@ -2,7 +2,10 @@
 
 ghost use Rattle.std.specs.Prelude.{◌≡◌, Some, None, IfOk};
 ghost use Rattle.std.specs.FinMap as finite;
+ghost use Rattle.std.specs.List.Sorted.{IsStrictlySortedBy};
+ghost use Rattle.std.specs.Ordering.{int_cmp};
 ghost use Rattle.std.specs.Map.{keys_of};
+ghost use Rattle.weld_builders.specs.ValueOrder.{value_cmp};
 ghost use Rattle.weld_data.specs.Value.{number};
 ghost use Rattle.weld_data.specs.Kind.{InRange};
 ghost use Rattle.weld_data.specs.View.{view_val};
@@ -10,19 +13,21 @@ ghost use Rattle.weld_builders.specs.Range.{AllInRange};
 ghost use Rattle.weld_pieces.specs.Keyed.{map_of, itself, KeysAreKept, HasOneKeyType, shown};
 ghost use Rattle.weld_groups.specs.Groups.{lists_in, list_value};
 
+use indexmap::IndexMap;
 use std::alloc::{AllocError, Global};
-use std::collections::BTreeMap;
 use weld_data::{Kind, Num, Pair, Pairs, Val};
 use weld_pieces::ListPart;
 use weld_pieces::key::Key;
+use weld_pieces::key_map::in_order;
 
 /// The dictionary of lists at keys that are numbers.
 fn number_pairs(
     alloc: Global,
     key_kind: Kind,
-    map: BTreeMap<i64, ListPart>,
+    map: IndexMap<i64, ListPart>,
 ) -> Result<Pairs, AllocError>
-    requires { AllInRange key_kind (keys_of map.entries) }
+    requires keys { AllInRange key_kind (keys_of map.entries) }
+    requires sorted { IsStrictlySortedBy int_cmp (keys_of map.entries) }
     ensures { IfOk result (λ pairs. pairs ≡ shown (number key_kind) list_value (lists_in map.entries)) }
 {
     let mut items = Vec::with_capacity(alloc, map.len())?;
@@ -36,9 +41,10 @@ fn number_pairs(
 }
 
 /// The dictionary of lists at keys that are kept as values.
-fn value_pairs(alloc: Global, map: BTreeMap<Key, ListPart>) -> Result<Pairs, AllocError>
+fn value_pairs(alloc: Global, map: IndexMap<Key, ListPart>) -> Result<Pairs, AllocError>
     requires kept { KeysAreKept None (map_of itself (lists_in map.entries)) }
     requires one_type { HasOneKeyType (map_of itself (lists_in map.entries)) }
+    requires sorted { IsStrictlySortedBy value_cmp (keys_of map.entries) }
     ensures { IfOk result (λ pairs. pairs ≡ shown itself list_value (lists_in map.entries)) }
 {
     let mut items = Vec::with_capacity(alloc, map.len())?;
@@ -55,23 +61,23 @@ fn value_pairs(alloc: Global, map: BTreeMap<Key, ListPart>) -> Result<Pairs, All
 pub(crate) fn kept_pairs(
     alloc: Global,
     key_kind: Kind,
-    map: BTreeMap<i64, ListPart>,
+    map: IndexMap<i64, ListPart>,
 ) -> Result<Pairs, AllocError>
     requires { KeysAreKept (Some key_kind) (map_of (number key_kind) (lists_in map.entries)) }
     ensures { IfOk result (λ pairs. pairs ≡ shown itself list_value (finite.entries (map_of (number key_kind) (lists_in map.entries)))) }
 {
-    let _count = map.len();
-    number_pairs(alloc, key_kind, map)
+    let sorted = in_order(map)?;
+    number_pairs(alloc, key_kind, sorted)
 }
 
 /// The same of keys that are kept as values, as the map of them shows.
-pub(crate) fn plain_pairs(alloc: Global, map: BTreeMap<Key, ListPart>) -> Result<Pairs, AllocError>
+pub(crate) fn plain_pairs(alloc: Global, map: IndexMap<Key, ListPart>) -> Result<Pairs, AllocError>
     requires kept { KeysAreKept None (map_of itself (lists_in map.entries)) }
     requires one_type { HasOneKeyType (map_of itself (lists_in map.entries)) }
     ensures { IfOk result (λ pairs. pairs ≡ shown itself list_value (finite.entries (map_of itself (lists_in map.entries)))) }
 {
-    let _count = map.len();
-    value_pairs(alloc, map)
+    let sorted = in_order(map)?;
+    value_pairs(alloc, sorted)
 }
 
 /// A number of a kind as a value.

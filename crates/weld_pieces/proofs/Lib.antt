@@ -1,5 +1,6 @@
 pub mod CellLemmas
 pub mod FieldLemmas
+pub mod HashLemmas
 pub mod KeptKeys
 pub mod KeyedLemmas
 pub mod ListLemmas

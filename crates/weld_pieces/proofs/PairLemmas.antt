@@ -1,6 +1,6 @@
 -- Entries in the order of their keys, as a dictionary.
-use Rattle.std.proofs.Common.{◌≡◌, ℕ, zero, suc, ◌<◌, ℤ, ◌<ℤ◌, Some, None, List, [], ◌∷◌, ◌++◌, map, length, slice_index_or, AllPairs, Less, int_cmp, append_assoc, append-nil, ap, sym, subst, refl, ◌∙◌, arith}
-use Rattle.std.specs.Ordering.{MatchOrdering}
+use Rattle.std.proofs.Common.{◌≡◌, Bool, true, false, true≢false, cond, is_some, Option, ℕ, zero, suc, ◌<◌, ℤ, ◌<ℤ◌, Some, None, List, [], ◌∷◌, ◌++◌, map, length, slice_index_or, AllPairs, Less, int_cmp, append_assoc, append-nil, ap, sym, subst, refl, ◌∙◌, arith}
+use Rattle.std.specs.Ordering.{MatchOrdering, eq_by_cmp}
 use Rattle.std.specs.Cmp.{int_ranks}
 use Rattle.std.specs.List.{All, AllByRecursion}
 use Rattle.std.specs.List.Sorted.{IsStrictlySortedBy}
@@ -15,10 +15,11 @@ use Rattle.weld_data.specs.Value.{Value, number}
 use Rattle.weld_data.specs.Order.{IsKey, KeyLess, KeyStands, SameKeyType, KeyPrecedes, Rises}
 use Rattle.weld_builders.specs.ValueOrder.{value_cmp}
 use Rattle.weld_builders.specs.Range.{AllInRange}
+use Rattle.weld_builders.proofs.Order.{value_cmp_total}
 use Rattle.weld_builders.proofs.Steps.{keys_stand}
-use Rattle.weld_pieces.specs.Keyed.{map_of, itself, KeysAreKept, HasOneKeyType, shown}
+use Rattle.weld_pieces.specs.Keyed.{map_of, by_value, itself, KeysAreKept, HasOneKeyType, shown}
 use Rattle.weld_pieces.specs.Kept.{IsKeptKey}
-use Rattle.weld_pieces.proofs.MapLemmas.{entries-map_of, numbers_agree, values_agree}
+use Rattle.weld_pieces.proofs.MapLemmas.{one, own, entries-map_of, numbers_agree, values_agree}
 
 -- ---- rising keys, entry by entry
 
@@ -49,69 +50,107 @@ each_key (e ∷ es) h (suc i) d l = each_key es h.1 i d (omega arith)
 rises : (es : List (Value × Value)) → AllByRecursion IsKey (keys_of es) → InTurn es → Rises es
 rises es k h = record { keys = each_key es k; rise = strictly es h }
 
--- ---- keys that are numbers of a kind
-
 less_number : (x y : ℤ) → int_cmp x y ≡ Less → x <ℤ y
 less_number x y e = subst (λ o. MatchOrdering o (x <ℤ y) (x ≡ y) (y <ℤ x)) e (int_ranks x y)
-
-number_precedes : (kk k : Kind) (x : ℤ) (es : List (ℤ × ℤ)) → AllByRecursion (λ y. int_cmp x y ≡ Less) (keys_of es) → PrecedesAll (number kk x) (shown (number kk) (number k) es)
-number_precedes kk k x [] h = tt
-number_precedes kk k x (e ∷ es) h = (record { same_type = refl; less = less_number x e.0 h.0 }, number_precedes kk k x es h.1)
-
-numbers_in_turn : (kk k : Kind) (es : List (ℤ × ℤ)) → IsStrictlySortedBy int_cmp (keys_of es) → InTurn (shown (number kk) (number k) es)
-numbers_in_turn kk k [] h = tt
-numbers_in_turn kk k (e ∷ es) h = (number_precedes kk k e.0 es (sorted_head int_cmp e.0 (keys_of es) h), numbers_in_turn kk k es (sorted_tail int_cmp e.0 (keys_of es) h))
-
-numbers_are_keys : (kk k : Kind) (es : List (ℤ × ℤ)) → AllByRecursion IsKey (keys_of (shown (number kk) (number k) es))
-numbers_are_keys kk k [] = tt
-numbers_are_keys kk k (e ∷ es) = (tt, numbers_are_keys kk k es)
-
-pub numbers_rise : (kk k : Kind) (es : List (ℤ × ℤ)) → IsStrictlySortedBy int_cmp (keys_of es) → Rises (shown (number kk) (number k) es)
-numbers_rise kk k es h = rises _ (numbers_are_keys kk k es) (numbers_in_turn kk k es h)
-
-kept_in_range : (kk : Kind) (es : List (ℤ × ℤ)) → AllByRecursion (IsKeptKey (Some kk)) (keys_of (map (λ (e : ℤ × ℤ). (number kk e.0, e.1)) es)) → AllInRange kk (keys_of es)
-kept_in_range kk [] h = tt
-kept_in_range kk (e ∷ es) h = (h.0.1, kept_in_range kk es h.1)
-
-pub keys_in_range : (kk : Kind) (es : List (ℤ × ℤ)) → IsStrictlySortedBy int_cmp (keys_of es) → KeysAreKept (Some kk) (map_of (number kk) es) → AllInRange kk (keys_of es)
-keys_in_range kk es s h =
-    kept_in_range kk es (subst (λ ds. AllByRecursion (IsKeptKey (Some kk)) (keys_of ds)) (entries-map_of (number kk) int_cmp (numbers_agree kk) es s) h)
-
--- ---- keys that are kept as values
 
 less_value : (x y : Value) → SameKeyType x y → value_cmp x y ≡ Less → KeyLess x y
 less_value x y s e = subst (λ o. KeyStands o x y) e (keys_stand x y s)
 
-abbrev plain : List (Value × ℤ) → List (Value × ℤ)
-plain es = map (λ (e : Value × ℤ). (itself e.0, e.1)) es
+module _ {X : Type 0} (value : X → Value) where
+  -- ---- keys that are numbers of a kind
 
--- the first key is of one type with each later one, and so on
-abbrev OfOneType : Value → List (Value × ℤ) → Type 0
-OfOneType k [] = Unit {0}
-OfOneType k (e ∷ es) = SameKeyType k e.0 × OfOneType k es
+  number_precedes : (kk : Kind) (x : ℤ) (es : List (ℤ × X)) → AllByRecursion (λ y. int_cmp x y ≡ Less) (keys_of es) → PrecedesAll (number kk x) (shown (number kk) value es)
+  number_precedes kk x [] h = tt
+  number_precedes kk x (e ∷ es) h = (record { same_type = refl; less = less_number x e.0 h.0 }, number_precedes kk x es h.1)
 
-one_type_with : (k : Value) (v : ℤ) (es : List (Value × ℤ)) → ((j : ℕ) (d : Value × ℤ) → j < length (plain es) → SameKeyType k (slice_index_or (plain es) j d).0) → OfOneType k es
-one_type_with k v [] h = tt
-one_type_with k v (e ∷ es) h = (h 0 e (omega arith), one_type_with k v es (λ j d l. h (suc j) d (omega arith)))
+  numbers_in_turn : (kk : Kind) (es : List (ℤ × X)) → IsStrictlySortedBy int_cmp (keys_of es) → InTurn (shown (number kk) value es)
+  numbers_in_turn kk [] h = tt
+  numbers_in_turn kk (e ∷ es) h = (number_precedes kk e.0 es (sorted_head int_cmp e.0 (keys_of es) h), numbers_in_turn kk es (sorted_tail int_cmp e.0 (keys_of es) h))
 
-value_precedes : (k : Kind) (x : Value) (es : List (Value × ℤ)) → OfOneType x es → AllByRecursion (λ y. value_cmp x y ≡ Less) (keys_of es) → PrecedesAll x (shown itself (number k) es)
-value_precedes k x [] t h = tt
-value_precedes k x (e ∷ es) t h = (record { same_type = t.0; less = less_value x e.0 t.0 h.0 }, value_precedes k x es t.1 h.1)
+  numbers_are_keys : (kk : Kind) (es : List (ℤ × X)) → AllByRecursion IsKey (keys_of (shown (number kk) value es))
+  numbers_are_keys kk [] = tt
+  numbers_are_keys kk (e ∷ es) = (tt, numbers_are_keys kk es)
 
-values_in_turn : (k : Kind) (es : List (Value × ℤ)) → AllPairs (λ (a b : Value × ℤ). SameKeyType a.0 b.0) (plain es) → IsStrictlySortedBy value_cmp (keys_of es) → InTurn (shown itself (number k) es)
-values_in_turn k [] t h = tt
-values_in_turn k (e ∷ es) t h = (
-  value_precedes k e.0 es (one_type_with e.0 e.1 es (λ j d l. t 0 (suc j) d (omega arith) (omega arith))) (sorted_head value_cmp e.0 (keys_of es) h),
-  values_in_turn k es (λ i j d l m. t (suc i) (suc j) d (omega arith) (omega arith)) (sorted_tail value_cmp e.0 (keys_of es) h),
-)
+  pub numbers_rise : (kk : Kind) (es : List (ℤ × X)) → IsStrictlySortedBy int_cmp (keys_of es) → Rises (shown (number kk) value es)
+  numbers_rise kk es h = rises _ (numbers_are_keys kk es) (numbers_in_turn kk es h)
 
-values_are_keys : (k : Kind) (es : List (Value × ℤ)) → AllByRecursion IsKey (keys_of (plain es)) → AllByRecursion IsKey (keys_of (shown itself (number k) es))
-values_are_keys k [] h = tt
-values_are_keys k (e ∷ es) h = (h.0, values_are_keys k es h.1)
+  -- ---- keys that are kept as values
 
-pub values_rise : (k : Kind) (es : List (Value × ℤ)) → KeysAreKept None (map_of itself es) → HasOneKeyType (map_of itself es) → IsStrictlySortedBy value_cmp (keys_of es) → Rises (shown itself (number k) es)
-values_rise k es a t h =
-    rises _ (values_are_keys k es (subst (λ ds. AllByRecursion IsKey (keys_of ds)) (entries-map_of itself value_cmp values_agree es h) a)) (values_in_turn k es (subst (AllPairs (λ (a b : Value × ℤ). SameKeyType a.0 b.0)) (entries-map_of itself value_cmp values_agree es h) t) h)
+  abbrev plain : List (Value × X) → List (Value × X)
+  plain es = map (λ (e : Value × X). (itself e.0, e.1)) es
+
+  -- the first key is of one type with each later one, and so on
+  abbrev OfOneType : Value → List (Value × X) → Type 0
+  OfOneType k [] = Unit {0}
+  OfOneType k (e ∷ es) = SameKeyType k e.0 × OfOneType k es
+
+  one_type_with : (k : Value) (v : X) (es : List (Value × X)) → ((j : ℕ) (d : Value × X) → j < length (plain es) → SameKeyType k (slice_index_or (plain es) j d).0) → OfOneType k es
+  one_type_with k v [] h = tt
+  one_type_with k v (e ∷ es) h = (h 0 e (omega arith), one_type_with k v es (λ j d l. h (suc j) d (omega arith)))
+
+  value_precedes : (x : Value) (es : List (Value × X)) → OfOneType x es → AllByRecursion (λ y. value_cmp x y ≡ Less) (keys_of es) → PrecedesAll x (shown itself value es)
+  value_precedes x [] t h = tt
+  value_precedes x (e ∷ es) t h = (record { same_type = t.0; less = less_value x e.0 t.0 h.0 }, value_precedes x es t.1 h.1)
+
+  values_in_turn : (es : List (Value × X)) → AllPairs (λ (a b : Value × X). SameKeyType a.0 b.0) (plain es) → IsStrictlySortedBy value_cmp (keys_of es) → InTurn (shown itself value es)
+  values_in_turn [] t h = tt
+  values_in_turn (e ∷ es) t h = (
+    value_precedes e.0 es (one_type_with e.0 e.1 es (λ j d l. t 0 (suc j) d (omega arith) (omega arith))) (sorted_head value_cmp e.0 (keys_of es) h),
+    values_in_turn es (λ i j d l m. t (suc i) (suc j) d (omega arith) (omega arith)) (sorted_tail value_cmp e.0 (keys_of es) h),
+  )
+
+  values_are_keys : (es : List (Value × X)) → AllByRecursion IsKey (keys_of (plain es)) → AllByRecursion IsKey (keys_of (shown itself value es))
+  values_are_keys [] h = tt
+  values_are_keys (e ∷ es) h = (h.0, values_are_keys es h.1)
+
+  pub values_rise : (es : List (Value × X)) → KeysAreKept None (map_of itself es) → HasOneKeyType (map_of itself es) → IsStrictlySortedBy value_cmp (keys_of es) → Rises (shown itself value es)
+  values_rise es a t h =
+      rises _ (values_are_keys es (subst (λ ds. AllByRecursion IsKey (keys_of ds)) (entries-map_of itself value_cmp values_agree es h) a)) (values_in_turn es (subst (AllPairs (λ (a b : Value × X). SameKeyType a.0 b.0)) (entries-map_of itself value_cmp values_agree es h) t) h)
+
+  -- ---- the entries of the map
+
+  shown_again : {K : Type 0} (key : K → Value) (es : List (K × X)) → shown key value es ≡ shown itself value (map (λ (e : K × X). (key e.0, e.1)) es)
+  shown_again key [] = refl
+  shown_again key (e ∷ es) = ap (λ ds. (key e.0, value e.1) ∷ ds) (shown_again key es)
+
+  pub numbers_shown : (kk : Kind) (es : List (ℤ × X)) → IsStrictlySortedBy int_cmp (keys_of es) → shown (number kk) value es ≡ shown itself value (finite.entries (map_of (number kk) es))
+  numbers_shown kk es h = shown_again (number kk) es ∙ ap (shown itself value) (sym (entries-map_of (number kk) int_cmp (numbers_agree kk) es h))
+
+  pub values_shown : (es : List (Value × X)) → IsStrictlySortedBy value_cmp (keys_of es) → shown itself value es ≡ shown itself value (finite.entries (map_of itself es))
+  values_shown es h = shown_again itself es ∙ ap (shown itself value) (sym (entries-map_of itself value_cmp values_agree es h))
+
+-- ---- what holds of each key of the map holds of each key of the entries
+
+found_holds : {X : Type 0} (P : Value → Type 0) (es : List (Value × X)) (q : Value) → AllByRecursion P (keys_of es) → is_some (finite.find value_cmp q es) ≡ true → P q
+found_holds P [] q h s = absurd (true≢false (sym s))
+found_holds {X} P (e ∷ es) q h s =
+    by (found_holds P es q h.1) (eq_by_cmp value_cmp q e.0) refl s
+  where
+    by : (is_some (finite.find value_cmp q es) ≡ true → P q) → (b : Bool) → eq_by_cmp value_cmp q e.0 ≡ b → is_some (cond b (Some e.1) (finite.find value_cmp q es)) ≡ true → P q
+    by rest true t s = subst P (sym (one q e.0 t)) h.0
+    by rest false t s = rest s
+
+still_found : {X : Type 0} (b : Bool) (x : X) (o : Option X) → is_some o ≡ true → is_some (cond b (Some x) o) ≡ true
+still_found true x o s = refl
+still_found false x o s = s
+
+module _ {K X : Type 0} (key : K → Value) (P : Value → Type 0) (all : List (K × X)) (h : AllByRecursion P (keys_of (finite.entries (map_of key all)))) where
+  each_found : (es : List (K × X)) → ((q : Value) → is_some (finite.find value_cmp q (by_value key es)) ≡ true → is_some (finite.find value_cmp q (by_value key all)) ≡ true) → AllByRecursion (λ k. P (key k)) (keys_of es)
+  each_found [] w = tt
+  each_found (e ∷ es) w =
+      let first : is_some (finite.find value_cmp (key e.0) (by_value key (e ∷ es))) ≡ true = ap (λ b. is_some (cond b (Some e.1) (finite.find value_cmp (key e.0) (by_value key es)))) (own (key e.0) (key e.0) refl) in
+      let there : finite.find value_cmp (key e.0) (finite.entries (map_of key all)) ≡ finite.find value_cmp (key e.0) (by_value key all) = sym (finite.get-entries (map_of key all) (key e.0)) ∙ finite.get-from_entries value_cmp_total (by_value key all) (key e.0) in (
+        found_holds P (finite.entries (map_of key all)) (key e.0) h (ap is_some there ∙ w (key e.0) first),
+        each_found es (λ q s. w q (still_found (eq_by_cmp value_cmp q (key e.0)) e.1 _ s)),
+      )
+
+all_in_range : (kk : Kind) (ks : List ℤ) → AllByRecursion (λ k. IsKeptKey (Some kk) (number kk k)) ks → AllInRange kk ks
+all_in_range kk [] h = tt
+all_in_range kk (k ∷ ks) h = (h.0.1, all_in_range kk ks h.1)
+
+pub keys_in_range : {X : Type 0} (kk : Kind) (es : List (ℤ × X)) → KeysAreKept (Some kk) (map_of (number kk) es) → AllInRange kk (keys_of es)
+keys_in_range kk es h =
+    all_in_range kk (keys_of es) (each_found (number kk) (IsKeptKey (Some kk)) es h es (λ q s. s))
 
 -- ---- a loop that pushes them
 
@@ -126,15 +165,3 @@ one_pushed key value pairs new p es rest e is pair so =
     ∙ append_assoc (map view_pair pairs) (view_pair p ∷ []) (shown key value rest)
     ∙ ap (λ q. map view_pair pairs ++ (q ∷ shown key value rest)) pair
     ∙ so
-
--- ---- the entries of the map
-
-shown_again : {K : Type 0} (key : K → Value) (k : Kind) (es : List (K × ℤ)) → shown key (number k) es ≡ shown itself (number k) (map (λ (e : K × ℤ). (key e.0, e.1)) es)
-shown_again key k [] = refl
-shown_again key k (e ∷ es) = ap (λ ds. (key e.0, number k e.1) ∷ ds) (shown_again key k es)
-
-pub numbers_shown : (kk k : Kind) (es : List (ℤ × ℤ)) → IsStrictlySortedBy int_cmp (keys_of es) → shown (number kk) (number k) es ≡ shown itself (number k) (finite.entries (map_of (number kk) es))
-numbers_shown kk k es h = shown_again (number kk) k es ∙ ap (shown itself (number k)) (sym (entries-map_of (number kk) int_cmp (numbers_agree kk) es h))
-
-pub values_shown : (k : Kind) (es : List (Value × ℤ)) → IsStrictlySortedBy value_cmp (keys_of es) → shown itself (number k) es ≡ shown itself (number k) (finite.entries (map_of itself es))
-values_shown k es h = shown_again itself k es ∙ ap (shown itself (number k)) (sym (entries-map_of itself value_cmp values_agree es h))

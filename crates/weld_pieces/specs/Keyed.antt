@@ -1,8 +1,8 @@
 -- Numbers by keys in the code.
-use Rattle.std.specs.Prelude.{◌≡◌, ℤ, Option, Some, None, List, [], ◌∷◌, map, AllPairs, refl}
-use Rattle.std.specs.declared.cmp.Ordering.{Ordering}
-use Rattle.std.specs.BTreeMap.{insert_entry, is_at}
+use Rattle.std.specs.Prelude.{◌≡◌, Bool, ℤ, Option, Some, None, List, [], ◌∷◌, map, AllPairs, refl}
+use Rattle.indexmap.specs.IndexMap.{insert_entry}
 use Rattle.std.specs.Map.{lookup, keys_of}
+use Rattle.std.specs.Ordering.{eq_by_cmp}
 use Rattle.std.specs.List.{AllByRecursion}
 use Rattle.weld_pieces.specs.Kept.{IsKeptKey}
 use Rattle.std.specs.Coded.{Coded, code_by, coded×, coded_option, coded_ℤ}
@@ -14,8 +14,8 @@ use Rattle.weld_data.specs.contracts.op.MergeOp as op_type
 use Rattle.weld_data.specs.Value.{Value}
 use Rattle.weld_data.specs.ValueCode.{coded_value}
 use Rattle.weld_data.specs.Order.{SameKeyType, KeyType, HasKeyType}
-use Rattle.weld_builders.specs.ValueOrder.{ValueMap}
-use Rattle.weld_builders.specs.Part.{Part, keyed_part, merge_key}
+use Rattle.weld_builders.specs.ValueOrder.{ValueMap, value_cmp}
+use Rattle.weld_builders.specs.Part.{Part, keyed_part, merge_key, join_maps}
 
 -- how its keys are kept, its operator and kind, and the numbers
 pub record Keyed : Type 0 where
@@ -42,16 +42,16 @@ coded_keyed =
 abbrev pub HasOneKeyType : {X : Type 0} → ValueMap X → Type 0
 HasOneKeyType m = AllPairs (λ (a b : Value × _). SameKeyType a.0 b.0) (finite.entries m)
 
--- ---- entries in the order of their keys
+-- ---- entries in the order in which their keys came
 
 -- what may be there at the key, and the new, put together
-abbrev pub entry_with : {K X : Type 0} → (K → K → Ordering) → (Option X → X → X) → List (K × X) → K → X → List (K × X)
-entry_with cmp f es k x = insert_entry cmp es k (f (lookup (is_at (cmp k)) es) x)
+abbrev pub entry_with : {K X : Type 0} → (K → K → Bool) → (Option X → X → X) → List (K × X) → K → X → List (K × X)
+entry_with eq f es k x = insert_entry eq es k (f (lookup (eq k) es) x)
 
 -- so for one entry after another
-abbrev pub entries_with : {K X : Type 0} → (K → K → Ordering) → (Option X → X → X) → List (K × X) → List (K × X) → List (K × X)
-entries_with cmp f es [] = es
-entries_with cmp f es (d ∷ ds) = entries_with cmp f (entry_with cmp f es d.0 d.1) ds
+abbrev pub entries_with : {K X : Type 0} → (K → K → Bool) → (Option X → X → X) → List (K × X) → List (K × X) → List (K × X)
+entries_with eq f es [] = es
+entries_with eq f es (d ∷ ds) = entries_with eq f (entry_with eq f es d.0 d.1) ds
 
 -- entries as a map from values
 abbrev pub map_of : {K X : Type 0} → (K → Value) → List (K × X) → ValueMap X
@@ -65,6 +65,10 @@ by_value key es = map (λ (e : _ × _). (key e.0, e.1)) es
 abbrev pub merged_from : {X : Type 0} → (Option X → X → X) → ValueMap X → List (Value × X) → ValueMap X
 merged_from f m [] = m
 merged_from f m (e ∷ es) = merged_from f (merge_key f m e.0 e.1) es
+
+-- seen as maps from values, in whatever way equal keys are equal values, the last entries are the join of the first and the second
+abbrev pub JoinsAs : {K X : Type 0} → (K → K → Bool) → (Option X → X → X) → List (K × X) → List (K × X) → List (K × X) → Type 0
+JoinsAs {K} eq f es later ds = (key : K → Value) → ((a b : K) → eq a b ≡ eq_by_cmp value_cmp (key a) (key b)) → map_of key ds ≡ join_maps f (map_of key es) (map_of key later)
 
 -- a key that is a value shows as it is
 abbrev pub itself : Value → Value

@@ -2,7 +2,9 @@ pub mod Answer
 pub mod Fields
 pub mod Items
 pub mod Kept
+pub mod KeyHash
 pub mod KeyLaws
+pub mod KeyMapView
 pub mod Keyed
 pub mod KeyedView
 pub mod Total

@@ -1,7 +1,9 @@
-//! Keys that are kept in order as values.
+//! Keys that are kept as values.
 
+use crate::hash::word_of;
 use std::alloc::{AllocError, Global};
 use std::cmp::Ordering;
+use std::hash::{Hash, Hasher};
 use std::marker::Model;
 use weld_data::Val;
 use weld_sorted::{compare_started, start_of};
@@ -90,6 +92,19 @@ impl Eq for Key {
     ghost use Rattle.weld_pieces.specs.KeyLaws.{equivalence};
 
     ghost laws = { equivalence };
+}
+
+impl Hash for Key {
+    ghost use Rattle.weld_pieces.specs.KeyHash.{key_input};
+    ghost use Rattle.weld_pieces.specs.KeyLaws.{alike};
+
+    ghost hash_input = { key_input };
+
+    ghost respects_eq = { alike };
+
+    fn hash<H: Hasher>(&self, state: &mut H) {
+        state.write_i64(word_of(&self.value));
+    }
 }
 
 impl PartialOrd for Key {

@@ -7,15 +7,17 @@ ghost use Rattle.weld_data.specs.Order.{IsKey};
 ghost use Rattle.std.specs.Map.{keys_of, values_of};
 ghost use Rattle.weld_builders.specs.Range.{AllInRange};
 ghost use Rattle.weld_pieces.specs.Keyed.{map_of, itself, by_value, merged_from, CanKeep, KeysAreKept};
-ghost use Rattle.weld_pieces.specs.KeyedView.{kind_of_keys, numbers_in, IsKeyed};
+ghost use Rattle.weld_pieces.specs.KeyMapView.{kind_of_keys};
+ghost use Rattle.weld_pieces.specs.KeyedView.{numbers_in, IsKeyed};
 
 use crate::key::Key;
+use crate::key_map::KeyMap;
 use crate::number::narrow;
 use crate::ordered::{merge_all, merge_at};
 use crate::pairs::{kept_pairs, key_of, plain_pairs};
 use crate::part::Part;
+use indexmap::IndexMap;
 use std::alloc::{AllocError, Global};
-use std::collections::BTreeMap;
 use std::marker::Model;
 use weld_data::{Kind, MergeOp, Num, Pairs, Stop, Val};
 
@@ -25,13 +27,7 @@ use weld_data::{Kind, MergeOp, Num, Pairs, Stop, Val};
 pub struct KeyedPart {
     op: MergeOp,
     kind: Kind,
-    map: KeyedMap,
-}
-
-#[derive(Drop)]
-enum KeyedMap {
-    Numbers(Kind, BTreeMap<i64, i128>),
-    Values(BTreeMap<Key, i128>),
+    map: KeyMap<i128>,
 }
 
 impl Model for KeyedPart {
@@ -41,7 +37,8 @@ impl Model for KeyedPart {
 
     ghost coded = { coded_keyed };
 
-    ghost use Rattle.weld_pieces.specs.KeyedView.{kind_of_keys, numbers_in, IsKeyed};
+    ghost use Rattle.weld_pieces.specs.KeyMapView.{kind_of_keys};
+    ghost use Rattle.weld_pieces.specs.KeyedView.{numbers_in, IsKeyed};
 
     ghost view = { λ k. record { key = kind_of_keys k.map; op = k.op; kind = k.kind; numbers = numbers_in k.map } };
 
@@ -68,10 +65,7 @@ impl KeyedPart {
         ensures kind { result.kind ≡ kind }
         ensures numbers { result.numbers ≡ finite.empty }
     {
-        let map = match key {
-            Some(key) => KeyedMap::Numbers(key, BTreeMap::new(alloc)),
-            None => KeyedMap::Values(BTreeMap::new(alloc)),
-        };
+        let map = KeyMap::empty(alloc, key);
         KeyedPart { op, kind, map }
     }
 
@@ -80,10 +74,7 @@ impl KeyedPart {
         ensures key { result ≡ self.now.key }
         ensures narrow { IsNarrowKey self.now.key }
     {
-        match &self.map {
-            KeyedMap::Numbers(kind, _) => Some(*kind),
-            KeyedMap::Values(_) => None,
-        }
+        self.map.key()
     }
 
     /// How it is kept. It takes no memory.
@@ -105,10 +96,7 @@ impl KeyedPart {
     pub fn is_empty(&self) -> bool
         ensures none { IsTrue result → self.now.numbers ≡ finite.empty }
     {
-        match &self.map {
-            KeyedMap::Numbers(_, numbers) => numbers.is_empty(),
-            KeyedMap::Values(values) => values.is_empty(),
-        }
+        self.map.is_empty()
     }
 
     /// A part that has the same numbers. Its keys are to be kept as they are here, or as values.
@@ -184,8 +172,8 @@ impl KeyedPart {
     {
         let KeyedPart { op: _, kind, map } = self;
         match map {
-            KeyedMap::Numbers(key_kind, numbers) => kept_pairs(alloc, key_kind, kind, numbers),
-            KeyedMap::Values(values) => plain_pairs(alloc, kind, values),
+            KeyMap::Numbers(key_kind, numbers) => kept_pairs(alloc, key_kind, kind, numbers),
+            KeyMap::Values(values) => plain_pairs(alloc, kind, values),
         }
     }
 
@@ -211,7 +199,7 @@ impl KeyedPart {
 /// Merges a number at a key that is a number.
 #[inline(always)]
 fn number_in(
-    map: &mut KeyedMap,
+    map: &mut KeyMap<i128>,
     op: MergeOp,
     kind: Kind,
     key_kind: Kind,
@@ -227,17 +215,17 @@ fn number_in(
     ensures kept { kind_of_keys map.new ≡ kind_of_keys map.old }
 {
     match map {
-        KeyedMap::Numbers(_, numbers) => match merge_at(numbers, op, kind, key, x) {
+        KeyMap::Numbers(_, numbers) => match merge_at(numbers, op, kind, key, x) {
             Ok(()) => return Ok(()),
             Err(e) => return Err(e),
         },
-        KeyedMap::Values(_) => unreachable!(),
+        KeyMap::Values(_) => unreachable!(),
     }
 }
 
 /// Merges a number at a key that is kept as a value.
 fn value_in(
-    map: &mut KeyedMap,
+    map: &mut KeyMap<i128>,
     op: MergeOp,
     kind: Kind,
     key: Val,
@@ -253,8 +241,8 @@ fn value_in(
     ensures kept { kind_of_keys map.new ≡ kind_of_keys map.old }
 {
     match map {
-        KeyedMap::Numbers(_, _) => unreachable!(),
-        KeyedMap::Values(values) => match merge_at(values, op, kind, Key::new(key), x) {
+        KeyMap::Numbers(_, _) => unreachable!(),
+        KeyMap::Values(values) => match merge_at(values, op, kind, Key::new(key), x) {
             Ok(()) => return Ok(()),
             Err(e) => return Err(e),
         },
@@ -262,7 +250,12 @@ fn value_in(
 }
 
 /// Merges the numbers of a later map at their keys.
-fn all_in(map: &mut KeyedMap, op: MergeOp, kind: Kind, later: KeyedMap) -> Result<(), AllocError>
+fn all_in(
+    map: &mut KeyMap<i128>,
+    op: MergeOp,
+    kind: Kind,
+    later: KeyMap<i128>,
+) -> Result<(), AllocError>
     requires kept { kind_of_keys map.old ≡ kind_of_keys later }
     requires keyed { IsKeyed kind map.old }
     requires later { IsKeyed kind later }
@@ -271,15 +264,13 @@ fn all_in(map: &mut KeyedMap, op: MergeOp, kind: Kind, later: KeyedMap) -> Resul
     ensures kept { kind_of_keys map.new ≡ kind_of_keys map.old }
 {
     match (map, later) {
-        (KeyedMap::Numbers(_, numbers), KeyedMap::Numbers(_, more)) => match merge_all(
+        (KeyMap::Numbers(_, numbers), KeyMap::Numbers(_, more)) => match merge_all(
             numbers, op, kind, more,
         ) {
             Ok(()) => return Ok(()),
             Err(e) => return Err(e),
         },
-        (KeyedMap::Values(values), KeyedMap::Values(more)) => match merge_all(
-            values, op, kind, more,
-        ) {
+        (KeyMap::Values(values), KeyMap::Values(more)) => match merge_all(values, op, kind, more) {
             Ok(()) => return Ok(()),
             Err(e) => return Err(e),
         },
@@ -288,7 +279,7 @@ fn all_in(map: &mut KeyedMap, op: MergeOp, kind: Kind, later: KeyedMap) -> Resul
 }
 
 /// Merges the numbers of a map at their keys.
-fn add_map(part: &mut KeyedPart, alloc: Global, map: &KeyedMap) -> Result<(), AllocError>
+fn add_map(part: &mut KeyedPart, alloc: Global, map: &KeyMap<i128>) -> Result<(), AllocError>
     requires kept { KeysAreKept (kind_of_keys map.now) (numbers_in map.now) }
     requires keyed { IsKeyed part.old.kind map.now }
     requires key { CanKeep part.old.key (kind_of_keys map.now) }
@@ -298,8 +289,8 @@ fn add_map(part: &mut KeyedPart, alloc: Global, map: &KeyedMap) -> Result<(), Al
     ensures kind { part.new.kind ≡ part.old.kind }
 {
     match map {
-        KeyedMap::Numbers(key_kind, numbers) => add_sorted_numbers(part, *key_kind, numbers),
-        KeyedMap::Values(values) => add_sorted_values(part, alloc, values),
+        KeyMap::Numbers(key_kind, numbers) => add_sorted_numbers(part, *key_kind, numbers),
+        KeyMap::Values(values) => add_sorted_values(part, alloc, values),
     }
 }
 
@@ -307,7 +298,7 @@ fn add_map(part: &mut KeyedPart, alloc: Global, map: &KeyedMap) -> Result<(), Al
 fn add_sorted_numbers(
     part: &mut KeyedPart,
     key_kind: Kind,
-    map: &BTreeMap<i64, i128>,
+    map: &IndexMap<i64, i128>,
 ) -> Result<(), AllocError>
     requires kept { KeysAreKept (Some key_kind) (map_of (number key_kind) map.now.entries) }
     requires values { AllInRange part.old.kind (values_of map.now.entries) }
@@ -325,7 +316,7 @@ fn add_sorted_numbers(
 fn add_sorted_values(
     part: &mut KeyedPart,
     alloc: Global,
-    map: &BTreeMap<Key, i128>,
+    map: &IndexMap<Key, i128>,
 ) -> Result<(), AllocError>
     requires values { AllInRange part.old.kind (values_of map.now.entries) }
     requires key { part.old.key ≡ None }
@@ -342,7 +333,7 @@ fn add_sorted_values(
 fn add_numbers(
     part: &mut KeyedPart,
     key_kind: Kind,
-    map: &BTreeMap<i64, i128>,
+    map: &IndexMap<i64, i128>,
 ) -> Result<(), AllocError>
     requires keys { AllInRange key_kind (keys_of map.now.entries) }
     requires values { AllInRange part.old.kind (values_of map.now.entries) }
@@ -365,7 +356,7 @@ fn add_numbers(
 fn add_values(
     part: &mut KeyedPart,
     alloc: Global,
-    map: &BTreeMap<Key, i128>,
+    map: &IndexMap<Key, i128>,
 ) -> Result<(), AllocError>
     requires values { AllInRange part.old.kind (values_of map.now.entries) }
     requires key { part.old.key ≡ None }

@@ -4,7 +4,9 @@
 pub mod cells;
 pub mod fields;
 mod grow;
+mod hash;
 pub mod key;
+pub mod key_map;
 pub mod keyed;
 pub mod laws;
 pub mod list;

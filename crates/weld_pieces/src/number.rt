@@ -58,7 +58,7 @@ pub(crate) fn combine_kept(op: MergeOp, kind: Kind, x: i64, y: i64) -> i64
 
 /// The same at 64 bits.
 #[inline(always)]
-fn combine_i64(op: MergeOp, x: i64, y: i64) -> i64
+pub(crate) fn combine_i64(op: MergeOp, x: i64, y: i64) -> i64
     ensures { result ≡ combination op kinds.I64 x y }
 {
     match op {

@@ -2,7 +2,10 @@
 
 ghost use Rattle.std.specs.Prelude.{◌≡◌, Some, None, IfOk};
 ghost use Rattle.std.specs.FinMap as finite;
+ghost use Rattle.std.specs.List.Sorted.{IsStrictlySortedBy};
+ghost use Rattle.std.specs.Ordering.{int_cmp};
 ghost use Rattle.std.specs.Map.{keys_of, values_of};
+ghost use Rattle.weld_builders.specs.ValueOrder.{value_cmp};
 ghost use Rattle.weld_data.specs.Value.{number};
 ghost use Rattle.weld_data.specs.Kind.{InRange};
 ghost use Rattle.weld_data.specs.View.{view_val};
@@ -10,8 +13,9 @@ ghost use Rattle.weld_builders.specs.Range.{AllInRange};
 ghost use Rattle.weld_pieces.specs.Keyed.{map_of, itself, KeysAreKept, HasOneKeyType, shown};
 
 use crate::key::Key;
+use crate::key_map::in_order;
+use indexmap::IndexMap;
 use std::alloc::{AllocError, Global};
-use std::collections::BTreeMap;
 use weld_data::{Kind, Num, Pair, Pairs, Val};
 
 /// The dictionary of numbers at keys that are numbers.
@@ -19,9 +23,10 @@ fn number_pairs(
     alloc: Global,
     key_kind: Kind,
     kind: Kind,
-    map: BTreeMap<i64, i128>,
+    map: IndexMap<i64, i128>,
 ) -> Result<Pairs, AllocError>
     requires keys { AllInRange key_kind (keys_of map.entries) }
+    requires sorted { IsStrictlySortedBy int_cmp (keys_of map.entries) }
     requires values { AllInRange kind (values_of map.entries) }
     ensures { IfOk result (λ pairs. pairs ≡ shown (number key_kind) (number kind) map.entries) }
 {
@@ -36,9 +41,10 @@ fn number_pairs(
 }
 
 /// The dictionary of numbers at keys that are kept as values.
-fn value_pairs(alloc: Global, kind: Kind, map: BTreeMap<Key, i128>) -> Result<Pairs, AllocError>
+fn value_pairs(alloc: Global, kind: Kind, map: IndexMap<Key, i128>) -> Result<Pairs, AllocError>
     requires kept { KeysAreKept None (map_of itself map.entries) }
     requires one_type { HasOneKeyType (map_of itself map.entries) }
+    requires sorted { IsStrictlySortedBy value_cmp (keys_of map.entries) }
     requires values { AllInRange kind (values_of map.entries) }
     ensures { IfOk result (λ pairs. pairs ≡ shown itself (number kind) map.entries) }
 {
@@ -57,29 +63,29 @@ pub(crate) fn kept_pairs(
     alloc: Global,
     key_kind: Kind,
     kind: Kind,
-    map: BTreeMap<i64, i128>,
+    map: IndexMap<i64, i128>,
 ) -> Result<Pairs, AllocError>
     requires keys { KeysAreKept (Some key_kind) (map_of (number key_kind) map.entries) }
     requires values { AllInRange kind (values_of map.entries) }
     ensures { IfOk result (λ pairs. pairs ≡ shown itself (number kind) (finite.entries (map_of (number key_kind) map.entries))) }
 {
-    let _count = map.len();
-    number_pairs(alloc, key_kind, kind, map)
+    let sorted = in_order(map)?;
+    number_pairs(alloc, key_kind, kind, sorted)
 }
 
 /// The same of keys that are kept as values, as the map of them shows.
 pub(crate) fn plain_pairs(
     alloc: Global,
     kind: Kind,
-    map: BTreeMap<Key, i128>,
+    map: IndexMap<Key, i128>,
 ) -> Result<Pairs, AllocError>
     requires kept { KeysAreKept None (map_of itself map.entries) }
     requires one_type { HasOneKeyType (map_of itself map.entries) }
     requires values { AllInRange kind (values_of map.entries) }
     ensures { IfOk result (λ pairs. pairs ≡ shown itself (number kind) (finite.entries (map_of itself map.entries))) }
 {
-    let _count = map.len();
-    value_pairs(alloc, kind, map)
+    let sorted = in_order(map)?;
+    value_pairs(alloc, kind, sorted)
 }
 
 /// A key that is kept as a number as a value.

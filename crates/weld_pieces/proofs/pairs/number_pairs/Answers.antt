@@ -11,4 +11,4 @@ from_vec-requires c =
     let none : c.loop-key.key-iterator ≡ [] = c.in-None.ensures.steps.0 in
     let whole = subst (λ r. map view_pair c.loop-key.items.items ++ shown (number c.args.key_kind) (number c.args.kind) r ≡ shown (number c.args.key_kind) (number c.args.kind) c.args.map.entries) none c.loop-key.invariant.2 in
     subst Rises (sym (all_pushed (number c.args.key_kind) (number c.args.kind) c.loop-key.items.items c.args.map.entries whole))
-    (numbers_rise c.args.key_kind c.args.kind c.args.map.entries c.len.ensures.ordered)
+    (numbers_rise (number c.args.kind) c.args.key_kind c.args.map.entries c.requires.sorted)

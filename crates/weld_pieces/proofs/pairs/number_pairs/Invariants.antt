@@ -1,6 +1,4 @@
 use Rattle.std.proofs.Common.{◌≡◌, map, ◌++◌}
-use Rattle.std.specs.BTreeMap.{IsOrdered}
-use Rattle.std.specs.Ordering.{int_cmp}
 use Rattle.std.specs.Map.{keys_of, values_of}
 use Rattle.weld_data.specs.Value.{number}
 use Rattle.weld_data.specs.View.{view_pair}
@@ -15,4 +13,3 @@ invariant-loop-key l =
     × (map view_pair l.items.items ++ shown (number l.key_kind) (number l.kind) l.key-iterator ≡ shown (number l.key_kind) (number l.kind) l.fn.map.entries)
     × AllInRange l.key_kind (keys_of l.key-iterator)
     × AllInRange l.kind (values_of l.key-iterator)
-    × IsOrdered int_cmp l.fn.map

@@ -11,4 +11,4 @@ from_vec-requires c =
     let none : c.loop-key.key-iterator ≡ [] = c.in-None.ensures.steps.0 in
     let whole = subst (λ r. map view_pair c.loop-key.items.items ++ shown itself (number c.args.kind) r ≡ shown itself (number c.args.kind) c.args.map.entries) none c.loop-key.invariant.2 in
     subst Rises (sym (all_pushed itself (number c.args.kind) c.loop-key.items.items c.args.map.entries whole))
-    (values_rise c.args.kind c.args.map.entries c.requires.kept c.requires.one_type c.len.ensures.ordered)
+    (values_rise (number c.args.kind) c.args.map.entries c.requires.kept c.requires.one_type c.requires.sorted)

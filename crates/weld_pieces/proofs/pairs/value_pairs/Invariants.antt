@@ -1,6 +1,4 @@
 use Rattle.std.proofs.Common.{◌≡◌, map, ◌++◌}
-use Rattle.std.specs.BTreeMap.{IsOrdered}
-use Rattle.weld_builders.specs.ValueOrder.{value_cmp}
 use Rattle.std.specs.Map.{values_of}
 use Rattle.weld_data.specs.Value.{number}
 use Rattle.weld_data.specs.View.{view_pair}
@@ -14,4 +12,3 @@ invariant-loop-key l =
     × (goal.iterator-loop-key).is_finite l.key-iterator
     × (map view_pair l.items.items ++ shown itself (number l.kind) l.key-iterator ≡ shown itself (number l.kind) l.fn.map.entries)
     × AllInRange l.kind (values_of l.key-iterator)
-    × IsOrdered value_cmp l.fn.map

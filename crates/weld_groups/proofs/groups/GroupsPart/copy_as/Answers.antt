@@ -3,7 +3,8 @@ use Rattle.weld_builders.specs.Part.{appended, join_maps}
 use Rattle.weld_builders.proofs.Maps.{appended-IsMerging, empty-join_maps}
 use Rattle.weld_pieces.specs.Keyed.{CanKeep}
 use Rattle.weld_groups.specs.Groups.{Groups, CanKeepEach}
-use Rattle.weld_groups.specs.GroupsView.{kind_of_keys, groups_in, all_lists}
+use Rattle.weld_pieces.specs.KeyMapView.{kind_of_keys}
+use Rattle.weld_groups.specs.GroupsView.{groups_in, all_lists}
 use Rattle.weld_groups.proofs.GroupsLemmas.{narrow_kept, can_keep_each}
 use Rattle.weld_groups.proofs.groups.GroupsPart.copy_as.Goals as goal
 
