@@ -1,0 +1,3 @@
+printf '|a: i64| a'
+for n in {1..8000}; do printf '.$0'; done
+printf '\n'
