@@ -50,7 +50,6 @@ fn make_ready(alloc: Global, part: &mut GroupsPart, key: &Val, item: &Val) -> Re
 }
 
 /// Keeps the keys and the items as values.
-#[tactic(auto, using(crate::proofs::KeyLemmas::keys_as_values))]
 fn make_values(alloc: Global, part: &mut GroupsPart) -> Result<(), AllocError>
     requires keys { AreKeys part.old.key part.old.groups }
     ensures key { OnOk result (part.new.key ≡ None) }

@@ -1,7 +1,8 @@
 -- What a tile makes may go to another thread.
 use denote.Param.Send.{IsSend, view_send, sendable}
 use denote.Param.SendFields.{declared_send, variants_send, as_row_send}
-use Rattle.std.proofs.collections.BTreeMap.TheSendSync as Maps
+use denote.Struct.Field.{i128-field}
+use Rattle.indexmap.proofs.map.IndexMap.TheSendSync as Maps
 use Rattle.std.proofs.Crossing
 use Rattle.weld_data.specs.contracts.value.Val as Val
 use Rattle.weld_pieces.specs.contracts.list.ListPart as ListPart
@@ -9,11 +10,10 @@ use Rattle.weld_pieces.specs.contracts.key.Key as Key
 use Rattle.weld_pieces.specs.contracts.key.Key.TheInside as KeyInside
 use Rattle.weld_pieces.specs.contracts.keyed.KeyedPart.TheInside as KeyedInside
 use Rattle.weld_pieces.specs.contracts.keyed.KeyedPart as KeyedPart
-use Rattle.weld_pieces.specs.contracts.keyed.KeyedMap as KeyedMap
+use Rattle.weld_pieces.specs.contracts.key_map.KeyMap as KeyMap
 use Rattle.weld_pieces.specs.contracts.total.TotalPart as TotalPart
 use Rattle.weld_pieces.specs.contracts.totals.TotalsPart as TotalsPart
 use Rattle.weld_groups.specs.contracts.groups.GroupsPart as GroupsPart
-use Rattle.weld_groups.specs.contracts.groups.GroupsMap as GroupsMap
 use Rattle.weld_groups.specs.contracts.groups.GroupsPart.TheInside as GroupsInside
 use Rattle.weld_built.specs.contracts.cells.Cells as CellsState
 use Rattle.weld_built.specs.contracts.built.State as State
@@ -46,17 +46,17 @@ list_send = search (Crossing.crosses, val_send, sendable) depth 60 fits 100000
 key_send : IsSend Key.the_row
 key_send = view_send _ _ _ _ _ (declared_send KeyInside.the_type ((search sendable), (val_send, tt)))
 
-keyed_map_send : IsSend KeyedMap.the_row
+keyed_map_send : IsSend (KeyMap.the_row i128-field.row)
 keyed_map_send =
-    variants_send KeyedMap.enum
+    variants_send (KeyMap.enum i128-field.row)
     ((Kinds.the_send, (search (Crossing.crosses, Maps.the_send, as_row_send, sendable) depth 60 fits 100000, tt)), ((search (Crossing.crosses, key_send, Maps.the_send, as_row_send, sendable) depth 60 fits 100000, tt), tt))
 
 keyed_send : IsSend KeyedPart.the_row
 keyed_send = view_send _ _ _ _ _ (declared_send KeyedInside.the_type (MergeOps.the_send, (Kinds.the_send, (keyed_map_send, tt))))
 
-groups_map_send : IsSend GroupsMap.the_row
+groups_map_send : IsSend (KeyMap.the_row ListPart.the_row)
 groups_map_send =
-    variants_send GroupsMap.enum
+    variants_send (KeyMap.enum ListPart.the_row)
     ((Kinds.the_send, (search (Crossing.crosses, list_send, Maps.the_send, as_row_send, sendable) depth 60 fits 100000, tt)), ((search (Crossing.crosses, key_send, list_send, Maps.the_send, as_row_send, sendable) depth 60 fits 100000, tt), tt))
 
 groups_send : IsSend GroupsPart.the_row

@@ -1,9 +1,9 @@
 -- Threads may share a plan, where its run stands, what runs the stretches of a loop, and these.
 use denote.Ref.{NamedLft, ShrRef}
-use denote.Struct.Field.{shr_ref_field, row_field}
+use denote.Struct.Field.{i128-field, shr_ref_field, row_field}
 use denote.Param.Send.{IsSync, view_sync, shr_sync, sendable}
 use denote.Param.SendFields.{declared_sync, variants_sync, as_row_sync}
-use Rattle.std.proofs.collections.BTreeMap.TheSendSync as Maps
+use Rattle.indexmap.proofs.map.IndexMap.TheSendSync as Maps
 use Rattle.std.proofs.Crossing
 use Rattle.weld_data.specs.contracts.value.Val as Val
 use Rattle.weld_pieces.specs.contracts.list.ListPart as ListPart
@@ -11,11 +11,10 @@ use Rattle.weld_pieces.specs.contracts.key.Key as Key
 use Rattle.weld_pieces.specs.contracts.key.Key.TheInside as KeyInside
 use Rattle.weld_pieces.specs.contracts.keyed.KeyedPart.TheInside as KeyedInside
 use Rattle.weld_pieces.specs.contracts.keyed.KeyedPart as KeyedPart
-use Rattle.weld_pieces.specs.contracts.keyed.KeyedMap as KeyedMap
+use Rattle.weld_pieces.specs.contracts.key_map.KeyMap as KeyMap
 use Rattle.weld_pieces.specs.contracts.total.TotalPart as TotalPart
 use Rattle.weld_pieces.specs.contracts.totals.TotalsPart as TotalsPart
 use Rattle.weld_groups.specs.contracts.groups.GroupsPart as GroupsPart
-use Rattle.weld_groups.specs.contracts.groups.GroupsMap as GroupsMap
 use Rattle.weld_groups.specs.contracts.groups.GroupsPart.TheInside as GroupsInside
 use Rattle.weld_built.specs.contracts.cells.Cells as CellsState
 use Rattle.weld_built.specs.contracts.built.State as State
@@ -67,17 +66,17 @@ list_sync = search (Crossing.crosses, val_sync, sendable) depth 60 fits 100000
 key_sync : IsSync Key.the_row
 key_sync = view_sync _ _ _ _ _ (declared_sync KeyInside.the_type ((search sendable), (val_sync, tt)))
 
-keyed_map_sync : IsSync KeyedMap.the_row
+keyed_map_sync : IsSync (KeyMap.the_row i128-field.row)
 keyed_map_sync =
-    variants_sync KeyedMap.enum
+    variants_sync (KeyMap.enum i128-field.row)
     ((Kinds.the_sync, (search (Crossing.crosses, Maps.the_sync, as_row_sync, sendable) depth 60 fits 100000, tt)), ((search (Crossing.crosses, key_sync, Maps.the_sync, as_row_sync, sendable) depth 60 fits 100000, tt), tt))
 
 keyed_sync : IsSync KeyedPart.the_row
 keyed_sync = view_sync _ _ _ _ _ (declared_sync KeyedInside.the_type (MergeOps.the_sync, (Kinds.the_sync, (keyed_map_sync, tt))))
 
-groups_map_sync : IsSync GroupsMap.the_row
+groups_map_sync : IsSync (KeyMap.the_row ListPart.the_row)
 groups_map_sync =
-    variants_sync GroupsMap.enum
+    variants_sync (KeyMap.enum ListPart.the_row)
     ((Kinds.the_sync, (search (Crossing.crosses, list_sync, Maps.the_sync, as_row_sync, sendable) depth 60 fits 100000, tt)), ((search (Crossing.crosses, key_sync, list_sync, Maps.the_sync, as_row_sync, sendable) depth 60 fits 100000, tt), tt))
 
 groups_sync : IsSync GroupsPart.the_row
