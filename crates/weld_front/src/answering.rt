@@ -67,7 +67,10 @@ fn check_job<R: Threads + Sync>(rt: &R, alloc: Global, job: Job) -> Result<Answe
     }
     let promise = Checks(Snapshot::of(&job));
     let check = move || answer_check(alloc, &job);
-    match Builder::new().stack_size(STACK).spawn_with(rt, promise, check) {
+    match Builder::new()
+        .stack_size(STACK)
+        .spawn_with(rt, promise, check)
+    {
         Ok(thread) => thread.join(rt),
         Err(unstarted) => {
             let check = unstarted.value;
