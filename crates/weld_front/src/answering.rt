@@ -49,13 +49,10 @@ fn may_be_deep(text: &[u8]) -> bool {
     let mut lets = 0u32;
     for byte in text {
         if *byte == b';' {
-            if lets == 256 {
-                return true;
-            }
-            lets += 1;
+            lets = lets.saturating_add(1);
         }
     }
-    false
+    lets > 256
 }
 
 /// What `check` answers to a job that isn't too long, found on a stack of its own where the program's may be too small.
@@ -67,7 +64,10 @@ fn check_job<R: Threads + Sync>(rt: &R, alloc: Global, job: Job) -> Result<Answe
     }
     let promise = Checks(Snapshot::of(&job));
     let check = move || answer_check(alloc, &job);
-    match Builder::new().stack_size(STACK).spawn_with(rt, promise, check) {
+    match Builder::new()
+        .stack_size(STACK)
+        .spawn_with(rt, promise, check)
+    {
         Ok(thread) => thread.join(rt),
         Err(unstarted) => {
             let check = unstarted.value;
