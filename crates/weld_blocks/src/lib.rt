@@ -8,6 +8,7 @@ mod choices;
 pub mod columns;
 pub mod deed;
 mod gather;
+mod items;
 mod leaves;
 pub mod numbers;
 mod operations;

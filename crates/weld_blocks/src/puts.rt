@@ -2,7 +2,7 @@
 
 ghost use Rattle.weld_builders.specs.Outcome.{done};
 ghost use Rattle.std.specs.Prelude.{◌≡◌, IfOk};
-ghost use Rattle.weld_data.specs.Kind.{InRange};
+ghost use Rattle.weld_data.specs.Kind.{IsNarrow, InRange};
 ghost use Rattle.weld_data.specs.Value.{number};
 ghost use Rattle.weld_data.specs.View.{view_val};
 ghost use Rattle.weld_meaning.specs.Evaluation.{merged};
@@ -50,10 +50,11 @@ fn put_word(builder: &mut Owned, kind: Kind, x: i64) -> Result<(), Stop>
     }
 }
 
-/// Merges the first of these numbers, so many, one after another.
-#[tactic(auto, using(weld_eval::proofs::Shorts::narrow_kind, crate::proofs::ManyPuts::put_none, crate::proofs::ManyPuts::numbers_there, crate::proofs::ManyPuts::numbers_taken))]
+/// Merges the first of these numbers, so many, one after another, their kind being one whose numbers lie within an i64.
+#[tactic(auto, using(crate::proofs::ManyPuts::put_none, crate::proofs::ManyPuts::numbers_there, crate::proofs::ManyPuts::numbers_taken))]
 pub fn put_numbers(numbers: &Numbers, count: usize, builder: &mut Owned) -> Result<(), Stop>
-    requires { FitsThrough (number_done numbers.now) (NumberFits numbers.now) 0 count (thing_of builder.old) }
+    requires narrow { IsNarrow numbers.now.kind }
+    requires fits { FitsThrough (number_done numbers.now) (NumberFits numbers.now) 0 count (thing_of builder.old) }
     ensures { Acts result (done_through (number_done numbers.now) 0 count (thing_of builder.old)) (thing_of builder.new) }
 {
     if count == 0 {
