@@ -1,8 +1,9 @@
 -- Numbers that an operator or a choice makes of numbers, place by place.
-use Rattle.std.proofs.Common.{◌≡◌, ◌≢◌, ◌⊎◌, inl, inr, ℕ, ◌<◌, ◌≤◌, Bool, true, false, if◌then◌else◌, ℤ, pos, List, length, take, drop, map, slice_get, get_or, replicate, ◌++◌, ◌+◌, ◌-◌, Option, Some, None, refl, sym, ap, ◌∙◌, subst, arith}
+use Rattle.std.proofs.Common.{◌≡◌, ◌≢◌, ◌⊎◌, inl, inr, ℕ, zero, suc, ◌<◌, ◌≤◌, Bool, true, false, if◌then◌else◌, ℤ, pos, List, [], ◌∷◌, length, take, drop, map, slice_get, get_or, replicate, ◌++◌, ◌+◌, ◌-◌, Option, Some, None, option_map, refl, sym, ap, ◌∙◌, subst, arith}
 use Rattle.std.proofs.lemmas.Int.{ints}
 use Rattle.std.proofs.Math.Seq.{take-append_seam}
 use Rattle.std.proofs.lemmas.Bool.{cases_lt}
+use Rattle.std.proofs.lemmas.Option.{slice_get-map}
 use Rattle.std.proofs.lemmas.List.{get_or_past, get_or-take, get_or-drop, get_or-replicate}
 use Rattle.std.specs.Ordering.{int_eq}
 use Rattle.weld_data.specs.declared.kind.Kind.{Kind}
@@ -86,17 +87,31 @@ chosen_given t x y c count truths same kind h = record {
 
 -- ---- parts of an array
 
+taken_element : {T : Type 0} (xs : List T) (n j : ℕ) → j < n → slice_get (take n xs) j ≡ slice_get xs j
+taken_element xs zero j less = absurd (omega (arith, less))
+taken_element [] (suc n) j less = refl
+taken_element (x ∷ xs) (suc n) zero less = refl
+taken_element (x ∷ xs) (suc n) (suc j) less = taken_element xs n j (omega (arith, less))
+
+dropped_element : {T : Type 0} (xs : List T) (from j : ℕ) → slice_get (drop from xs) j ≡ slice_get xs (from + j)
+dropped_element xs zero j = let e : j ≡ 0 + j = omega arith in ap (slice_get xs) e
+dropped_element [] (suc n) j = refl
+dropped_element (x ∷ xs) (suc n) j = dropped_element xs n j ∙ (let e : suc (n + j) ≡ suc n + j = omega arith in ap (slice_get (x ∷ xs)) e)
+
+part_element : {T : Type 0} (f : T → Value) (xs part : List T) (from count j : ℕ) → j < count → part ≡ take (from + count - from) (drop from xs) → slice_get (map f part) j ≡ slice_get (map f xs) (from + j)
+part_element f xs part from count j less is =
+    slice_get-map f part j
+    ∙ ap (option_map f) (ap (λ ys. slice_get ys j) is ∙ taken_element (drop from xs) (from + count - from) j (omega (arith, less)) ∙ dropped_element xs from j)
+    ∙ sym (slice_get-map f xs (from + j))
+
 -- the elements from a place on
 pub part_given : {T : Type 0} (f : T → Value) (xs part : List T) (from count : ℕ) (r : Option Numbers) → from + count ≤ length xs → part ≡ take (from + count - from) (drop from xs) → MayGive (λ j v. slice_get (map f part) j ≡ Some v) r count
     → MayGive (λ j v. slice_get (map f xs) (from + j) ≡ Some v) r count
 part_given f xs part from count None within is h = tt
 part_given f xs part from count (Some c) within is h = record {
   long = h.long;
-  each = λ j less. sym (element f xs part from count j within less is) ∙ h.each j less;
+  each = λ j less. sym (part_element f xs part from count j less is) ∙ h.each j less;
 }
-  where
-    element : {T : Type 0} (f : T → Value) (xs part : List T) (from count j : ℕ) → from + count ≤ length xs → j < count → part ≡ take (from + count - from) (drop from xs) → slice_get (map f part) j ≡ slice_get (map f xs) (from + j)
-    element f xs part from count j within less is = ?
 
 -- ---- one number at each place
 

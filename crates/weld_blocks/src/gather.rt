@@ -5,7 +5,7 @@ ghost use Rattle.weld_data.specs.Value.{Value};
 ghost use Rattle.weld_eval.specs.ShortView.{view_short};
 ghost use Rattle.weld_blocks.specs.Numbers.{MayGive};
 
-use crate::numbers::{Numbers, is_same};
+use crate::numbers::{Numbers, is_same, word_of};
 use std::alloc::Global;
 use weld_eval::short::Short;
 
@@ -41,7 +41,7 @@ pub(crate) fn gather<T: Gives>(alloc: Global, count: usize, of: &T) -> Option<Nu
                 if !is_same(n.kind, kind) {
                     return None;
                 }
-                items[place] = n.word;
+                items[place] = word_of(n);
             }
             None => return None,
         }

@@ -1,6 +1,6 @@
 //! Numbers of one kind.
 
-ghost use Rattle.std.specs.Prelude.{◌≡◌, ℕ, pos, true, get_or};
+ghost use Rattle.std.specs.Prelude.{◌≡◌, ◌<◌, ℕ, pos, true, length, get_or};
 ghost use Rattle.weld_data.specs.Kind.{InRange};
 ghost use Rattle.weld_eval.specs.Word.{of_word};
 
@@ -60,6 +60,23 @@ impl Numbers {
             Err(_) => None,
         }
     }
+}
+
+/// The word at a place, from 0.
+#[inline(always)]
+pub(crate) fn word_at(words: &[i64], place: usize) -> i64
+    requires { place < length words.now }
+    ensures { result ≡ get_or words.now place (pos 0) }
+{
+    words[place]
+}
+
+/// The word of a number.
+#[inline(always)]
+pub(crate) fn word_of(n: Short) -> i64
+    ensures { result ≡ n.word }
+{
+    n.word
 }
 
 /// Whether two kinds are the same.

@@ -10,7 +10,7 @@ ghost use Rattle.weld_eval.specs.ShortView.{view_short};
 
 use weld_data::{BinOp, Kind, Stop};
 use weld_eval::short::Short;
-use weld_word_arithmetic::{answer_kind, operation, wrap};
+use weld_word_arithmetic::{answer_kind, converted, operation, opposite};
 
 /// The operator's answer on two numbers of a kind that it takes: wrapping arithmetic or a comparison.
 /// It faults exactly where it divides by 0. It takes no memory.
@@ -39,7 +39,7 @@ pub fn negated(x: Short) -> Short
 {
     Short {
         kind: x.kind,
-        word: wrap(x.kind, x.word.wrapping_neg()),
+        word: opposite(x.kind, x.word),
     }
 }
 
@@ -71,7 +71,7 @@ pub fn cast(kind: Kind, x: Short) -> Short
 {
     Short {
         kind,
-        word: wrap(kind, x.word),
+        word: converted(kind, x.kind, x.word),
     }
 }
 

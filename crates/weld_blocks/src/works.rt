@@ -7,7 +7,7 @@ ghost use Rattle.weld_meaning.specs.Evaluation.{operated as operated_value};
 ghost use Rattle.weld_blocks.specs.Numbers.{number_at, MayGive};
 ghost use Rattle.weld_blocks.specs.Works.{AreInRange, AreWorked};
 
-use crate::numbers::Numbers;
+use crate::numbers::{Numbers, word_at};
 use std::alloc::Global;
 use weld_data::Kind;
 
@@ -69,6 +69,6 @@ fn work_all<W: Works>(work: &W, items: &mut [i64], left: &[i64], right: &[i64])
     ensures { AreWorked (W.op work.now) (W.kind work.now) left.now right.now items.new (length items.old) }
 {
     for place in 0..items.len() {
-        items[place] = work.of(left[place], right[place]);
+        items[place] = work.of(word_at(left, place), word_at(right, place));
     }
 }

@@ -1,5 +1,5 @@
 -- Numbers in words: what is said of them is said of the words modulo two to the 64th.
-use Rattle.std.proofs.Common.{◌≡◌, ◌≢◌, ℕ, suc, ◌+◌, ◌-◌, ◌/◌, ◌%◌, ◌^◌, ◌<◌, Bool, true, false, ℤ, pos, negsuc, ◌+ℤ◌, ◌-ℤ◌, ◌*ℤ◌, ◌≤ℤ◌, int_div, int_rem, int_lt, int_le, FitsSigned, unsigned_abs, w64, refl, sym, ap, subst, ◌∙◌, arith, mod-eq_of_lt, div-le_self}
+use Rattle.std.proofs.Common.{◌≡◌, ◌≢◌, ℕ, suc, ◌+◌, ◌-◌, ◌/◌, ◌%◌, ◌^◌, ◌<◌, Bool, true, false, ℤ, pos, negsuc, neg_ℤ, ◌+ℤ◌, ◌-ℤ◌, ◌*ℤ◌, ◌≤ℤ◌, int_div, int_rem, int_lt, int_le, FitsSigned, unsigned_abs, w64, refl, sym, ap, subst, ◌∙◌, arith, mod-eq_of_lt, div-le_self}
 use Rattle.std.specs.Int.{Width, cast_unsigned, cast_signed, int_rem_euclid, int_wrap}
 use mir.Val.{bits}
 use Rattle.std.proofs.lemmas.Bool.Decides.{Decides-int_eq, same_from_decides}
@@ -79,6 +79,33 @@ words_product k x y f g =
     ∙ ap (wrapped k) (*ℤ_comm x (of_word k y))
     ∙ wrapped-same k _ _ (SameModulo-mul _ _ _ x (same_word k y g))
     ∙ ap (wrapped k) (*ℤ_comm y x))
+
+-- a number converts as its word does
+pub word_converted : (to k : Kind) (x : ℤ) → FitsSigned w64 x → wrapped to x ≡ wrapped to (of_word k x)
+word_converted to kinds.Bool x f = refl
+word_converted to kinds.I8 x f = refl
+word_converted to kinds.I16 x f = refl
+word_converted to kinds.I32 x f = refl
+word_converted to kinds.I64 x f = refl
+word_converted to kinds.U8 x f = refl
+word_converted to kinds.U16 x f = refl
+word_converted to kinds.U32 x f = refl
+word_converted to kinds.U64 x f = sym (wrapped-same to _ _ (same_wide to _ _ (same_unsigned x f)))
+
+opposite_unsigned : (x : ℤ) → FitsSigned w64 x → SameModulo (2 ^ 64) (neg_ℤ (of_word kinds.U64 x)) (neg_ℤ x)
+opposite_unsigned (pos n) f = (pos 0, omega (arith, ints))
+opposite_unsigned (negsuc n) f = (negsuc 0, omega (arith, ints, f))
+
+pub word_opposite : (k : Kind) (x : ℤ) → FitsSigned w64 x → wrapped k (neg_ℤ x) ≡ wrapped k (neg_ℤ (of_word k x))
+word_opposite kinds.Bool x f = refl
+word_opposite kinds.I8 x f = refl
+word_opposite kinds.I16 x f = refl
+word_opposite kinds.I32 x f = refl
+word_opposite kinds.I64 x f = refl
+word_opposite kinds.U8 x f = refl
+word_opposite kinds.U16 x f = refl
+word_opposite kinds.U32 x f = refl
+word_opposite kinds.U64 x f = sym (wrapped-same kinds.U64 _ _ (opposite_unsigned x f))
 
 -- words are equal where their numbers are
 unsigned_only : (x y : ℤ) → FitsSigned w64 x → FitsSigned w64 y → of_word kinds.U64 x ≡ of_word kinds.U64 y → x ≡ y

@@ -2,7 +2,7 @@
 //! bits, each other as it is. Where the kind is known, nothing is asked and nothing but the word is touched.
 #![tactic(auto)]
 
-ghost use Rattle.std.specs.Prelude.{◌≡◌, ◌≢◌, false, pos, ◌+ℤ◌, ◌-ℤ◌, ◌*ℤ◌, int_div, int_rem, int_lt, int_le};
+ghost use Rattle.std.specs.Prelude.{◌≡◌, ◌≢◌, false, pos, neg_ℤ, ◌+ℤ◌, ◌-ℤ◌, ◌*ℤ◌, int_div, int_rem, int_lt, int_le};
 ghost use Rattle.std.specs.Ordering.{int_eq};
 ghost use Rattle.weld_data.specs.declared.kind.Kind.TheVariants as kind_names;
 ghost use Rattle.weld_data.specs.Kind.{IsInteger, IsNarrow, InRange};
@@ -106,7 +106,7 @@ pub fn is_at_most(kind: Kind, x: i64, y: i64) -> bool
 /// The word of the number of an integer kind that equals a number modulo two to the number of the kind's bits.
 #[tactic(auto, using(crate::proofs::Words::unsigned_wrapped))]
 #[inline(always)]
-pub fn wrap(kind: Kind, x: i64) -> i64
+fn wrap(kind: Kind, x: i64) -> i64
     requires { IsInteger kind }
     ensures value { of_word kind result ≡ wrapped kind x }
     ensures in_range { InRange kind (of_word kind result) }
@@ -121,6 +121,27 @@ pub fn wrap(kind: Kind, x: i64) -> i64
         Kind::U16 => x.rem_euclid(1 << 16),
         Kind::U32 => x.rem_euclid(1 << 32),
     }
+}
+
+/// The word of the number of an integer kind that the number of a word of any kind wraps to; false is 0 and true is 1.
+#[inline(always)]
+pub fn converted(to: Kind, from: Kind, x: i64) -> i64
+    requires { IsInteger to }
+    ensures value { of_word to result ≡ wrapped to (of_word from x) }
+    ensures in_range { InRange to (of_word to result) }
+{
+    let _from = from;
+    wrap(to, x)
+}
+
+/// The word of the wrapped opposite of the number of a word.
+#[inline(always)]
+pub fn opposite(kind: Kind, x: i64) -> i64
+    requires { IsInteger kind }
+    ensures value { of_word kind result ≡ wrapped kind (neg_ℤ (of_word kind x)) }
+    ensures in_range { InRange kind (of_word kind result) }
+{
+    wrap(kind, x.wrapping_neg())
 }
 
 /// The word of the wrapped sum of the numbers of two words.
