@@ -25,6 +25,7 @@ pub guarded_as : (d : Deed) (c n : Numbers) (t e : Deed) → IsChoice d c t e �
 guarded_as deed.Nothing c n t e h p q = absurd h
 guarded_as (deed.Number x) c n t e h p q = absurd h
 guarded_as (deed.Pair x y) c n t e h p q = absurd h
+guarded_as (deed.Struct cs) c n t e h p q = absurd h
 guarded_as (deed.Choice' x a y b z) c n t e h p q =
     let As = DoesAs (guarded_done c n) (GuardedFits c n) in
     subst (λ (u : Numbers). As (deed.Choice' u a y b z)) (sym h.0)

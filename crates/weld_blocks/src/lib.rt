@@ -16,6 +16,7 @@ mod pairs;
 pub mod puts;
 pub mod scalar;
 pub mod scope;
+mod structs;
 mod through;
 mod works;
 

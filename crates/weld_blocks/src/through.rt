@@ -29,6 +29,7 @@ pub fn do_through(deed: &Deed, count: usize, builder: &mut Owned) -> Result<(), 
             let each = EachPair { keys, numbers };
             do_each(deed, &each, count, builder)
         }
+        Deed::Struct(_) => do_each(deed, &AnyDeed { deed }, count, builder),
         Deed::Choice(truths, then, otherwise) => {
             do_choice(deed, truths, then, otherwise, count, builder)
         }
