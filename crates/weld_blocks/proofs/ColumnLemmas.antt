@@ -109,7 +109,7 @@ of_select a c e f env t v w x o p q h =
     ∙ ap (λ (u : Outcome Bool). map_out plain (map_out (λ (b : Bool). if b then v else w) u)) h.1
     ∙ ap (λ (y : Value). done (plain y)) (sym h.2)
 
-chosen_of : (a : At) (o : Three) (c e f : ExprTree) (env : Env) (t v w x : Value) → Chooses (three a o c e f) → eval c env ≡ done (plain t) → eval e env ≡ done (plain v) → eval f env ≡ done (plain w) → IsChosen t v w x → eval (three a o c e f) env ≡ done (plain x)
+pub chosen_of : (a : At) (o : Three) (c e f : ExprTree) (env : Env) (t v w x : Value) → Chooses (three a o c e f) → eval c env ≡ done (plain t) → eval e env ≡ done (plain v) → eval f env ≡ done (plain w) → IsChosen t v w x → eval (three a o c e f) env ≡ done (plain x)
 chosen_of a if_else c e f env t v w x k o p q h = of_if a c e f env t v w x o p q h
 chosen_of a select c e f env t v w x k o p q h = of_select a c e f env t v w x o p q h
 chosen_of a slice c e f env t v w x k o p q h = absurd k

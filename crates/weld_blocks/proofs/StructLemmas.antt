@@ -1,17 +1,16 @@
 -- Structs of numbers field by field.
 use Rattle.std.proofs.Common.{◌≡◌, ℕ, zero, suc, ◌+◌, ◌<◌, ◌++◌, ◌∷◌, [], Bool, true, false, if◌then◌else◌, List, length, map, take, get_or, Option, Some, None, IfSome, Vec, Global, refl, sym, ap, ◌∙◌, subst, arith}
 use Rattle.std.proofs.lemmas.List.{take_more, take_all, map-append}
-
 use Rattle.weld_data.specs.Value.{Value, struct, and_value, values}
-use Rattle.weld_tree.specs.ExprTree.{ExprTree, At, three, select}
+use Rattle.weld_tree.specs.ExprTree.{ExprTree, At, Three, three}
 use Rattle.weld_builders.specs.Outcome.{Outcome, done, fault, stuck}
 use Rattle.weld_meaning.specs.Thing.{plain}
 use Rattle.weld_meaning.specs.Evaluation.{Env, eval, truth_of}
-use Rattle.weld_blocks.specs.Numbers.{count_of, number_at, AreGiven, AreNumbersOf, IsChosen}
+use Rattle.weld_blocks.specs.Numbers.{count_of, number_at, AreGiven, AreNumbersOf, IsChosen, Chooses}
 use Rattle.weld_blocks.specs.Scope.{struct_at}
 use Rattle.weld_blocks.specs.Structs.{AreLonger, AreCounted, AreStructs, AreChosenFields}
 use Rattle.weld_blocks.specs.declared.numbers.Numbers.{Numbers}
-use Rattle.weld_blocks.proofs.ColumnLemmas.{of_select}
+use Rattle.weld_blocks.proofs.ColumnLemmas.{chosen_of}
 
 -- ---- the struct of a row
 
@@ -130,13 +129,13 @@ next_chosen t count i a b d xs ys cs more p q e f is k h =
     (subst (λ l. AreChosenFields t (take i xs ++ a ∷ []) l more count) (sym second)
     (subst (λ (l : List Numbers). AreChosenFields t (take i xs ++ a ∷ []) (take i ys ++ b ∷ []) l count) (sym is) (chosen_more t count a b d (take i xs) (take i ys) cs k h)))
 
-pub chosen_structs : (r : Option (Vec Numbers Global)) (a : At) (c e f : ExprTree) (envs : ℕ → Env) (n : ExprTree) (t : Numbers) (xs ys : List Numbers) (count : ℕ) → n ≡ three a select c e f → AreNumbersOf c envs t count
+pub chosen_structs : (r : Option (Vec Numbers Global)) (a : At) (k : Three) (c e f : ExprTree) (envs : ℕ → Env) (n : ExprTree) (t : Numbers) (xs ys : List Numbers) (count : ℕ) → n ≡ three a k c e f → Chooses n → AreNumbersOf c envs t count
     → AreStructs (λ j v. eval e (envs j) ≡ done (plain v)) xs count → AreStructs (λ j v. eval f (envs j) ≡ done (plain v)) ys count
     → IfSome r (λ cs. AreStructs (λ j v. IsChosen (number_at t j) (struct_at xs j) (struct_at ys j) v) cs.items count) → IfSome r (λ cs. AreStructs (λ j v. eval n (envs j) ≡ done (plain v)) cs.items count)
-chosen_structs None a c e f envs n t xs ys count is o p q h = tt
-chosen_structs (Some d) a c e f envs n t xs ys count is o p q h = record {
+chosen_structs None a k c e f envs n t xs ys count is form o p q h = tt
+chosen_structs (Some d) a k c e f envs n t xs ys count is form o p q h = record {
   long = h.long;
   each = λ j less.
       ap (λ m. eval m (envs j)) is
-      ∙ of_select a c e f (envs j) (number_at t j) (struct_at xs j) (struct_at ys j) (struct_at d.items j) (o.each j less) (p.each j less) (q.each j less) (h.each j less);
+      ∙ chosen_of a k c e f (envs j) (number_at t j) (struct_at xs j) (struct_at ys j) (struct_at d.items j) (subst (λ m. Chooses m) is form) (o.each j less) (p.each j less) (q.each j less) (h.each j less);
 }

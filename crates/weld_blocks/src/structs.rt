@@ -4,7 +4,7 @@ ghost use Rattle.std.specs.Prelude.{◌≡◌, IfSome};
 ghost use Rattle.weld_builders.specs.Outcome.{done};
 ghost use Rattle.weld_meaning.specs.Evaluation.{eval as eval_of};
 ghost use Rattle.weld_meaning.specs.Thing.{plain};
-ghost use Rattle.weld_blocks.specs.Numbers.{number_at, IsChosen};
+ghost use Rattle.weld_blocks.specs.Numbers.{number_at, Chooses, IsChosen};
 ghost use Rattle.weld_blocks.specs.Scope.{scope_env, struct_at};
 ghost use Rattle.weld_blocks.specs.Structs.{AreStructs};
 
@@ -26,19 +26,22 @@ pub(crate) fn columns_of(
 {
     match &item.form {
         Form::Many(ManyForm::Struct, _) => fields_of(item, scope, count, alloc),
-        Form::Three(ThreeForm::Select, _, _, _) => chosen_columns(item, scope, count, alloc),
+        Form::Three(ThreeForm::If | ThreeForm::Select, _, _, _) => chosen_columns(
+            item, scope, count, alloc,
+        ),
         _ => None,
     }
 }
 
-/// The numbers of each field of one of two structs, as a `select` says.
+/// The numbers of each field of one of two structs, as an `if` or a `select` says. Both are worked out, so neither may fault on a
+/// row.
 #[cycle(structs)]
-#[tactic(auto, using(crate::proofs::StructLemmas::chosen_structs))]
 fn chosen_columns(item: &Expr, scope: &Scope, count: usize, alloc: Global) -> Option<Vec<Numbers>>
+    requires { Chooses item.now }
     ensures { IfSome result (λ cs. AreStructs (λ place v. eval_of item.now (scope_env scope.now place) ≡ done (plain v)) cs.items count) }
 {
     match &item.form {
-        Form::Three(ThreeForm::Select, condition, then, otherwise) => {
+        Form::Three(_, condition, then, otherwise) => {
             let condition = match numbers(condition, scope, count, alloc) {
                 Some(condition) => condition,
                 None => return None,
@@ -52,7 +55,7 @@ fn chosen_columns(item: &Expr, scope: &Scope, count: usize, alloc: Global) -> Op
                 None => None,
             }
         }
-        _ => None,
+        _ => unreachable!(),
     }
 }
 
