@@ -19,12 +19,13 @@ use Rattle.weld_acts.proofs.Children.{then_acts, otherwise_acts, let_acts, struc
 use Rattle.weld_blocks.specs.Puts.{IsPut}
 use Rattle.weld_blocks.specs.Numbers.{number_at, AreNumbersOf}
 use Rattle.weld_blocks.specs.Deeds.{do_of, IsDeed, AreDeeds, IsItem, MayBeDeed, MayBeItem, IsBefore, IsMergeTree, IsQuiet, IsStructTree}
-use Rattle.weld_blocks.specs.Scope.{IsBound}
+use Rattle.weld_blocks.specs.Scope.{IsBound, struct_at}
 use Rattle.weld_blocks.specs.declared.deed.Deed.{Deed}
 use Rattle.weld_blocks.specs.declared.deed.Deed as deed
 use Rattle.weld_blocks.specs.declared.deed.Deeds.{Deeds}
 use Rattle.weld_blocks.specs.declared.deed.Deeds as deeds
 use Rattle.weld_blocks.specs.declared.numbers.Numbers.{Numbers}
+use Rattle.weld_blocks.proofs.StructLemmas.{longer}
 use Rattle.weld_blocks.proofs.Merges.{item_puts, put_number_item, pair_is, is_written}
 
 -- ---- nothing
@@ -62,6 +63,10 @@ merge_does (Some (deed.Number c)) a f item envs n count is q h = record {
 merge_does (Some (deed.Pair c d)) a f item envs n count is q h = record {
   does = λ j less s k. merges a f item (envs j) n s (pair (number_at c j) (number_at d j)) is q (h.2 j less);
   fits = λ j less s k. (subst (λ m. j < m) (sym h.0) less, subst (λ m. j < m) (sym h.1) less, puts a f item (envs j) n s (pair (number_at c j) (number_at d j)) is q (h.2 j less) k);
+}
+merge_does (Some (deed.Struct cs)) a f item envs n count is q h = record {
+  does = λ j less s k. merges a f item (envs j) n s (struct_at cs.items j) is q (h.each j less);
+  fits = λ j less s k. (longer cs.items count j h.long less, puts a f item (envs j) n s (struct_at cs.items j) is q (h.each j less) k);
 }
 merge_does (Some deed.Nothing) a f item envs n count is q h = absurd h
 merge_does (Some (deed.Choice' c x d y e)) a f item envs n count is q h = absurd h

@@ -12,6 +12,7 @@ use Rattle.weld_meaning.specs.Evaluation.{Env, eval, eval_all, found, leaf_thing
 use Rattle.weld_blocks.specs.Numbers.{number_at, AreGiven, MayGive, AreNumbersOf, MayBeNumbers, IsChosen, IsName, Chooses}
 use Rattle.weld_blocks.specs.Deeds.{IsStructTree}
 use Rattle.weld_blocks.specs.Scope.{struct_at, IsBound, AreFieldsOf}
+use Rattle.weld_blocks.specs.Structs.{AreCounted, AreStructs}
 use Rattle.weld_blocks.specs.declared.numbers.Numbers.{Numbers}
 use Rattle.weld_blocks.proofs.LeafLemmas.{may_map}
 
@@ -108,7 +109,7 @@ of_select a c e f env t v w x o p q h =
     ∙ ap (λ (u : Outcome Bool). map_out plain (map_out (λ (b : Bool). if b then v else w) u)) h.1
     ∙ ap (λ (y : Value). done (plain y)) (sym h.2)
 
-chosen_of : (a : At) (o : Three) (c e f : ExprTree) (env : Env) (t v w x : Value) → Chooses (three a o c e f) → eval c env ≡ done (plain t) → eval e env ≡ done (plain v) → eval f env ≡ done (plain w) → IsChosen t v w x → eval (three a o c e f) env ≡ done (plain x)
+pub chosen_of : (a : At) (o : Three) (c e f : ExprTree) (env : Env) (t v w x : Value) → Chooses (three a o c e f) → eval c env ≡ done (plain t) → eval e env ≡ done (plain v) → eval f env ≡ done (plain w) → IsChosen t v w x → eval (three a o c e f) env ≡ done (plain x)
 chosen_of a if_else c e f env t v w x k o p q h = of_if a c e f env t v w x o p q h
 chosen_of a select c e f env t v w x k o p q h = of_select a c e f env t v w x o p q h
 chosen_of a slice c e f env t v w x k o p q h = absurd k
@@ -175,12 +176,25 @@ struct_gives a es envs cs count j h less =
     ap (λ o. and_then o (many_thing make_struct)) (parts_give es envs cs count j h less)
     ∙ ap (λ o. done (struct_from (plains vs) o)) (as_plains vs)
 
-pub struct_bound : (a : At) (o : Many) (es : List ExprTree) (envs : ℕ → Env) (n : ExprTree) (cs : List Numbers) (count : ℕ) → n ≡ many a o (pack_exprs es) → IsStructTree n → AreFieldsOf es envs cs count → IsBound n envs (struct_at cs) count
+struct_bound : (a : At) (o : Many) (es : List ExprTree) (envs : ℕ → Env) (n : ExprTree) (cs : List Numbers) (count : ℕ) → n ≡ many a o (pack_exprs es) → IsStructTree n → AreFieldsOf es envs cs count → IsBound n envs (struct_at cs) count
 struct_bound a o es envs n cs count is form h j less = by o is (subst (λ m. IsStructTree m) is form)
   where
     by : (u : Many) → n ≡ many a u (pack_exprs es) → IsStructTree (many a u (pack_exprs es)) → eval n (envs j) ≡ done (plain (struct_at cs j))
     by make_struct same k = ap (λ m. eval m (envs j)) same ∙ struct_gives a es envs cs count j h less
     by make_vec same k = absurd k
+
+columns_long : (es : List ExprTree) (envs : ℕ → Env) (cs : List Numbers) (count : ℕ) → AreFieldsOf es envs cs count → AreCounted cs count
+columns_long [] envs [] count h = tt
+columns_long [] envs (c ∷ cs) count h = absurd h
+columns_long (e ∷ es) envs [] count h = absurd h
+columns_long (e ∷ es) envs (c ∷ cs) count h = (h.0.long, columns_long es envs cs count h.1)
+
+pub struct_columns : (a : At) (o : Many) (es : List ExprTree) (envs : ℕ → Env) (n : ExprTree) (cs : List Numbers) (count : ℕ) → n ≡ many a o (pack_exprs es) → IsStructTree n → AreFieldsOf es envs cs count
+    → AreStructs (λ j v. eval n (envs j) ≡ done (plain v)) cs count
+struct_columns a o es envs n cs count is form h = record {
+  long = columns_long es envs cs count h;
+  each = struct_bound a o es envs n cs count is form h;
+}
 
 -- one part more
 field_more : (es : List ExprTree) (e : ExprTree) (envs : ℕ → Env) (cs : List Numbers) (c : Numbers) (count : ℕ) → AreFieldsOf es envs cs count → AreNumbersOf e envs c count → AreFieldsOf (es ++ e ∷ []) envs (cs ++ c ∷ []) count

@@ -1,5 +1,5 @@
 -- Deeds by their form.
-use Rattle.std.proofs.Common.{◌≡◌, refl, sym, ◌∙◌, subst, Result}
+use Rattle.std.proofs.Common.{◌≡◌, ℕ, refl, sym, ◌∙◌, subst, Result}
 use Rattle.weld_data.specs.declared.stop.Stop.{Stop}
 use Rattle.weld_builders.specs.Outcome.{Outcome}
 use Rattle.weld_meaning.specs.Thing.{Thing}
@@ -10,6 +10,7 @@ use Rattle.weld_blocks.specs.declared.deed.Deed.{Deed}
 use Rattle.weld_blocks.specs.declared.deed.Deed as deed
 use Rattle.weld_blocks.specs.declared.numbers.Numbers.{Numbers}
 use Rattle.weld_blocks.specs.Choices.{IsChoice}
+use Rattle.weld_blocks.specs.Through.{done_through, FitsThrough}
 
 pub any_as : (d : Deed) → DoesAs (do_of d) (DeedFits d) d
 any_as d = record { same = λ j s. refl; can = λ j s h. h }
@@ -24,6 +25,7 @@ pub guarded_as : (d : Deed) (c n : Numbers) (t e : Deed) → IsChoice d c t e �
 guarded_as deed.Nothing c n t e h p q = absurd h
 guarded_as (deed.Number x) c n t e h p q = absurd h
 guarded_as (deed.Pair x y) c n t e h p q = absurd h
+guarded_as (deed.Struct cs) c n t e h p q = absurd h
 guarded_as (deed.Choice' x a y b z) c n t e h p q =
     let As = DoesAs (guarded_done c n) (GuardedFits c n) in
     subst (λ (u : Numbers). As (deed.Choice' u a y b z)) (sym h.0)
@@ -34,3 +36,11 @@ guarded_as (deed.Fields ds) c n t e h p q = absurd h
 -- an answer of what is done so is one of the deed
 pub acts_as : {T : Type 0} (r : Result T Stop) (o p : Outcome Thing) (t : Thing) → o ≡ p → Acts r o t → Acts r p t
 acts_as r o p t e h = subst (λ (u : Outcome Thing). Acts r u t) e h
+
+-- ---- a number on each row
+
+pub number_fits : (d : Deed) (c : Numbers) (n : ℕ) (s : Thing) → d ≡ deed.Number c → FitsThrough (do_of d) (DeedFits d) 0 n s → FitsThrough (number_done c) (NumberFits c) 0 n s
+number_fits d c n s e h = subst (λ (x : Deed). FitsThrough (do_of x) (DeedFits x) 0 n s) e h
+
+pub number_acts : {T : Type 0} (r : Result T Stop) (d : Deed) (c : Numbers) (n : ℕ) (s t : Thing) → d ≡ deed.Number c → Acts r (done_through (number_done c) 0 n s) t → Acts r (done_through (do_of d) 0 n s) t
+number_acts r d c n s t e h = subst (λ (x : Deed). Acts r (done_through (do_of x) 0 n s) t) (sym e) h

@@ -26,6 +26,7 @@ use Rattle.weld_blocks.specs.declared.scope.Scope.TheFolds.{fold-roll-Scope}
 use Rattle.weld_blocks.specs.declared.scope.Scope.TheVariants as scopes
 use Rattle.weld_blocks.specs.Scope.{bound_at, scope_step, scope_env, row_env}
 use Rattle.weld_eval.specs.FrameView.{env_of}
+use Rattle.weld_eval.specs.Word.{of_word}
 use Rattle.weld_eval.specs.ThingView.{thing_of}
 use Rattle.weld_tree.specs.declared.sym.Sym.{Sym}
 
@@ -51,7 +52,7 @@ pub copy_given : (r : Option Numbers) (c : Numbers) (n : ℕ) → count_of c ≡
 copy_given None c n e h = tt
 copy_given (Some d) c n e h = record {
   long = ap length h.1 ∙ e;
-  each = λ j less. ap (λ (k : Kind). number k (get_or d.items.items j (pos 0))) h.0 ∙ ap (λ (xs : List ℤ). number c.kind (get_or xs j (pos 0))) h.1;
+  each = λ j less. ap (λ (k : Kind). number k (of_word k (get_or d.items.items j (pos 0)))) h.0 ∙ ap (λ (xs : List ℤ). number c.kind (of_word c.kind (get_or xs j (pos 0)))) h.1;
 }
 
 -- ---- what is bound
@@ -177,10 +178,3 @@ field_of_rows r k sc p s n e same h = may_map (λ j v. value_field k (row_in (li
 
 pub scope_row_here : (sc : Scope) (p : Bor Rows) (s j : ℕ) → sc ≡ scopes.Rows p → p.now.row_name.0 ≡ s → look_for s (scope_env sc j) ≡ Some (row_thing p.now j)
 scope_row_here sc p s j e same = ap (look_for s) (scope_rows sc p j e) ∙ here s p.now.row_name.0 (row_thing p.now j) (middle_env p.now j) same
-
--- ---- elements of arrays
-
-pub get_mapped : (k : Kind) (xs : List ℤ) (i : ℕ) → i < length xs → slice_get (map (number k) xs) i ≡ Some (number k (get_or xs i (pos 0)))
-get_mapped k [] i h = absurd (omega arith)
-get_mapped k (x ∷ xs) zero h = refl
-get_mapped k (x ∷ xs) (suc i) h = get_mapped k xs i (omega arith)

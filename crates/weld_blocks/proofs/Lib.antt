@@ -7,6 +7,7 @@ pub mod Merges
 pub mod PairLemmas
 pub mod PutLemmas
 pub mod Scalars
+pub mod StructLemmas
 pub mod Words
 pub mod WorkLemmas
 pub mod DeedForms

@@ -28,6 +28,7 @@ pair_map : (P Q : ℕ → Value → Type 0) (d : Deed) (n : ℕ) → ((j : ℕ) 
 pair_map P Q (deed.Pair c d) n f h = (h.0, h.1, λ j less. f j (pair (number_at c j) (number_at d j)) (h.2 j less))
 pair_map P Q deed.Nothing n f h = absurd h
 pair_map P Q (deed.Number c) n f h = absurd h
+pair_map P Q (deed.Struct cs) n f h = absurd h
 pair_map P Q (deed.Choice' c a d b e) n f h = absurd h
 pair_map P Q (deed.Fields ds) n f h = absurd h
 
@@ -82,6 +83,7 @@ row_pair None e s envs n is h = tt
 row_pair (Some (deed.Pair c d)) e s envs n is h = pair_map (λ j v. look_for s (envs j) ≡ Some (plain v)) (λ j v. eval e (envs j) ≡ done (plain v)) (deed.Pair c d) n (λ j v q. eval_name e s (envs j) is ∙ ap found q) h
 row_pair (Some deed.Nothing) e s envs n is h = absurd h
 row_pair (Some (deed.Number c)) e s envs n is h = absurd h
+row_pair (Some (deed.Struct cs)) e s envs n is h = absurd h
 row_pair (Some (deed.Choice' c a d b f)) e s envs n is h = absurd h
 row_pair (Some (deed.Fields ds)) e s envs n is h = absurd h
 
@@ -118,6 +120,7 @@ item_is : (e : ExprTree) (envs : ℕ → Env) (d : Deed) (count : ℕ) → IsIte
 item_is e envs (deed.Number c) count h j less = h.each j less
 item_is e envs (deed.Pair c d) count h j less = h.2 j less
 item_is e envs deed.Nothing count h j less = absurd h
+item_is e envs (deed.Struct cs) count h j less = h.each j less
 item_is e envs (deed.Choice' c a d b f) count h j less = absurd h
 item_is e envs (deed.Fields ds) count h j less = absurd h
 
@@ -133,5 +136,6 @@ chosen_pair_gives (Some (deed.Pair x y)) a c e f envs n t d g count is o p q h =
 )
 chosen_pair_gives (Some deed.Nothing) a c e f envs n t d g count is o p q h = absurd h
 chosen_pair_gives (Some (deed.Number x)) a c e f envs n t d g count is o p q h = absurd h
+chosen_pair_gives (Some (deed.Struct cs)) a c e f envs n t d g count is o p q h = absurd h
 chosen_pair_gives (Some (deed.Choice' x b y z w)) a c e f envs n t d g count is o p q h = absurd h
 chosen_pair_gives (Some (deed.Fields ds)) a c e f envs n t d g count is o p q h = absurd h

@@ -1,8 +1,9 @@
 -- Numbers that an operator or a choice makes of numbers, place by place.
-use Rattle.std.proofs.Common.{◌≡◌, ◌≢◌, ◌⊎◌, inl, inr, ℕ, ◌<◌, ◌≤◌, Bool, true, false, if◌then◌else◌, ℤ, pos, List, length, take, drop, map, slice_get, get_or, replicate, ◌++◌, ◌+◌, ◌-◌, Option, Some, refl, sym, ap, ◌∙◌, subst, arith}
+use Rattle.std.proofs.Common.{◌≡◌, ◌≢◌, ◌⊎◌, inl, inr, ℕ, zero, suc, ◌<◌, ◌≤◌, Bool, true, false, if◌then◌else◌, ℤ, pos, List, [], ◌∷◌, length, take, drop, map, slice_get, get_or, replicate, ◌++◌, ◌+◌, ◌-◌, Option, Some, None, option_map, refl, sym, ap, ◌∙◌, subst, arith}
 use Rattle.std.proofs.lemmas.Int.{ints}
 use Rattle.std.proofs.Math.Seq.{take-append_seam}
 use Rattle.std.proofs.lemmas.Bool.{cases_lt}
+use Rattle.std.proofs.lemmas.Option.{slice_get-map}
 use Rattle.std.proofs.lemmas.List.{get_or_past, get_or-take, get_or-drop, get_or-replicate}
 use Rattle.std.specs.Ordering.{int_eq}
 use Rattle.weld_data.specs.declared.kind.Kind.{Kind}
@@ -11,19 +12,16 @@ use Rattle.weld_data.specs.declared.op.BinOp.{BinOp}
 use Rattle.weld_data.specs.declared.op.BinOp.TheVariants as ops
 use Rattle.weld_data.specs.Kind.{IsNarrow, InRange}
 use Rattle.weld_data.specs.Operation.{TakesKind, answer_kind}
-use Rattle.weld_data.specs.Value.{number}
+use Rattle.weld_data.specs.Value.{Value, number}
 use Rattle.weld_builders.specs.Outcome.{done}
 use Rattle.weld_meaning.specs.Evaluation.{operated, truth_of}
-use Rattle.weld_data.proofs.Ranges.{IsNarrow-not_u64}
 use Rattle.weld_eval.specs.Word.{of_word}
-use Rattle.weld_eval.proofs.Shorts.{narrow_word}
 use Rattle.weld_blocks.specs.Numbers.{number_at, AreGiven, MayGive, IsChosen}
 use Rattle.weld_blocks.specs.declared.numbers.Numbers.{Numbers}
-use Rattle.weld_blocks.specs.Works.{AreInRange, AreWorked, AreChosen, AreCopied}
-use Rattle.weld_blocks.proofs.LeafLemmas.{get_mapped}
+use Rattle.weld_blocks.specs.Works.{AreInRange, AreWorked, AreChosen}
 use Rattle.weld_blocks.proofs.Scalars.{operated_some}
 
-zero_of : (k : Kind) → InRange k (pos 0)
+zero_of : (k : Kind) → InRange k (of_word k (pos 0))
 zero_of kinds.Bool = record { low = omega (arith, ints); high = omega (arith, ints) }
 zero_of kinds.I8 = record { low = omega (arith, ints); high = omega (arith, ints) }
 zero_of kinds.I16 = record { low = omega (arith, ints); high = omega (arith, ints) }
@@ -35,12 +33,12 @@ zero_of kinds.U32 = record { low = omega (arith, ints); high = omega (arith, int
 zero_of kinds.U64 = record { low = omega (arith, ints); high = omega (arith, ints) }
 
 -- what is in range as far as there are numbers is so everywhere
-pub all_in_range : (k : Kind) (zs : List ℤ) (count : ℕ) → length zs ≡ count → ((place : ℕ) → place < count → InRange k (get_or zs place (pos 0))) → AreInRange k zs
+pub all_in_range : (k : Kind) (zs : List ℤ) (count : ℕ) → length zs ≡ count → ((place : ℕ) → place < count → InRange k (of_word k (get_or zs place (pos 0)))) → AreInRange k zs
 all_in_range k zs count long h place = by (cases_lt place count)
   where
-    by : (place < count) ⊎ (count ≤ place) → InRange k (get_or zs place (pos 0))
+    by : (place < count) ⊎ (count ≤ place) → InRange k (of_word k (get_or zs place (pos 0)))
     by (inl less) = h place less
-    by (inr more) = subst (InRange k) (sym (get_or_past zs place (pos 0) (omega (arith, long)))) (zero_of k)
+    by (inr more) = subst (λ z. InRange k (of_word k z)) (sym (get_or_past zs place (pos 0) (omega (arith, long)))) (zero_of k)
 
 pub worked_in_range : (op : BinOp) (k : Kind) (xs ys zs : List ℤ) (count : ℕ) → AreWorked op k xs ys zs count → AreInRange (answer_kind op k) zs
 worked_in_range op k xs ys zs count h = all_in_range (answer_kind op k) zs count h.long h.in_range
@@ -53,51 +51,22 @@ worked_given op k left right c count l r takes answer h = record {
       let x : ℤ = get_or left.items.items j (pos 0) in
       let y : ℤ = get_or right.items.items j (pos 0) in
       let z : ℤ = get_or c.items.items j (pos 0) in
-      ap (λ (m : Kind). operated op (number m x) (number right.kind y)) l
-      ∙ ap (λ (m : Kind). operated op (number k x) (number m y)) r
-      ∙ operated_some op k k x y z (k, takes, (refl, subst (λ m. InRange m x) l (left.in_range j)), (refl, subst (λ m. InRange m y) r (right.in_range j))) (h.each j less)
-      ∙ ap (λ (m : Kind). done (number m z)) (sym answer);
+      ap (λ (m : Kind). operated op (number m (of_word m x)) (number right.kind (of_word right.kind y))) l
+      ∙ ap (λ (m : Kind). operated op (number k (of_word k x)) (number m (of_word m y))) r
+      ∙ operated_some op k k (of_word k x) (of_word k y) (of_word (answer_kind op k) z)
+      (k, takes, (refl, subst (λ m. InRange m (of_word m x)) l (left.in_range j)), (refl, subst (λ m. InRange m (of_word m y)) r (right.in_range j))) (h.each j less)
+      ∙ ap (λ (m : Kind). done (number m (of_word m z))) (sym answer);
 }
-
--- ---- kinds whose numbers lie within 64 bits with a sign
-
-pub not_u64 : (k : Kind) → IsNarrow k → k ≢ kinds.U64
-not_u64 k n e = subst IsNarrow e n
-
-pub narrow_same : (k m : Kind) → k ≡ m → k ≢ kinds.U64 → IsNarrow m
-narrow_same k m e n = subst IsNarrow e (IsNarrow-not_u64 k n)
-
-answer_narrow : (op : BinOp) (k : Kind) → IsNarrow k → IsNarrow (answer_kind op k)
-answer_narrow ops.Add k n = n
-answer_narrow ops.Sub k n = n
-answer_narrow ops.Mul k n = n
-answer_narrow ops.Div k n = n
-answer_narrow ops.Rem k n = n
-answer_narrow ops.Eq k n = tt
-answer_narrow ops.Ne k n = tt
-answer_narrow ops.Lt k n = tt
-answer_narrow ops.Le k n = tt
-answer_narrow ops.Gt k n = tt
-answer_narrow ops.Ge k n = tt
-
-pub worked_narrow : (op : BinOp) (k m a : Kind) → m ≡ k → m ≢ kinds.U64 → a ≡ answer_kind op k → a ≢ kinds.U64
-worked_narrow op k m a e n is = not_u64 a (subst IsNarrow (sym is) (answer_narrow op k (narrow_same m k e n)))
-
-pub word_in_range : (k : Kind) (x : ℤ) → IsNarrow k → InRange k (of_word k x) → InRange k x
-word_in_range k x n r = subst (InRange k) (narrow_word k x n) r
-
-pub one_word : (r : Option Numbers) (k : Kind) (x : ℤ) (count : ℕ) → IsNarrow k → MayGive (λ _ v. v ≡ number k x) r count → MayGive (λ _ v. v ≡ number k (of_word k x)) r count
-one_word r k x count n h = subst (λ (z : ℤ). MayGive (λ _ v. v ≡ number k z) r count) (sym (narrow_word k x n)) h
 
 -- ---- choices
 
-number_by : (b : Bool) (m k l : Kind) (x y z : ℤ) → m ≡ k → m ≡ l → z ≡ (if b then x else y) → number m z ≡ (if b then number k x else number l y)
-number_by true m k l x y z p q e = ap (λ (n : Kind). number n z) p ∙ ap (number k) e
-number_by false m k l x y z p q e = ap (λ (n : Kind). number n z) q ∙ ap (number l) e
+number_by : (b : Bool) (m k l : Kind) (x y z : ℤ) → m ≡ k → m ≡ l → z ≡ (if b then x else y) → number m (of_word m z) ≡ (if b then number k (of_word k x) else number l (of_word l y))
+number_by true m k l x y z p q e = ap (λ (n : Kind). number n (of_word n z)) p ∙ ap (λ w. number k (of_word k w)) e
+number_by false m k l x y z p q e = ap (λ (n : Kind). number n (of_word n z)) q ∙ ap (λ w. number l (of_word l w)) e
 
-range_by : (b : Bool) (k : Kind) (x y z : ℤ) → z ≡ (if b then x else y) → InRange k x → InRange k y → InRange k z
-range_by true k x y z e p q = subst (InRange k) (sym e) p
-range_by false k x y z e p q = subst (InRange k) (sym e) q
+range_by : (b : Bool) (k : Kind) (x y z : ℤ) → z ≡ (if b then x else y) → InRange k (of_word k x) → InRange k (of_word k y) → InRange k (of_word k z)
+range_by true k x y z e p q = subst (λ w. InRange k (of_word k w)) (sym e) p
+range_by false k x y z e p q = subst (λ w. InRange k (of_word k w)) (sym e) q
 
 pub chosen_in_range : (k : Kind) (ts xs ys zs : List ℤ) (count : ℕ) → AreInRange k xs → AreInRange k ys → AreChosen ts xs ys zs count → AreInRange k zs
 chosen_in_range k ts xs ys zs count p q h =
@@ -111,31 +80,43 @@ chosen_given t x y c count truths same kind h = record {
   each = λ j less.
       let b : Bool = int_eq (get_or t.items.items j (pos 0)) (pos 1) in (
         b,
-        ap (λ (m : Kind). truth_of (number m (get_or t.items.items j (pos 0)))) truths,
+        ap (λ (m : Kind). truth_of (number m (of_word m (get_or t.items.items j (pos 0))))) truths,
         number_by b c.kind x.kind y.kind (get_or x.items.items j (pos 0)) (get_or y.items.items j (pos 0)) (get_or c.items.items j (pos 0)) kind (kind ∙ same) (h.each j less),
       );
 }
 
 -- ---- parts of an array
 
-pub copies_in_range : (xs zs : List ℤ) (count : ℕ) → AreCopied xs zs count → AreInRange kinds.I64 zs
-copies_in_range xs zs count h = all_in_range kinds.I64 zs count h.long h.in_range
+taken_element : {T : Type 0} (xs : List T) (n j : ℕ) → j < n → slice_get (take n xs) j ≡ slice_get xs j
+taken_element xs zero j less = absurd (omega (arith, less))
+taken_element [] (suc n) j less = refl
+taken_element (x ∷ xs) (suc n) zero less = refl
+taken_element (x ∷ xs) (suc n) (suc j) less = taken_element xs n j (omega (arith, less))
 
--- the numbers of 64 bits from a place on
-pub part_given : (xs part : List ℤ) (from count : ℕ) (c : Numbers) → from + count ≤ length xs → c.kind ≡ kinds.I64 → part ≡ take (from + count - from) (drop from xs) → AreCopied part c.items.items count
-    → AreGiven (λ j v. slice_get (map (number kinds.I64) xs) (from + j) ≡ Some v) c count
-part_given xs part from count c within kind is h = record {
+dropped_element : {T : Type 0} (xs : List T) (from j : ℕ) → slice_get (drop from xs) j ≡ slice_get xs (from + j)
+dropped_element xs zero j = let e : j ≡ 0 + j = omega arith in ap (slice_get xs) e
+dropped_element [] (suc n) j = refl
+dropped_element (x ∷ xs) (suc n) j = dropped_element xs n j ∙ (let e : suc (n + j) ≡ suc n + j = omega arith in ap (slice_get (x ∷ xs)) e)
+
+part_element : {T : Type 0} (f : T → Value) (xs part : List T) (from count j : ℕ) → j < count → part ≡ take (from + count - from) (drop from xs) → slice_get (map f part) j ≡ slice_get (map f xs) (from + j)
+part_element f xs part from count j less is =
+    slice_get-map f part j
+    ∙ ap (option_map f) (ap (λ ys. slice_get ys j) is ∙ taken_element (drop from xs) (from + count - from) j (omega (arith, less)) ∙ dropped_element xs from j)
+    ∙ sym (slice_get-map f xs (from + j))
+
+-- the elements from a place on
+pub part_given : {T : Type 0} (f : T → Value) (xs part : List T) (from count : ℕ) (r : Option Numbers) → from + count ≤ length xs → part ≡ take (from + count - from) (drop from xs) → MayGive (λ j v. slice_get (map f part) j ≡ Some v) r count
+    → MayGive (λ j v. slice_get (map f xs) (from + j) ≡ Some v) r count
+part_given f xs part from count None within is h = tt
+part_given f xs part from count (Some c) within is h = record {
   long = h.long;
-  each = λ j less.
-      let there : get_or c.items.items j (pos 0) ≡ get_or xs (from + j) (pos 0) =
-      h.each j less ∙ ap (λ (zs : List ℤ). get_or zs j (pos 0)) is ∙ get_or-take (from + count - from) (drop from xs) j (pos 0) (omega arith) ∙ get_or-drop from xs j (pos 0) in
-      get_mapped kinds.I64 xs (from + j) (omega arith) ∙ ap (λ (z : ℤ). Some (number kinds.I64 z)) (sym there) ∙ ap (λ (k : Kind). Some (number k (get_or c.items.items j (pos 0)))) (sym kind);
+  each = λ j less. sym (part_element f xs part from count j less is) ∙ h.each j less;
 }
 
 -- ---- one number at each place
 
-pub one_in_range : (k : Kind) (x : ℤ) (zs : List ℤ) (count : ℕ) → InRange k x → zs ≡ replicate count x → length zs ≡ count → AreInRange k zs
-one_in_range k x zs count h is long = all_in_range k zs count long (λ j less. subst (InRange k) (sym (ap (λ (ys : List ℤ). get_or ys j (pos 0)) is ∙ get_or-replicate count j x (pos 0) less)) h)
+pub one_in_range : (k : Kind) (x : ℤ) (zs : List ℤ) (count : ℕ) → InRange k (of_word k x) → zs ≡ replicate count x → length zs ≡ count → AreInRange k zs
+one_in_range k x zs count h is long = all_in_range k zs count long (λ j less. subst (λ z. InRange k (of_word k z)) (sym (ap (λ (ys : List ℤ). get_or ys j (pos 0)) is ∙ get_or-replicate count j x (pos 0) less)) h)
 
 -- the same of lists that are those of the numbers
 pub chosen_from : (t x y c : Numbers) (ts xs ys : List ℤ) (count : ℕ) → t.kind ≡ kinds.Bool → x.kind ≡ y.kind → c.kind ≡ x.kind → ts ≡ t.items.items → xs ≡ x.items.items → ys ≡ y.items.items → AreChosen ts xs ys c.items.items count

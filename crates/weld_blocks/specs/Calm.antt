@@ -10,6 +10,7 @@ abbrev mutual
   IsCalm deed.Nothing = Unit {0}
   IsCalm (deed.Number c) = Unit {0}
   IsCalm (deed.Pair c d) = ⊥
+  IsCalm (deed.Struct cs) = ⊥
   IsCalm (deed.Choice' c a d b e) = ⊥
   IsCalm (deed.Fields ds) = AreCalm ds
 

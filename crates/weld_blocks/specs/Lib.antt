@@ -6,5 +6,6 @@ pub mod Does
 pub mod Numbers
 pub mod Puts
 pub mod Scope
+pub mod Structs
 pub mod Through
 pub mod Works

@@ -6,6 +6,7 @@ use Rattle.weld_builders.specs.Outcome.{done}
 use Rattle.weld_meaning.specs.Thing.{plain}
 use Rattle.weld_meaning.specs.Evaluation.{Env, eval, truth_of}
 use Rattle.weld_eval.specs.RowLists.{rows_in}
+use Rattle.weld_eval.specs.Word.{of_word}
 use Rattle.weld_blocks.specs.declared.numbers.Numbers.{Numbers}
 
 -- how many there are
@@ -14,7 +15,7 @@ count_of c = length c.items.items
 
 -- the number at a place, from 0
 abbrev pub number_at : Numbers → ℕ → Value
-number_at c j = number c.kind (get_or c.items.items j (pos 0))
+number_at c j = number c.kind (of_word c.kind (get_or c.items.items j (pos 0)))
 
 abbrev pub AreSame : Numbers → Numbers → Type 0
 AreSame c d = (c.kind ≡ d.kind) × (c.items.items ≡ d.items.items)

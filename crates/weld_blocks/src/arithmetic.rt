@@ -10,24 +10,23 @@ ghost use Rattle.weld_meaning.specs.Evaluation.{operated as operated_value};
 ghost use Rattle.weld_blocks.specs.Numbers.{number_at, MayGive};
 
 use crate::numbers::Numbers;
-use crate::scalar::{difference, number_of, product, sum};
 use crate::works::{Works, worked};
 use std::alloc::Global;
 use weld_data::{BinOp, Kind};
+use weld_word_arithmetic::{difference, is_at_most, is_equal, is_less, number_of, product, sum};
 
-/// A kind of integers, of 64 bits with a sign at most, that is known where a loop is compiled.
+/// A kind of integers that is known where a loop is compiled.
 trait OfKind {
     ghost use Rattle.std.specs.Prelude.{◌≡◌};
     ghost use Rattle.weld_data.specs.declared.kind.Kind.{Kind as GhostKind};
-    ghost use Rattle.weld_data.specs.Kind.{IsInteger, IsNarrow};
+    ghost use Rattle.weld_data.specs.Kind.{IsInteger};
 
     ghost named: { Self → GhostKind };
 
     /// The kind. It takes no memory.
     fn kind(&self) -> Kind
         ensures kind { result ≡ named self.now }
-        ensures integer { IsInteger result }
-        ensures narrow { IsNarrow result };
+        ensures integer { IsInteger result };
 }
 
 #[derive(Clone, Copy)]
@@ -114,6 +113,18 @@ impl OfKind for Unsigned32 {
     }
 }
 
+#[derive(Clone, Copy)]
+struct Unsigned64;
+
+impl OfKind for Unsigned64 {
+    ghost named = { λ _. kind_names.U64 };
+
+    #[inline(always)]
+    fn kind(&self) -> Kind {
+        Kind::U64
+    }
+}
+
 /// The wrapped sum.
 #[derive(Clone, Copy)]
 struct Sum<K> {
@@ -177,7 +188,7 @@ impl Works for Equal {
 
     #[inline(always)]
     fn of(&self, x: i64, y: i64) -> i64 {
-        number_of(x == y)
+        number_of(is_equal(self.kind, x, y))
     }
 }
 
@@ -193,7 +204,7 @@ impl Works for Unequal {
 
     #[inline(always)]
     fn of(&self, x: i64, y: i64) -> i64 {
-        number_of(x != y)
+        number_of(!is_equal(self.kind, x, y))
     }
 }
 
@@ -209,7 +220,7 @@ impl Works for Less {
 
     #[inline(always)]
     fn of(&self, x: i64, y: i64) -> i64 {
-        number_of(x < y)
+        number_of(is_less(self.kind, x, y))
     }
 }
 
@@ -225,7 +236,7 @@ impl Works for AtMost {
 
     #[inline(always)]
     fn of(&self, x: i64, y: i64) -> i64 {
-        number_of(x <= y)
+        number_of(is_at_most(self.kind, x, y))
     }
 }
 
@@ -241,7 +252,7 @@ impl Works for Greater {
 
     #[inline(always)]
     fn of(&self, x: i64, y: i64) -> i64 {
-        number_of(x > y)
+        number_of(is_less(self.kind, y, x))
     }
 }
 
@@ -257,7 +268,7 @@ impl Works for AtLeast {
 
     #[inline(always)]
     fn of(&self, x: i64, y: i64) -> i64 {
-        number_of(x >= y)
+        number_of(is_at_most(self.kind, y, x))
     }
 }
 
@@ -282,7 +293,7 @@ pub(crate) fn arithmetic(
         Kind::U8 => arithmetic_of(op, Unsigned8, left, right, count, alloc),
         Kind::U16 => arithmetic_of(op, Unsigned16, left, right, count, alloc),
         Kind::U32 => arithmetic_of(op, Unsigned32, left, right, count, alloc),
-        Kind::U64 => None,
+        Kind::U64 => arithmetic_of(op, Unsigned64, left, right, count, alloc),
     }
 }
 

@@ -15,6 +15,7 @@ use crate::deed::{Deed, Deeds};
 use crate::numbers::Numbers;
 use crate::pairs::pair_named;
 use crate::scope::{Rows, Scope, of_rows, with_bound};
+use crate::structs::columns_of;
 use std::alloc::Global;
 use weld_eval::frame::Frame;
 use weld_eval::legs::Legs;
@@ -97,13 +98,26 @@ fn is_quiet(e: &Expr) -> bool
     }
 }
 
-/// What is merged: a number, or a struct of two.
+/// What is merged: a number, or a struct of two or of more.
 fn item_of(item: &Expr, scope: &Scope, count: usize, alloc: Global) -> Option<Deed>
     ensures { MayBeItem item.now (scope_env scope.now) result count }
 {
     match numbers(item, scope, count, alloc) {
         Some(numbers) => Some(Deed::Number(numbers)),
-        None => pair_of(item, scope, count, alloc),
+        None => match pair_of(item, scope, count, alloc) {
+            Some(pair) => Some(pair),
+            None => struct_of(item, scope, count, alloc),
+        },
+    }
+}
+
+/// A struct of numbers.
+fn struct_of(item: &Expr, scope: &Scope, count: usize, alloc: Global) -> Option<Deed>
+    ensures { MayBeItem item.now (scope_env scope.now) result count }
+{
+    match columns_of(item, scope, count, alloc) {
+        Some(columns) => Some(Deed::Struct(columns)),
+        None => None,
     }
 }
 

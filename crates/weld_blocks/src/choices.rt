@@ -1,6 +1,6 @@
 //! One of two numbers at each place of a block.
 
-ghost use Rattle.std.specs.Prelude.{◌≡◌, ◌≢◌, ◌≤◌, length};
+ghost use Rattle.std.specs.Prelude.{◌≡◌, ◌≤◌, length};
 ghost use Rattle.weld_data.specs.declared.kind.Kind.TheVariants as kind_names;
 ghost use Rattle.weld_blocks.specs.Numbers.{number_at, MayGive, IsChosen};
 ghost use Rattle.weld_blocks.specs.Works.{AreChosen, AreInRange};
@@ -37,7 +37,6 @@ pub(crate) fn choose(
 /// Numbers of the kind.
 fn numbers_of(kind: Kind, items: Vec<i64>) -> Numbers
     requires in_range { AreInRange kind items.items }
-    requires narrow { kind ≢ kind_names.U64 }
     ensures kind { result.kind ≡ kind }
     ensures items { result.items.items ≡ items.items }
 {

@@ -2,14 +2,15 @@
 
 ghost use Rattle.std.specs.Prelude.{◌≡◌, IfSome, true, false};
 ghost use Rattle.weld_builders.specs.Outcome.{done};
-ghost use Rattle.weld_meaning.specs.Evaluation.{leaf_thing, one_thing, operated as operated_value, truth_value};
+ghost use Rattle.weld_meaning.specs.Evaluation.{eval as eval_of, leaf_thing, one_thing, operated as operated_value, truth_value};
 ghost use Rattle.weld_meaning.specs.Thing.{plain};
 ghost use Rattle.weld_data.specs.Value.{number};
 ghost use Rattle.weld_eval.specs.ShortView.{view_short};
 ghost use Rattle.weld_tree.specs.ExprView.{view_leaf, view_one};
 ghost use Rattle.weld_blocks.specs.Numbers.{number_at, MayGive, MayBeNumbers, IsChosen, IsName, Chooses};
 ghost use Rattle.weld_blocks.specs.Deeds.{IsStructTree};
-ghost use Rattle.weld_blocks.specs.Scope.{scope_env, struct_at, IsBound, MayBeBound};
+ghost use Rattle.weld_blocks.specs.Scope.{scope_env, MayBeBound};
+ghost use Rattle.weld_blocks.specs.Structs.{AreStructs};
 
 use crate::arithmetic::{arithmetic, compared};
 use crate::choices::choose;
@@ -332,9 +333,14 @@ pub(crate) fn bound_of(e: &Expr, scope: &Scope, count: usize, alloc: Global) -> 
 
 /// The numbers of each part of a struct.
 #[cycle(columns)]
-fn fields_of(e: &Expr, scope: &Scope, count: usize, alloc: Global) -> Option<Vec<Numbers>>
+pub(crate) fn fields_of(
+    e: &Expr,
+    scope: &Scope,
+    count: usize,
+    alloc: Global,
+) -> Option<Vec<Numbers>>
     requires { IsStructTree e.now }
-    ensures { IfSome result (λ cs. IsBound e.now (scope_env scope.now) (struct_at cs.items) count) }
+    ensures { IfSome result (λ cs. AreStructs (λ place v. eval_of e.now (scope_env scope.now place) ≡ done (plain v)) cs.items count) }
 {
     match &e.form {
         Form::Many(_, parts) => {

@@ -6,19 +6,20 @@ ghost use Rattle.weld_blocks.specs.Deeds.{DeedFits, DeedsFit, do_of, do_all, Doe
 ghost use Rattle.weld_blocks.specs.Does.{number_done, NumberFits, pair_done, PairFits, guarded_done, GuardedFits};
 
 use crate::numbers::Numbers;
-use crate::puts::{put_number, put_pair};
+use crate::puts::{put_number, put_struct, put_two};
 use crate::scalar::truth_of;
 use weld_data::Stop;
 use weld_eval::thing::{Fields, Owned};
 
-/// What the body of a loop does to the builder on each row of a block: nothing, a merge of a number or of two as a struct, one of
-/// two such as a truth value says, or one for each field of a struct of builders.
+/// What the body of a loop does to the builder on each row of a block: nothing, a merge of a number, of two as a struct or of a
+/// struct by its fields, one of two such as a truth value says, or one for each field of a struct of builders.
 #[cycle(deed)]
 #[derive(Drop)]
 pub enum Deed {
     Nothing,
     Number(Numbers),
     Pair(Numbers, Numbers),
+    Struct(Vec<Numbers>),
     Choice(Numbers, Box<Deed>, Box<Deed>),
     Fields(Deeds),
 }
@@ -40,7 +41,10 @@ pub fn do_deed(deed: &Deed, place: usize, builder: &mut Owned) -> Result<(), Sto
     match deed {
         Deed::Number(numbers) => put_number(builder, numbers.at(place)),
         Deed::Nothing => Ok(()),
-        Deed::Pair(keys, numbers) => put_pair(builder, keys.at(place), numbers.at(place)),
+        Deed::Pair(keys, numbers) => {
+            put_two(builder, keys.at(place), numbers.at(place), keys.memory())
+        }
+        Deed::Struct(columns) => put_struct(columns, place, builder),
         Deed::Choice(truths, then, otherwise) => {
             if truth_of(truths.at(place)) {
                 do_deed(then, place, builder)
@@ -109,6 +113,23 @@ impl<'a> Does for AnyDeed<'a> {
     }
 }
 
+/// A number is merged.
+#[derive(Clone, Copy)]
+pub struct EachNumber<'a> {
+    pub numbers: &'a Numbers,
+}
+
+impl<'a> Does for EachNumber<'a> {
+    ghost does = { λ d. number_done d.numbers.now };
+
+    ghost fits = { λ d. NumberFits d.numbers.now };
+
+    #[inline(always)]
+    fn at(&self, place: usize, builder: &mut Owned) -> Result<(), Stop> {
+        put_number(builder, self.numbers.at(place))
+    }
+}
+
 /// Two numbers are merged as a struct.
 #[derive(Clone, Copy)]
 pub struct EachPair<'a> {
@@ -123,7 +144,12 @@ impl<'a> Does for EachPair<'a> {
 
     #[inline(always)]
     fn at(&self, place: usize, builder: &mut Owned) -> Result<(), Stop> {
-        put_pair(builder, self.keys.at(place), self.numbers.at(place))
+        put_two(
+            builder,
+            self.keys.at(place),
+            self.numbers.at(place),
+            self.keys.memory(),
+        )
     }
 }
 

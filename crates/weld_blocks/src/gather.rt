@@ -1,14 +1,12 @@
 //! Numbers gathered place by place.
 
 ghost use Rattle.std.specs.Prelude.{ℕ, IfSome};
-ghost use Rattle.weld_data.specs.Kind.{IsNarrow};
 ghost use Rattle.weld_data.specs.Value.{Value};
 ghost use Rattle.weld_eval.specs.ShortView.{view_short};
 ghost use Rattle.weld_blocks.specs.Numbers.{MayGive};
 
-use crate::numbers::{Numbers, is_same};
+use crate::numbers::{Numbers, is_same, word_of};
 use std::alloc::Global;
-use weld_data::Kind;
 use weld_eval::short::Short;
 
 /// What gives a number for each place.
@@ -21,34 +19,16 @@ pub(crate) trait Gives {
         ensures { IfSome result (λ n. gives self.now place (view_short n)) };
 }
 
-/// The kind of the number of the first place, where there is one and the kind's numbers lie within 64
-/// bits with a sign.
-fn first_kind<T: Gives>(of: &T) -> Option<Kind>
-    ensures { IfSome result IsNarrow }
-{
-    match of.at(0) {
-        Some(first) => {
-            if first.kind.is_narrow() {
-                Some(first.kind)
-            } else {
-                None
-            }
-        }
-        None => None,
-    }
-}
-
 /// The numbers of the places from 0 up to, not including, another, where each has one, all are of one
-/// kind, whose numbers lie within 64 bits with a sign, and there is memory for them.
-#[tactic(auto, using(crate::proofs::WorkLemmas::not_u64))]
+/// kind, and there is memory for them.
 pub(crate) fn gather<T: Gives>(alloc: Global, count: usize, of: &T) -> Option<Numbers>
     ensures { MayGive (T.gives of.now) result count }
 {
     if count == 0 {
         return None;
     }
-    let kind = match first_kind(of) {
-        Some(kind) => kind,
+    let kind = match of.at(0) {
+        Some(first) => first.kind,
         None => return None,
     };
     let mut items = match vec![in alloc; 0i64; count] {
@@ -61,7 +41,7 @@ pub(crate) fn gather<T: Gives>(alloc: Global, count: usize, of: &T) -> Option<Nu
                 if !is_same(n.kind, kind) {
                     return None;
                 }
-                items[place] = n.word;
+                items[place] = word_of(n);
             }
             None => return None,
         }

@@ -2,9 +2,8 @@
 
 ghost use Rattle.std.specs.Prelude.{◌≡◌, ◌+◌, ◌<◌, ◌≤◌, ◌∷◌, [], ℕ, true, length, map, Some, None, IfSome, slice_get};
 ghost use Rattle.weld_data.specs.View.{view_column, view_val};
-ghost use Rattle.weld_data.specs.Kind.{IsNarrow, InRange};
+ghost use Rattle.weld_data.specs.Kind.{InRange};
 ghost use Rattle.weld_data.specs.Value.{number};
-ghost use Rattle.weld_data.specs.declared.kind.Kind.TheVariants as kinds;
 ghost use Rattle.weld_builders.specs.Outcome.{done, and_then};
 ghost use Rattle.weld_meaning.specs.Environment.{look_for};
 ghost use Rattle.weld_meaning.specs.Evaluation.{found, whole_number};
@@ -14,12 +13,13 @@ ghost use Rattle.weld_eval.specs.FrameView.{env_of};
 ghost use Rattle.weld_eval.specs.LegsView.{lists_of};
 ghost use Rattle.weld_eval.specs.RowLists.{row_in, rows_in};
 ghost use Rattle.weld_eval.specs.ShortView.{view_short};
+ghost use Rattle.weld_eval.specs.Word.{of_word};
 ghost use Rattle.weld_eval.specs.ThingView.{thing_of};
 ghost use Rattle.weld_blocks.specs.Numbers.{MayGive, number_at as number_of_place, MayGiveLeg};
 ghost use Rattle.weld_blocks.specs.Scope.{bound_at, scope_env, row_env};
-ghost use Rattle.weld_blocks.specs.Works.{AreCopied};
 
 use crate::gather::{Gives, gather};
+use crate::items::items_of;
 use crate::numbers::Numbers;
 use crate::operations::Counted;
 use crate::scope::{Bound, Rows, Scope};
@@ -32,7 +32,7 @@ use weld_eval::short::Short;
 use weld_eval::thing::Owned;
 use weld_tree::{Binders, Sym};
 
-/// The elements of a column from a place on.
+/// The elements of a column of values from a place on.
 #[derive(Clone, Copy)]
 struct Elements<'a> {
     column: &'a Column,
@@ -67,40 +67,19 @@ pub(crate) fn elements_of(
     ensures { MayGive (λ place v. slice_get (view_column column.now) (from + place) ≡ Some v) result count }
 {
     match column {
-        Column::I64(items) => wide_elements(items.as_slice(), from, count, alloc),
-        _ => {
+        Column::Bool(items) => items_of(items.as_slice(), from, count, alloc),
+        Column::I8(items) => items_of(items.as_slice(), from, count, alloc),
+        Column::I16(items) => items_of(items.as_slice(), from, count, alloc),
+        Column::I32(items) => items_of(items.as_slice(), from, count, alloc),
+        Column::I64(items) => items_of(items.as_slice(), from, count, alloc),
+        Column::U8(items) => items_of(items.as_slice(), from, count, alloc),
+        Column::U16(items) => items_of(items.as_slice(), from, count, alloc),
+        Column::U32(items) => items_of(items.as_slice(), from, count, alloc),
+        Column::U64(items) => items_of(items.as_slice(), from, count, alloc),
+        Column::Nest(_) => {
             let of = Elements { column, from };
             gather(alloc, count, &of)
         }
-    }
-}
-
-/// The same of numbers of 64 bits.
-#[tactic(auto, using(crate::proofs::WorkLemmas::part_given, crate::proofs::WorkLemmas::copies_in_range))]
-fn wide_elements(items: &[i64], from: usize, count: usize, alloc: Global) -> Option<Numbers>
-    ensures { MayGive (λ place v. slice_get (map (number kinds.I64) items.now) (from + place) ≡ Some v) result count }
-{
-    if from > items.len() || count > items.len() - from {
-        return None;
-    }
-    let mut copies = match vec![in alloc; 0i64; count] {
-        Ok(copies) => copies,
-        Err(_) => return None,
-    };
-    copy_all(&mut copies, &items[from..from + count]);
-    Some(Numbers {
-        kind: Kind::I64,
-        items: copies,
-    })
-}
-
-/// Copies as many numbers of 64 bits as there are.
-fn copy_all(copies: &mut [i64], items: &[i64])
-    requires { length copies.old ≤ length items.now }
-    ensures { AreCopied items.now copies.new (length copies.old) }
-{
-    for place in 0..copies.len() {
-        copies[place] = Short::of_i64(items[place]).word;
     }
 }
 
@@ -242,24 +221,17 @@ fn outside(frame: &Frame, name: Sym, count: usize, alloc: Global) -> Option<Numb
     }
 }
 
-/// One number at each place, where it is of a kind whose numbers lie within 64 bits with a sign.
-#[tactic(auto, using(crate::proofs::WorkLemmas::word_in_range, crate::proofs::WorkLemmas::one_word))]
+/// One number at each place.
 pub(crate) fn constant(number: Short, count: usize, alloc: Global) -> Option<Numbers>
     ensures { MayGive (λ place v. v ≡ view_short number) result count }
 {
-    if number.kind.is_narrow() {
-        constant_of(number.kind, number.word, count, alloc)
-    } else {
-        None
-    }
+    constant_of(number.kind, number.word, count, alloc)
 }
 
-/// The same of a number of such a kind.
-#[tactic(auto, using(crate::proofs::WorkLemmas::not_u64))]
+/// The same of a number's kind and word.
 fn constant_of(kind: Kind, x: i64, count: usize, alloc: Global) -> Option<Numbers>
-    requires narrow { IsNarrow kind }
-    requires in_range { InRange kind x }
-    ensures { MayGive (λ place v. v ≡ number kind x) result count }
+    requires { InRange kind (of_word kind x) }
+    ensures { MayGive (λ place v. v ≡ number kind (of_word kind x)) result count }
 {
     match vec![in alloc; x; count] {
         Ok(items) => Some(Numbers { kind, items }),

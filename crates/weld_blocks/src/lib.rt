@@ -8,6 +8,7 @@ mod choices;
 pub mod columns;
 pub mod deed;
 mod gather;
+mod items;
 mod leaves;
 pub mod numbers;
 mod operations;
@@ -15,6 +16,7 @@ mod pairs;
 pub mod puts;
 pub mod scalar;
 pub mod scope;
+mod structs;
 mod through;
 mod works;
 

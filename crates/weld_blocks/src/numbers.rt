@@ -1,26 +1,25 @@
 //! Numbers of one kind.
 
-ghost use Rattle.std.specs.Prelude.{◌≡◌, ◌≢◌, ℕ, pos, true, get_or};
+ghost use Rattle.std.specs.Prelude.{◌≡◌, ◌<◌, ℕ, pos, true, length, get_or};
 ghost use Rattle.weld_data.specs.Kind.{InRange};
-ghost use Rattle.weld_data.specs.declared.kind.Kind.TheVariants as kinds;
+ghost use Rattle.weld_eval.specs.Word.{of_word};
 
 use std::alloc::Global;
 use weld_data::Kind;
 use weld_eval::short::Short;
 
-/// Numbers of one kind, one for each row of a block, the first row first. Each lies in the kind's
-/// range, which lies within 64 bits with a sign.
+/// Numbers of one kind, one for each row of a block, the first row first, each in a word of 64 bits: of
+/// kind u64 by its bits, of each other kind as it is. Each lies in the kind's range.
 #[derive(Drop)]
 pub struct Numbers {
     pub kind: Kind,
     pub(crate) items: Vec<i64>,
-    pub(crate) ghost in_range: { (place : ℕ) → InRange kind (get_or items.items place (pos 0)) },
-    pub(crate) ghost narrow: { kind ≢ kinds.U64 },
+    pub(crate) ghost in_range: { (place : ℕ) → InRange kind (of_word kind (get_or items.items place (pos 0))) },
 }
 
 impl Numbers {
     ghost use Rattle.std.specs.Prelude.{◌≡◌, ◌<◌, IfSome};
-    ghost use Rattle.weld_eval.specs.ShortView.{view_short, IsWord};
+    ghost use Rattle.weld_eval.specs.ShortView.{view_short};
     ghost use Rattle.weld_blocks.specs.Numbers.{number_at, count_of, AreSame};
 
     /// How many numbers there are. It takes no memory.
@@ -33,13 +32,20 @@ impl Numbers {
 
     /// The number at a place, from 0. It takes no memory.
     #[inline(always)]
-    #[tactic(auto, using(weld_eval::proofs::Shorts::narrow_kind))]
     pub fn at(&self, place: usize) -> Short
         requires { place < count_of self.now }
-        ensures number { view_short result ≡ number_at self.now place }
-        ensures word { IsWord result }
+        ensures { view_short result ≡ number_at self.now place }
     {
-        Short::narrow(self.kind, self.items[place])
+        Short {
+            kind: self.kind,
+            word: self.items[place],
+        }
+    }
+
+    /// What gave the memory. It takes none.
+    #[inline(always)]
+    pub(crate) fn memory(&self) -> Global {
+        *self.items.allocator()
     }
 
     /// The same numbers, where there is memory for them.
@@ -54,6 +60,23 @@ impl Numbers {
             Err(_) => None,
         }
     }
+}
+
+/// The word at a place, from 0.
+#[inline(always)]
+pub(crate) fn word_at(words: &[i64], place: usize) -> i64
+    requires { place < length words.now }
+    ensures { result ≡ get_or words.now place (pos 0) }
+{
+    words[place]
+}
+
+/// The word of a number.
+#[inline(always)]
+pub(crate) fn word_of(n: Short) -> i64
+    ensures { result ≡ n.word }
+{
+    n.word
 }
 
 /// Whether two kinds are the same.

@@ -1,8 +1,8 @@
 //! Items that are merged into a builder in place.
 
 ghost use Rattle.weld_builders.specs.Outcome.{done};
-ghost use Rattle.std.specs.Prelude.{◌≡◌, IfOk};
-ghost use Rattle.weld_data.specs.Kind.{InRange};
+ghost use Rattle.std.specs.Prelude.{◌≡◌, ◌<◌, IfOk};
+ghost use Rattle.weld_data.specs.Kind.{IsNarrow, InRange};
 ghost use Rattle.weld_data.specs.Value.{number};
 ghost use Rattle.weld_data.specs.View.{view_val};
 ghost use Rattle.weld_meaning.specs.Evaluation.{merged};
@@ -14,7 +14,10 @@ ghost use Rattle.weld_eval.specs.Takes.{IsPlain};
 ghost use Rattle.weld_built.specs.Pair.{pair};
 ghost use Rattle.weld_blocks.specs.Does.{number_done, NumberFits};
 ghost use Rattle.weld_blocks.specs.Through.{FitsThrough, done_through};
+ghost use Rattle.weld_blocks.specs.Numbers.{count_of, number_at};
 ghost use Rattle.weld_blocks.specs.Puts.{IsPut, PutsThing};
+ghost use Rattle.weld_blocks.specs.Scope.{struct_at};
+ghost use Rattle.weld_blocks.specs.Structs.{AreLonger};
 
 use crate::numbers::Numbers;
 use std::alloc::{AllocError, Global};
@@ -50,10 +53,11 @@ fn put_word(builder: &mut Owned, kind: Kind, x: i64) -> Result<(), Stop>
     }
 }
 
-/// Merges the first of these numbers, so many, one after another.
-#[tactic(auto, using(weld_eval::proofs::Shorts::narrow_kind, crate::proofs::ManyPuts::put_none, crate::proofs::ManyPuts::numbers_there, crate::proofs::ManyPuts::numbers_taken))]
+/// Merges the first of these numbers, so many, one after another, their kind being one whose numbers lie within an i64.
+#[tactic(auto, using(crate::proofs::ManyPuts::put_none, crate::proofs::ManyPuts::numbers_there, crate::proofs::ManyPuts::numbers_taken))]
 pub fn put_numbers(numbers: &Numbers, count: usize, builder: &mut Owned) -> Result<(), Stop>
-    requires { FitsThrough (number_done numbers.now) (NumberFits numbers.now) 0 count (thing_of builder.old) }
+    requires narrow { IsNarrow numbers.now.kind }
+    requires fits { FitsThrough (number_done numbers.now) (NumberFits numbers.now) 0 count (thing_of builder.old) }
     ensures { Acts result (done_through (number_done numbers.now) 0 count (thing_of builder.old)) (thing_of builder.new) }
 {
     if count == 0 {
@@ -118,6 +122,40 @@ fn put_words(builder: &mut Owned, key_kind: Kind, key: i64, kind: Kind, x: i64) 
         Owned::Built(built) => built.merge_pair(key_kind, key, kind, x),
         _ => unreachable!(),
     }
+}
+
+/// Merges the struct of the numbers at a place, from 0.
+#[tactic(auto, using(crate::proofs::PutLemmas::same_put, crate::proofs::PutLemmas::same_acts))]
+pub fn put_struct(columns: &Vec<Numbers>, place: usize, builder: &mut Owned) -> Result<(), Stop>
+    requires long { AreLonger columns.now.items place }
+    requires put { IsPut (thing_of builder.old) (struct_at columns.now.items place) }
+    ensures { Acts result (merged (thing_of builder.old) (done (plain (struct_at columns.now.items place)))) (thing_of builder.new) }
+{
+    match struct_of_row(columns, place) {
+        Ok(item) => put_value(builder, item),
+        Err(_) => Err(Stop::Memory),
+    }
+}
+
+/// The struct of the numbers at a place.
+#[tactic(auto, using(crate::proofs::StructLemmas::longer_at, crate::proofs::StructLemmas::next_value, crate::proofs::StructLemmas::all_values))]
+fn struct_of_row(columns: &Vec<Numbers>, place: usize) -> Result<Val, AllocError>
+    requires { AreLonger columns.now.items place }
+    ensures { IfOk result (λ v. struct_at columns.now.items place ≡ view_val v) }
+{
+    let mut fields = Vals::new(*columns.allocator());
+    for i in 0..columns.len() {
+        fields.push(value_at(&columns[i], place))?;
+    }
+    Ok(Val::Struct(fields))
+}
+
+/// The number at a place as a value.
+fn value_at(column: &Numbers, place: usize) -> Val
+    requires { place < count_of column.now }
+    ensures { view_val result ≡ number_at column.now place }
+{
+    Val::Num(column.at(place).to_num())
 }
 
 /// Merges a value.

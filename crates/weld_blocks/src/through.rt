@@ -8,9 +8,9 @@ ghost use Rattle.weld_blocks.specs.Choices.{IsChoice};
 ghost use Rattle.weld_blocks.specs.Deeds.{DeedFits, DeedsFit, do_of, do_all, DoesAll};
 ghost use Rattle.weld_blocks.specs.Does.{DoesAs};
 ghost use Rattle.weld_blocks.specs.Through.{FitsThrough, done_through};
-ghost use Rattle.weld_blocks.specs.declared.deed.Deed.TheVariants.{Nothing as DoesNothing, Fields as OfFields};
+ghost use Rattle.weld_blocks.specs.declared.deed.Deed.TheVariants.{Nothing as DoesNothing, Number as OfNumber, Fields as OfFields};
 
-use crate::deed::{AnyDeed, Deed, Deeds, Does, EachGuarded, EachPair};
+use crate::deed::{AnyDeed, Deed, Deeds, Does, EachGuarded, EachNumber, EachPair};
 use crate::numbers::Numbers;
 use crate::puts::put_numbers;
 use weld_data::Stop;
@@ -24,15 +24,31 @@ pub fn do_through(deed: &Deed, count: usize, builder: &mut Owned) -> Result<(), 
 {
     match deed {
         Deed::Nothing => Ok(()),
-        Deed::Number(numbers) => put_numbers(numbers, count, builder),
+        Deed::Number(numbers) => do_number(deed, numbers, count, builder),
         Deed::Pair(keys, numbers) => {
             let each = EachPair { keys, numbers };
             do_each(deed, &each, count, builder)
         }
+        Deed::Struct(_) => do_each(deed, &AnyDeed { deed }, count, builder),
         Deed::Choice(truths, then, otherwise) => {
             do_choice(deed, truths, then, otherwise, count, builder)
         }
         Deed::Fields(deeds) => do_struct(deed, deeds, count, builder),
+    }
+}
+
+/// The same of a number on each row: all at once where their kind allows it.
+#[tactic(auto, using(crate::proofs::DeedForms::number_as, crate::proofs::DeedForms::number_fits, crate::proofs::DeedForms::number_acts))]
+fn do_number(deed: &Deed, numbers: &Numbers, count: usize, builder: &mut Owned) -> Result<(), Stop>
+    requires fits { FitsThrough (do_of deed.now) (DeedFits deed.now) 0 count (thing_of builder.old) }
+    requires number { deed.now ≡ OfNumber numbers.now }
+    ensures { Acts result (done_through (do_of deed.now) 0 count (thing_of builder.old)) (thing_of builder.new) }
+{
+    if numbers.kind.is_narrow() {
+        put_numbers(numbers, count, builder)
+    } else {
+        let each = EachNumber { numbers };
+        do_each(deed, &each, count, builder)
     }
 }
 
@@ -87,7 +103,7 @@ fn do_calm(deed: &Deed, count: usize, builder: &mut Owned) -> Result<(), Stop>
 {
     match deed {
         Deed::Nothing => Ok(()),
-        Deed::Number(numbers) => put_numbers(numbers, count, builder),
+        Deed::Number(numbers) => do_number(deed, numbers, count, builder),
         Deed::Fields(deeds) => match builder {
             Owned::Several(fields) => do_fields(deeds, count, fields),
             _ => unreachable!(),

@@ -1,14 +1,13 @@
 //! Operators on numbers of a block: one loop for each operator and kind, in which nothing is asked.
 
 ghost use Rattle.std.specs.Prelude.{◌≡◌, ◌≤◌, length};
-ghost use Rattle.weld_data.specs.Kind.{IsNarrow};
 ghost use Rattle.weld_data.specs.Operation.{TakesKind, answer_kind};
 ghost use Rattle.weld_builders.specs.Outcome.{done};
 ghost use Rattle.weld_meaning.specs.Evaluation.{operated as operated_value};
 ghost use Rattle.weld_blocks.specs.Numbers.{number_at, MayGive};
 ghost use Rattle.weld_blocks.specs.Works.{AreInRange, AreWorked};
 
-use crate::numbers::Numbers;
+use crate::numbers::{Numbers, word_at};
 use std::alloc::Global;
 use weld_data::Kind;
 
@@ -18,23 +17,24 @@ pub(crate) trait Works {
     ghost use Rattle.weld_data.specs.declared.kind.Kind.{Kind as GhostKind};
     ghost use Rattle.weld_data.specs.declared.op.BinOp.{BinOp as GhostOp};
     ghost use Rattle.weld_data.specs.Kind.{InRange};
+    ghost use Rattle.weld_eval.specs.Word.{of_word};
     ghost use Rattle.weld_data.specs.Operation.{operation, answer_kind};
 
     ghost op: { Self → GhostOp };
 
     ghost kind: { Self → GhostKind };
 
-    /// What it makes of two numbers of the kind. It takes no memory.
+    /// The word of what it makes of the numbers of two words. It takes no memory.
     fn of(&self, x: i64, y: i64) -> i64
-        requires left { InRange (kind self.now) x }
-        requires right { InRange (kind self.now) y }
-        ensures value { Some result ≡ operation (op self.now) (kind self.now) x y }
-        ensures in_range { InRange (answer_kind (op self.now) (kind self.now)) result };
+        requires left { InRange (kind self.now) (of_word (kind self.now) x) }
+        requires right { InRange (kind self.now) (of_word (kind self.now) y) }
+        ensures value { Some (of_word (answer_kind (op self.now) (kind self.now)) result) ≡ operation (op self.now) (kind self.now) (of_word (kind self.now) x) (of_word (kind self.now) y) }
+        ensures in_range { InRange (answer_kind (op self.now) (kind self.now)) (of_word (answer_kind (op self.now) (kind self.now)) result) };
 }
 
 /// What the operator makes of the numbers at each place, where there are so many of both and there
 /// is memory for it; the kind is that of the answers.
-#[tactic(auto, using(crate::proofs::WorkLemmas::worked_given, crate::proofs::WorkLemmas::worked_narrow, crate::proofs::WorkLemmas::narrow_same))]
+#[tactic(auto, using(crate::proofs::WorkLemmas::worked_given))]
 pub(crate) fn worked<W: Works>(
     work: &W,
     kind: Kind,
@@ -62,7 +62,6 @@ pub(crate) fn worked<W: Works>(
 
 /// The same into as many numbers as there are.
 fn work_all<W: Works>(work: &W, items: &mut [i64], left: &[i64], right: &[i64])
-    requires narrow { IsNarrow (W.kind work.now) }
     requires left_long { length items.old ≤ length left.now }
     requires right_long { length items.old ≤ length right.now }
     requires left { AreInRange (W.kind work.now) left.now }
@@ -70,6 +69,6 @@ fn work_all<W: Works>(work: &W, items: &mut [i64], left: &[i64], right: &[i64])
     ensures { AreWorked (W.op work.now) (W.kind work.now) left.now right.now items.new (length items.old) }
 {
     for place in 0..items.len() {
-        items[place] = work.of(left[place], right[place]);
+        items[place] = work.of(word_at(left, place), word_at(right, place));
     }
 }

@@ -4,7 +4,7 @@ use Rattle.weld_tree.specs.ExprView.{view_form, view_three, view_many}
 use Rattle.weld_tree.specs.declared.expr.Form.{Form}
 use Rattle.weld_blocks.specs.Scope.{scope_env, AreFieldsOf}
 use Rattle.weld_blocks.specs.declared.numbers.Numbers.{Numbers}
-use Rattle.weld_blocks.proofs.ColumnLemmas.{choice_numbers, struct_bound, next_field, all_fields}
+use Rattle.weld_blocks.proofs.ColumnLemmas.{choice_numbers, struct_columns, next_field, all_fields}
 use Rattle.weld_blocks.proofs.columns.+columns.Goals as goal
 
 pub of_choice-returns : goal.of_choice-returns
@@ -16,7 +16,7 @@ of_choice-returns t c =
     c.in-Some.condition c.in-Some-numbers.then c.in-Some-numbers-2.otherwise c.args.count is c.requires c.in-Some.ensures c.in-Some-numbers.ensures c.in-Some-numbers-2.ensures c.chosen.ensures
 
 pub bound_of-returns-in-Some : goal.bound_of-returns-in-Some
-bound_of-returns-in-Some t c = c.in-Some.ensures
+bound_of-returns-in-Some t c = c.in-Some.ensures.each
 
 pub bound_of-returns-in-Some-numbers : goal.bound_of-returns-in-Some-numbers
 bound_of-returns-in-Some-numbers t c = c.in-Some-numbers.ensures.each
@@ -35,5 +35,5 @@ fields_of-returns t c =
     let at : At = record { place = c.e.inside.place; ty = c.e.inside.ty } in
     let is : c.args.e.now ≡ many at (view_many c.in-Many.field-0) (pack_exprs c.in-Many.parts) = sym c.e.view_is ∙ ap (λ (f : Form). view_form f at) c.in-Many.is in
     let all : c.loop-place.place ≡ length c.in-Many.parts = omega arith in
-    struct_bound at (view_many c.in-Many.field-0) c.in-Many.parts (scope_env c.args.scope.now) c.args.e.now c.loop-place.columns.items c.args.count is c.requires
+    struct_columns at (view_many c.in-Many.field-0) c.in-Many.parts (scope_env c.args.scope.now) c.args.e.now c.loop-place.columns.items c.args.count is c.requires
     (all_fields c.in-Many.parts c.loop-place.place (scope_env c.args.scope.now) c.loop-place.columns.items c.args.count all c.loop-place.invariant)

@@ -40,9 +40,6 @@ do_fields-returns-in-Err t c =
     first_stopped (Unit {0}) (Unit {0}) c.in-Err.stop c.args.deeds.now _ _ c.in-And.deed.value c.deref.result.now c.in-And.rest.value c.args.count (things_of c.args.fields.now) (thing_of c.in-And-fields.first.value) (thing_of c.deref_mut.result.now) (thing_of c.do_calm.new.builder)
     (things_of c.in-And-fields.more.value) _ c.in-And.is (ap things_of c.in-And-fields.is) c.deref.ensures (ap thing_of c.deref_mut.ensures.value) c.requires.calm c.requires.fits c.in-Err.ensures
 
-pub do_calm-put_numbers-requires : goal.do_calm-put_numbers-requires
-do_calm-put_numbers-requires t c = subst (λ (d : Deed). FitsThrough (do_of d) (DeedFits d) 0 c.args.count (thing_of c.args.builder.now)) c.in-Number.is c.requires.fits
-
 pub do_calm-do_fields-requires : goal.do_calm-do_fields-requires
 do_calm-do_fields-requires t c =
     let calm : AreCalm c.in-Fields.deeds = subst IsCalm c.in-Fields.is c.requires.calm in (

@@ -1,6 +1,6 @@
 use Rattle.std.proofs.Common.{w8, w16, w32, w64}
-use Rattle.weld_blocks.proofs.Scalars.{by_bits}
-use Rattle.weld_blocks.proofs.scalar.wrap.Goals as goal
+use Rattle.weld_word_arithmetic.proofs.Words.{by_bits}
+use Rattle.weld_word_arithmetic.proofs.wrap.Goals as goal
 
 pub returns-in-I8-clause-value : goal.returns-in-I8-clause-value
 returns-in-I8-clause-value c =
