@@ -1,4 +1,4 @@
-use Rattle.std.proofs.Common.{◌≡◌, length}
+use Rattle.std.proofs.Common.{◌≡◌, ◌≤◌, length}
 use Rattle.weld_meaning.specs.Environment.{look_for}
 use Rattle.weld_types.proofs.scope.Scope.type_of.Given as goal
 
