@@ -6,6 +6,7 @@ ghost use Rattle.weld_values.specs.Judging.{IsCapped};
 ghost use Rattle.weld_values.specs.Runs.{Makes};
 
 /// Whether the byte is a decimal digit.
+#[inline(always)]
 fn is_digit(byte: u8) -> bool
     ensures { result ≡ is_digit byte }
 {
@@ -133,6 +134,7 @@ fn eight_digits(before: u64, text: &[u8]) -> (u128, &[u8])
 }
 
 /// The same where one digit stands before.
+#[inline(always)]
 fn second_digit(before: u64, text: &[u8]) -> (u128, &[u8])
     requires { before < 10 }
     ensures value { IsCapped result.0 (value_after before (digit_run text.now)) }
@@ -151,6 +153,7 @@ fn second_digit(before: u64, text: &[u8]) -> (u128, &[u8])
 /// In place of one that is greater than any of 64 bits it may be another such one.
 ///
 /// Two digits are taken one by one, and eight at once after them, since most numbers are short or long.
+#[inline(always)]
 pub(crate) fn leading_digits(text: &[u8]) -> (u128, &[u8])
     ensures value { IsCapped result.0 (value_after 0 (digit_run text.now)) }
     ensures small { result.0 < 2 ^ 68 }
