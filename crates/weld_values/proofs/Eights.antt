@@ -1,11 +1,13 @@
 -- Eight bytes of text as one word.
-use Rattle.std.proofs.Common.{◌≡◌, sym, ◌∙◌, ap, ap₂, ℕ, ◌+◌, ◌*◌, ◌-◌, ◌/◌, ◌%◌, ◌^◌, ◌≤◌, ◌<◌, Bool, true, false, not, cond, leb, List, [], ◌∷◌, map, length, replicate, Fits, w8, refl, arith, if◌then◌else◌}
-use Rattle.std.proofs.lemmas.Bool.{agree_below, agree_below_at}
+use Rattle.std.proofs.Common.{◌≡◌, sym, ◌∙◌, ap, ap₂, ℕ, ◌+◌, ◌*◌, ◌-◌, ◌/◌, ◌%◌, ◌^◌, ◌≤◌, ◌<◌, Bool, true, false, not, cond, leb, List, [], ◌∷◌, ◌++◌, map, length, nat_le, ◌&&◌, replicate, Fits, w8, refl, arith, if◌then◌else◌}
+use Rattle.std.proofs.lemmas.Bool.{agree_below, agree_below_at, leb-true}
 use Rattle.std.proofs.lemmas.List.{length-map}
 use Rattle.std.proofs.lemmas.Simd.{zip2_splat_left, map-map, mask_l-mod}
 use Rattle.std.specs.List.{prefix_len}
+use lib.Bits.{bit_and, and_block, and_mask}
 use lib.Lanes.{zip2, mask_l, top, Each1}
-use Rattle.weld_values.specs.Tokens.{is_digit, digit_run}
+use Rattle.weld_values.specs.Eights.{word_of, AreSmall}
+use Rattle.weld_values.specs.Tokens.{is_digit, digit_run, after_digits}
 
 -- ---- which bytes are digits
 
@@ -36,7 +38,114 @@ run_is (byte ∷ bytes) = run_by byte (prefix_len (λ x. not (not (is_digit x)))
 
 -- ---- digits moved to the end of a word
 
-pub moved_3 : (word a b c j : ℕ) → 48 ≤ a → a ≤ 57 → 48 ≤ b → b ≤ 57 → 48 ≤ c → c ≤ 57
-    → word ≡ a + 256 * (b + 256 * (c + 256 * j))
-    → (((word + (2 ^ 64 - 3472328296227680304)) % 2 ^ 64 * 2 ^ 20) % 2 ^ 64 * 2 ^ 20) % 2 ^ 64 ≡ ((a - 48) + 256 * ((b - 48) + 256 * (c - 48))) * 2 ^ 40
-moved_3 word a b c j a0 a1 b0 b1 c0 c1 w = omega arith
+-- the bytes are digits
+abbrev pub AreDigits : List ℕ → Type 0
+AreDigits [] = Unit {0}
+AreDigits (digit ∷ digits) = (48 ≤ digit) × (digit ≤ 57) × AreDigits digits
+
+digits_by : (byte : ℕ) (run : List ℕ) (low high : Bool) → nat_le 48 byte ≡ low → nat_le byte 57 ≡ high → AreDigits run → AreDigits (if low && high then byte ∷ run else [])
+digits_by byte run true true l h are = (leb-true 48 byte l, leb-true byte 57 h, are)
+digits_by byte run true false l h are = tt
+digits_by byte run false high l h are = tt
+
+pub run_digits : (bytes : List ℕ) → AreDigits (digit_run bytes)
+run_digits [] = tt
+run_digits (byte ∷ bytes) = digits_by byte (digit_run bytes) (nat_le 48 byte) (nat_le byte 57) refl refl (run_digits bytes)
+
+parts_by : (byte : ℕ) (bytes : List ℕ) (b : Bool) → bytes ≡ digit_run bytes ++ after_digits bytes → byte ∷ bytes ≡ (if b then byte ∷ digit_run bytes else []) ++ (if b then after_digits bytes else byte ∷ bytes)
+parts_by byte bytes true e = ap (λ (x : List ℕ). byte ∷ x) e
+parts_by byte bytes false e = refl
+
+pub parts : (bytes : List ℕ) → bytes ≡ digit_run bytes ++ after_digits bytes
+parts [] = refl
+parts (byte ∷ bytes) = parts_by byte bytes (is_digit byte) (parts bytes)
+
+-- a word without its zeros, shifted so that of its first bytes, so many, the last is the last
+abbrev pub moved : ℕ → ℕ → ℕ
+moved word count = (((word + 14974415777481871312) % 2 ^ 64 * 2 ^ (32 - 4 * count)) % 2 ^ 64 * 2 ^ (32 - 4 * count)) % 2 ^ 64
+
+abbrev pub numbers : List ℕ → List ℕ
+numbers run = replicate (8 - length run) 0 ++ map (λ digit. digit - 48) run
+
+moved_eight : (word rest a b c d e f g h : ℕ) → a ≤ 9 → b ≤ 9 → c ≤ 9 → d ≤ 9 → e ≤ 9 → f ≤ 9 → g ≤ 9 → h ≤ 9 → word ≡ a + 48 + 256 * (b + 48 + 256 * (c + 48 + 256 * (d + 48 + 256 * (e + 48 + 256 * (f + 48 + 256 * (g + 48 + 256 * (h + 48 + 256 * rest))))))) → moved word 8 ≡ a + 256 * (b + 256 * (c + 256 * (d + 256 * (e + 256 * (f + 256 * (g + 256 * (h + 256 * 0)))))))
+moved_eight word rest a b c d e f g h a9 b9 c9 d9 e9 f9 g9 h9 w = omega arith
+
+zeroed : (digit : ℕ) → 48 ≤ digit → digit ≡ digit - 48 + 48
+zeroed digit h = omega arith
+
+small : (digit : ℕ) → digit ≤ 57 → digit - 48 ≤ 9
+small digit h = omega arith
+
+pub moved_run : (run rest : List ℕ) (word count : ℕ) → AreDigits run → length run ≡ count → count ≤ 8 → word ≡ word_of (run ++ rest) → moved word count ≡ word_of (numbers run)
+moved_run [] rest word count are n few w = ap (moved word) (sym n) ∙ omega (arith, w)
+moved_run (a ∷ []) rest word count are n few w = ap (moved word) (sym n) ∙ omega (arith, are.0, are.1, w)
+moved_run (a ∷ b ∷ []) rest word count are n few w = ap (moved word) (sym n) ∙ omega (arith, are.0, are.1, are.2.0, are.2.1, w)
+moved_run (a ∷ b ∷ c ∷ []) rest word count are n few w = ap (moved word) (sym n) ∙ omega (arith, are.0, are.1, are.2.0, are.2.1, are.2.2.0, are.2.2.1, w)
+moved_run (a ∷ b ∷ c ∷ d ∷ []) rest word count are n few w = ap (moved word) (sym n) ∙ omega (arith, are.0, are.1, are.2.0, are.2.1, are.2.2.0, are.2.2.1, are.2.2.2.0, are.2.2.2.1, w)
+moved_run (a ∷ b ∷ c ∷ d ∷ e ∷ []) rest word count are n few w = ap (moved word) (sym n) ∙ omega (arith, are.0, are.1, are.2.0, are.2.1, are.2.2.0, are.2.2.1, are.2.2.2.0, are.2.2.2.1, are.2.2.2.2.0, are.2.2.2.2.1, w)
+moved_run (a ∷ b ∷ c ∷ d ∷ e ∷ f ∷ []) rest word count are n few w = ap (moved word) (sym n) ∙ omega (arith, are.0, are.1, are.2.0, are.2.1, are.2.2.0, are.2.2.1, are.2.2.2.0, are.2.2.2.1, are.2.2.2.2.0, are.2.2.2.2.1, are.2.2.2.2.2.0, are.2.2.2.2.2.1, w)
+moved_run (a ∷ b ∷ c ∷ d ∷ e ∷ f ∷ g ∷ []) rest word count are n few w = ap (moved word) (sym n) ∙ omega (arith, are.0, are.1, are.2.0, are.2.1, are.2.2.0, are.2.2.1, are.2.2.2.0, are.2.2.2.1, are.2.2.2.2.0, are.2.2.2.2.1, are.2.2.2.2.2.0, are.2.2.2.2.2.1, are.2.2.2.2.2.2.0, are.2.2.2.2.2.2.1, w)
+moved_run (a ∷ b ∷ c ∷ d ∷ e ∷ f ∷ g ∷ h ∷ []) rest word count are n few w = ap (moved word) (sym n) ∙ moved_eight word (word_of rest) (a - 48) (b - 48) (c - 48) (d - 48) (e - 48) (f - 48) (g - 48) (h - 48) (small a are.1) (small b are.2.1) (small c are.2.2.1) (small d are.2.2.2.1) (small e are.2.2.2.2.1) (small f are.2.2.2.2.2.1) (small g are.2.2.2.2.2.2.1) (small h are.2.2.2.2.2.2.2.1) (w ∙ (λ i. zeroed a are.0 i + 256 * (zeroed b are.2.0 i + 256 * (zeroed c are.2.2.0 i + 256 * (zeroed d are.2.2.2.0 i + 256 * (zeroed e are.2.2.2.2.0 i + 256 * (zeroed f are.2.2.2.2.2.0 i + 256 * (zeroed g are.2.2.2.2.2.2.0 i + 256 * (zeroed h are.2.2.2.2.2.2.2.0 i + 256 * word_of rest)))))))))
+moved_run (a ∷ b ∷ c ∷ d ∷ e ∷ f ∷ g ∷ h ∷ i ∷ run) rest word count are n few w = absurd (omega (arith, n, few))
+
+-- ---- eight digits as a number
+
+even_bytes : (low high rest mask : ℕ) → low < 256 → high < 256 → bit_and (low + 256 * (high + 256 * rest)) (255 + 65536 * mask) ≡ low + 65536 * bit_and rest mask
+even_bytes low high rest mask l h =
+    let word : low + 256 * (high + 256 * rest) ≡ rest * 2 ^ 16 + (low + 256 * high) = omega arith in
+    let masks : 255 + 65536 * mask ≡ mask * 2 ^ 16 + 255 = omega arith in
+    let kept : bit_and (low + 256 * high) 255 ≡ low = and_mask (low + 256 * high) 8 ∙ omega arith in
+    (λ i. bit_and (word i) (masks i)) ∙ and_block 16 rest mask (low + 256 * high) 255 (omega arith) (omega arith) ∙ omega (arith, kept)
+
+even_words : (low high rest mask : ℕ) → low < 65536 → high < 65536 → bit_and (low + 65536 * (high + 65536 * rest)) (65535 + 4294967296 * mask) ≡ low + 4294967296 * bit_and rest mask
+even_words low high rest mask l h =
+    let word : low + 65536 * (high + 65536 * rest) ≡ rest * 2 ^ 32 + (low + 65536 * high) = omega arith in
+    let masks : 65535 + 4294967296 * mask ≡ mask * 2 ^ 32 + 65535 = omega arith in
+    let kept : bit_and (low + 65536 * high) 65535 ≡ low = and_mask (low + 65536 * high) 16 ∙ omega arith in
+    (λ i. bit_and (word i) (masks i)) ∙ and_block 32 rest mask (low + 65536 * high) 65535 (omega arith) (omega arith) ∙ omega (arith, kept)
+
+last_bytes : (low high : ℕ) → low < 256 → bit_and (low + 256 * high) 255 ≡ low
+last_bytes low high l = and_mask (low + 256 * high) 8 ∙ omega arith
+
+-- the first, third, fifth and seventh of eight bytes
+four_bytes : (a b c d e f g h : ℕ) → a < 256 → b < 256 → c < 256 → d < 256 → e < 256 → f < 256 → g < 256 → bit_and (a + 256 * (b + 256 * (c + 256 * (d + 256 * (e + 256 * (f + 256 * (g + 256 * h))))))) 71777214294589695 ≡ a + 65536 * (c + 65536 * (e + 65536 * g))
+four_bytes a b c d e f g h a1 b1 c1 d1 e1 f1 g1 =
+    even_bytes a b (c + 256 * (d + 256 * (e + 256 * (f + 256 * (g + 256 * h))))) 1095233372415 a1 b1
+    ∙ ap (λ n. a + 65536 * n) (even_bytes c d (e + 256 * (f + 256 * (g + 256 * h))) 16711935 c1 d1
+    ∙ ap (λ n. c + 65536 * n) (even_bytes e f (g + 256 * h) 255 e1 f1 ∙ ap (λ n. e + 65536 * n) (last_bytes g h g1)))
+
+-- the first and third of four parts of sixteen bits
+two_words : (a b c d : ℕ) → a < 65536 → b < 65536 → c < 65536 → bit_and (a + 65536 * (b + 65536 * (c + 65536 * d))) 281470681808895 ≡ a + 4294967296 * c
+two_words a b c d a1 b1 c1 =
+    even_words a b (c + 65536 * d) 65535 a1 b1 ∙ ap (λ n. a + 4294967296 * n) (and_mask (c + 65536 * d) 16 ∙ omega arith)
+
+abbrev pub added : ℕ → ℕ → ℕ → ℕ
+added factor part word = (word * factor % 2 ^ 64 + word / part) % 2 ^ 64
+
+pairs : (a b c d e f g h : ℕ) → a ≤ 9 → b ≤ 9 → c ≤ 9 → d ≤ 9 → e ≤ 9 → f ≤ 9 → g ≤ 9 → h ≤ 9
+    → added 10 256 (a + 256 * (b + 256 * (c + 256 * (d + 256 * (e + 256 * (f + 256 * (g + 256 * h)))))))
+    ≡ (10 * a + b) + 256 * ((10 * b + c) + 256 * ((10 * c + d) + 256 * ((10 * d + e) + 256 * ((10 * e + f) + 256 * ((10 * f + g) + 256 * ((10 * g + h) + 256 * (10 * h)))))))
+pairs a b c d e f g h a9 b9 c9 d9 e9 f9 g9 h9 = omega arith
+
+fours : (a b c d : ℕ) → a < 100 → b < 100 → c < 100 → d < 100
+    → added 100 65536 (a + 65536 * (b + 65536 * (c + 65536 * d)))
+    ≡ (100 * a + b) + 65536 * ((100 * b + c) + 65536 * ((100 * c + d) + 65536 * (100 * d)))
+fours a b c d a1 b1 c1 d1 = omega arith
+
+eights : (a b : ℕ) → a < 10000 → b < 10000 → bit_and (added 10000 4294967296 (a + 4294967296 * b)) 4294967295 ≡ 10000 * a + b
+eights a b a1 b1 = and_mask (added 10000 4294967296 (a + 4294967296 * b)) 32 ∙ omega arith
+
+pub joined : (a b c d e f g h word : ℕ) → AreSmall (a ∷ b ∷ c ∷ d ∷ e ∷ f ∷ g ∷ h ∷ []) → word ≡ word_of (a ∷ b ∷ c ∷ d ∷ e ∷ f ∷ g ∷ h ∷ [])
+    → bit_and (added 10000 4294967296 (bit_and (added 100 65536 (bit_and (added 10 256 word) 71777214294589695)) 281470681808895)) 4294967295
+    ≡ a * 10000000 + b * 1000000 + c * 100000 + d * 10000 + e * 1000 + f * 100 + g * 10 + h
+joined a b c d e f g h word (a9, (b9, (c9, (d9, (e9, (f9, (g9, (h9, _)))))))) w =
+    let whole : word ≡ a + 256 * (b + 256 * (c + 256 * (d + 256 * (e + 256 * (f + 256 * (g + 256 * h)))))) = omega (arith, w) in
+    let two = ap (λ n. bit_and (added 10 256 n) 71777214294589695) whole
+        ∙ ap (λ n. bit_and n 71777214294589695) (pairs a b c d e f g h a9 b9 c9 d9 e9 f9 g9 h9)
+        ∙ four_bytes (10 * a + b) (10 * b + c) (10 * c + d) (10 * d + e) (10 * e + f) (10 * f + g) (10 * g + h) (10 * h) (omega arith) (omega arith) (omega arith) (omega arith) (omega arith) (omega arith) (omega arith) in
+    let four = ap (λ n. bit_and (added 100 65536 n) 281470681808895) two
+        ∙ ap (λ n. bit_and n 281470681808895) (fours (10 * a + b) (10 * c + d) (10 * e + f) (10 * g + h) (omega arith) (omega arith) (omega arith) (omega arith))
+        ∙ two_words (100 * (10 * a + b) + (10 * c + d)) (100 * (10 * c + d) + (10 * e + f)) (100 * (10 * e + f) + (10 * g + h)) (100 * (10 * g + h)) (omega arith) (omega arith) (omega arith) in
+    ap (λ n. bit_and (added 10000 4294967296 n) 4294967295) four
+    ∙ eights (100 * (10 * a + b) + (10 * c + d)) (100 * (10 * e + f) + (10 * g + h)) (omega arith) (omega arith)
+    ∙ omega arith

@@ -1,9 +1,9 @@
 //! Runs of digits, read as numbers.
 
-ghost use Rattle.std.specs.Prelude.{◌≡◌, ◌^◌, ◌≤◌, ◌+◌, ◌<◌, ◌*◌, ◌∷◌, [], List, ℕ, All, not, map, length, take};
+ghost use Rattle.std.specs.Prelude.{◌≡◌, ◌^◌, ◌≤◌, ◌+◌, ◌<◌, ◌*◌, ◌∷◌, [], List, ℕ, not, map, length, take};
 ghost use Rattle.weld_values.specs.Tokens.{is_digit, value_after, digit_run, after_digits};
 ghost use Rattle.weld_values.specs.Judging.{IsCapped};
-ghost use Rattle.weld_values.specs.Eights.{word_of, padded};
+ghost use Rattle.weld_values.specs.Eights.{word_of, padded, AreSmall};
 ghost use Rattle.std.specs.Simd.Lanes.{mask_l};
 
 use std::simd::prelude::*;
@@ -127,7 +127,7 @@ fn first_word(text: &[u8]) -> u64
 #[inline(always)]
 fn moved_digits(word: u64, count: usize) -> u64
     requires { count ≤ 8 }
-    ensures { (bytes : List ℕ) → length bytes ≡ 8 → word ≡ word_of bytes → length (digit_run bytes) ≡ count → result ≡ word_of (padded bytes) }
+    ensures { (bytes : List ℕ) → word ≡ word_of bytes → length (digit_run bytes) ≡ count → result ≡ word_of (padded bytes) }
 {
     let half = 32 - 4 * count as u32;
     (word.wrapping_sub(ZEROS) << half) << half
@@ -136,7 +136,7 @@ fn moved_digits(word: u64, count: usize) -> u64
 /// The number that eight digits write, of which each is a byte of the word, the first the lowest.
 #[inline(always)]
 fn joined_digits(word: u64) -> u64
-    ensures { (a b c d e f g h : ℕ) → All (λ digit. digit ≤ 9) (a ∷ b ∷ c ∷ d ∷ e ∷ f ∷ g ∷ h ∷ []) → word ≡ word_of (a ∷ b ∷ c ∷ d ∷ e ∷ f ∷ g ∷ h ∷ [])
+    ensures { (a b c d e f g h : ℕ) → AreSmall (a ∷ b ∷ c ∷ d ∷ e ∷ f ∷ g ∷ h ∷ []) → word ≡ word_of (a ∷ b ∷ c ∷ d ∷ e ∷ f ∷ g ∷ h ∷ [])
         → result ≡ a * 10000000 + b * 1000000 + c * 100000 + d * 10000 + e * 1000 + f * 100 + g * 10 + h }
 {
     let pairs = (word.wrapping_mul(10).wrapping_add(word >> 8)) & 0x00ff_00ff_00ff_00ff;
