@@ -5,7 +5,7 @@ use Rattle.std.proofs.lemmas.Bool.{and_parts, both_ways}
 use Rattle.std.specs.List.{list_all}
 use Rattle.weld_data.specs.Value.{Value, Values}
 use Rattle.weld_tree.specs.TypeTree.{TypeTree, TypeTrees, scalar, vec, struct as struct_of, dict as dict_of, build, no_types, more_types, pack}
-use Rattle.weld_values.specs.Tokens.{is_digit, byte_at}
+use Rattle.weld_values.specs.Tokens.{is_digit}
 use Rattle.weld_values.specs.Grammar.{Part, More, Listed, At, Fields}
 use Rattle.weld_values.specs.Pieces.{Separated, is_scalar, IsFlat, AreFlat}
 use Rattle.weld_values.specs.Judging.{IsPlain, ArePlain}

@@ -1,13 +1,14 @@
 -- Eight bytes of text as one word.
-use Rattle.std.proofs.Common.{◌≡◌, sym, ◌∙◌, ap, ap₂, ℕ, ◌+◌, ◌*◌, ◌-◌, ◌/◌, ◌%◌, ◌^◌, ◌≤◌, ◌<◌, Bool, true, false, not, cond, leb, List, [], ◌∷◌, ◌++◌, map, length, nat_le, ◌&&◌, replicate, Fits, w8, refl, arith, if◌then◌else◌}
+use Rattle.std.proofs.Common.{◌≡◌, sym, ◌∙◌, ap, ap₂, ℕ, zero, suc, ◌+◌, ◌*◌, ◌-◌, ◌/◌, ◌%◌, ◌^◌, ◌≤◌, ◌<◌, Bool, true, false, not, cond, leb, List, [], ◌∷◌, ◌++◌, map, length, length-take, take, nat_le, ◌&&◌, replicate, Fits, w8, slice_index_or, pow-suc, add-mul, mul_assoc, mul_comm, mul-le-mul_left, lt_of_lt_of_le, subst, refl, arith, if◌then◌else◌}
 use Rattle.std.proofs.lemmas.Bool.{agree_below, agree_below_at, leb-true}
 use Rattle.std.proofs.lemmas.List.{length-map}
 use Rattle.std.proofs.lemmas.Simd.{zip2_splat_left, map-map, mask_l-mod}
 use Rattle.std.specs.List.{prefix_len}
 use lib.Bits.{bit_and, and_block, and_mask}
 use lib.Lanes.{zip2, mask_l, top, Each1}
+use Rattle.weld_values.proofs.Numbers.{digits_count}
 use Rattle.weld_values.specs.Eights.{word_of, AreSmall}
-use Rattle.weld_values.specs.Tokens.{is_digit, digit_run, after_digits}
+use Rattle.weld_values.specs.Tokens.{is_digit, value_after, digit_run, after_digits}
 
 -- ---- which bytes are digits
 
@@ -141,11 +142,86 @@ pub joined : (a b c d e f g h word : ℕ) → AreSmall (a ∷ b ∷ c ∷ d ∷ 
 joined a b c d e f g h word (a9, (b9, (c9, (d9, (e9, (f9, (g9, (h9, _)))))))) w =
     let whole : word ≡ a + 256 * (b + 256 * (c + 256 * (d + 256 * (e + 256 * (f + 256 * (g + 256 * h)))))) = omega (arith, w) in
     let two = ap (λ n. bit_and (added 10 256 n) 71777214294589695) whole
-        ∙ ap (λ n. bit_and n 71777214294589695) (pairs a b c d e f g h a9 b9 c9 d9 e9 f9 g9 h9)
-        ∙ four_bytes (10 * a + b) (10 * b + c) (10 * c + d) (10 * d + e) (10 * e + f) (10 * f + g) (10 * g + h) (10 * h) (omega arith) (omega arith) (omega arith) (omega arith) (omega arith) (omega arith) (omega arith) in
+    ∙ ap (λ n. bit_and n 71777214294589695) (pairs a b c d e f g h a9 b9 c9 d9 e9 f9 g9 h9)
+    ∙ four_bytes (10 * a + b) (10 * b + c) (10 * c + d) (10 * d + e) (10 * e + f) (10 * f + g) (10 * g + h) (10 * h) (omega arith) (omega arith) (omega arith) (omega arith) (omega arith) (omega arith) (omega arith) in
     let four = ap (λ n. bit_and (added 100 65536 n) 281470681808895) two
-        ∙ ap (λ n. bit_and n 281470681808895) (fours (10 * a + b) (10 * c + d) (10 * e + f) (10 * g + h) (omega arith) (omega arith) (omega arith) (omega arith))
-        ∙ two_words (100 * (10 * a + b) + (10 * c + d)) (100 * (10 * c + d) + (10 * e + f)) (100 * (10 * e + f) + (10 * g + h)) (100 * (10 * g + h)) (omega arith) (omega arith) (omega arith) in
+    ∙ ap (λ n. bit_and n 281470681808895) (fours (10 * a + b) (10 * c + d) (10 * e + f) (10 * g + h) (omega arith) (omega arith) (omega arith) (omega arith))
+    ∙ two_words (100 * (10 * a + b) + (10 * c + d)) (100 * (10 * c + d) + (10 * e + f)) (100 * (10 * e + f) + (10 * g + h)) (100 * (10 * g + h)) (omega arith) (omega arith) (omega arith) in
     ap (λ n. bit_and (added 10000 4294967296 n) 4294967295) four
     ∙ eights (100 * (10 * a + b) + (10 * c + d)) (100 * (10 * e + f) + (10 * g + h)) (omega arith) (omega arith)
     ∙ omega arith
+
+-- ---- the number that digits write
+
+pub value_split : (before : ℕ) (run : List ℕ) → value_after before run ≡ before * 10 ^ length run + value_after 0 run
+value_split before [] = omega arith
+value_split before (digit ∷ run) =
+    let power = pow-suc 10 (length run) in
+    let n = 10 ^ length run in
+    let moved_ten : (before * 10 + (digit - 48)) * n ≡ before * (n * 10) + (digit - 48) * n = add-mul (before * 10) (digit - 48) n ∙ ap (λ m. m + (digit - 48) * n) (mul_assoc before 10 n ∙ ap (λ m. before * m) (mul_comm 10 n)) in
+    value_split (before * 10 + (digit - 48)) run ∙ ap (λ m. m + value_after 0 run) (moved_ten ∙ ap (λ m. before * m + (digit - 48) * n) (sym power)) ∙ omega (arith, value_split (0 * 10 + (digit - 48)) run)
+
+horner : (a b c d e f g h : ℕ) → a * 10000000 + b * 1000000 + c * 100000 + d * 10000 + e * 1000 + f * 100 + g * 10 + h
+    ≡ (((((((0 * 10 + a) * 10 + b) * 10 + c) * 10 + d) * 10 + e) * 10 + f) * 10 + g) * 10 + h
+horner a b c d e f g h = omega arith
+
+-- what a word of digits joins to
+abbrev pub Joins : ℕ → ℕ → Type 0
+Joins word number = (a b c d e f g h : ℕ) → AreSmall (a ∷ b ∷ c ∷ d ∷ e ∷ f ∷ g ∷ h ∷ []) → word ≡ word_of (a ∷ b ∷ c ∷ d ∷ e ∷ f ∷ g ∷ h ∷ [])
+    → number ≡ a * 10000000 + b * 1000000 + c * 100000 + d * 10000 + e * 1000 + f * 100 + g * 10 + h
+
+none : 0 ≤ 9
+none = omega arith
+
+pub number_run : (run : List ℕ) (word number : ℕ) → AreDigits run → length run ≤ 8 → word ≡ word_of (numbers run) → Joins word number → number ≡ value_after 0 run
+number_run [] word number are few w joins = joins 0 0 0 0 0 0 0 0 (none, (none, (none, (none, (none, (none, (none, (none, tt)))))))) w ∙ horner 0 0 0 0 0 0 0 0
+number_run (a ∷ []) word number are few w joins = joins 0 0 0 0 0 0 0 (a - 48) (none, (none, (none, (none, (none, (none, (none, (small a are.1, tt)))))))) w ∙ horner 0 0 0 0 0 0 0 (a - 48)
+number_run (a ∷ b ∷ []) word number are few w joins = joins 0 0 0 0 0 0 (a - 48) (b - 48) (none, (none, (none, (none, (none, (none, (small a are.1, (small b are.2.1, tt)))))))) w ∙ horner 0 0 0 0 0 0 (a - 48) (b - 48)
+number_run (a ∷ b ∷ c ∷ []) word number are few w joins = joins 0 0 0 0 0 (a - 48) (b - 48) (c - 48) (none, (none, (none, (none, (none, (small a are.1, (small b are.2.1, (small c are.2.2.1, tt)))))))) w ∙ horner 0 0 0 0 0 (a - 48) (b - 48) (c - 48)
+number_run (a ∷ b ∷ c ∷ d ∷ []) word number are few w joins = joins 0 0 0 0 (a - 48) (b - 48) (c - 48) (d - 48) (none, (none, (none, (none, (small a are.1, (small b are.2.1, (small c are.2.2.1, (small d are.2.2.2.1, tt)))))))) w ∙ horner 0 0 0 0 (a - 48) (b - 48) (c - 48) (d - 48)
+number_run (a ∷ b ∷ c ∷ d ∷ e ∷ []) word number are few w joins = joins 0 0 0 (a - 48) (b - 48) (c - 48) (d - 48) (e - 48) (none, (none, (none, (small a are.1, (small b are.2.1, (small c are.2.2.1, (small d are.2.2.2.1, (small e are.2.2.2.2.1, tt)))))))) w ∙ horner 0 0 0 (a - 48) (b - 48) (c - 48) (d - 48) (e - 48)
+number_run (a ∷ b ∷ c ∷ d ∷ e ∷ f ∷ []) word number are few w joins = joins 0 0 (a - 48) (b - 48) (c - 48) (d - 48) (e - 48) (f - 48) (none, (none, (small a are.1, (small b are.2.1, (small c are.2.2.1, (small d are.2.2.2.1, (small e are.2.2.2.2.1, (small f are.2.2.2.2.2.1, tt)))))))) w ∙ horner 0 0 (a - 48) (b - 48) (c - 48) (d - 48) (e - 48) (f - 48)
+number_run (a ∷ b ∷ c ∷ d ∷ e ∷ f ∷ g ∷ []) word number are few w joins = joins 0 (a - 48) (b - 48) (c - 48) (d - 48) (e - 48) (f - 48) (g - 48) (none, (small a are.1, (small b are.2.1, (small c are.2.2.1, (small d are.2.2.2.1, (small e are.2.2.2.2.1, (small f are.2.2.2.2.2.1, (small g are.2.2.2.2.2.2.1, tt)))))))) w ∙ horner 0 (a - 48) (b - 48) (c - 48) (d - 48) (e - 48) (f - 48) (g - 48)
+number_run (a ∷ b ∷ c ∷ d ∷ e ∷ f ∷ g ∷ h ∷ []) word number are few w joins = joins (a - 48) (b - 48) (c - 48) (d - 48) (e - 48) (f - 48) (g - 48) (h - 48) (small a are.1, (small b are.2.1, (small c are.2.2.1, (small d are.2.2.2.1, (small e are.2.2.2.2.1, (small f are.2.2.2.2.2.1, (small g are.2.2.2.2.2.2.1, (small h are.2.2.2.2.2.2.2.1, tt)))))))) w ∙ horner (a - 48) (b - 48) (c - 48) (d - 48) (e - 48) (f - 48) (g - 48) (h - 48)
+number_run (a ∷ b ∷ c ∷ d ∷ e ∷ f ∷ g ∷ h ∷ i ∷ run) word number are few w joins = absurd (omega (arith, few))
+
+abbrev pub powers : List ℕ
+powers = 1 ∷ 10 ∷ 100 ∷ 1000 ∷ 10000 ∷ 100000 ∷ 1000000 ∷ 10000000 ∷ 100000000 ∷ []
+
+power_of : (run : List ℕ) → length run ≤ 8 → slice_index_or powers (length run) 0 ≡ 10 ^ length run
+power_of [] few = refl
+power_of (a ∷ []) few = refl
+power_of (a ∷ b ∷ []) few = refl
+power_of (a ∷ b ∷ c ∷ []) few = refl
+power_of (a ∷ b ∷ c ∷ d ∷ []) few = refl
+power_of (a ∷ b ∷ c ∷ d ∷ e ∷ []) few = refl
+power_of (a ∷ b ∷ c ∷ d ∷ e ∷ f ∷ []) few = refl
+power_of (a ∷ b ∷ c ∷ d ∷ e ∷ f ∷ g ∷ []) few = refl
+power_of (a ∷ b ∷ c ∷ d ∷ e ∷ f ∷ g ∷ h ∷ []) few = refl
+power_of (a ∷ b ∷ c ∷ d ∷ e ∷ f ∷ g ∷ h ∷ i ∷ run) few = absurd (omega (arith, few))
+
+pub written : (run : List ℕ) (before count word number : ℕ) → AreDigits run → length run ≡ count → count ≤ 8 → word ≡ word_of (numbers run) → Joins word number
+    → before * slice_index_or powers count 0 + number ≡ value_after before run
+written run before count word number are n few w joins =
+    let short : length run ≤ 8 = omega (arith, n, few) in
+    let power : slice_index_or powers count 0 ≡ 10 ^ length run = ap (λ k. slice_index_or powers k 0) (sym n) ∙ power_of run short in
+    (λ i. before * power i + number_run run word number are short w joins i) ∙ sym (value_split before run)
+
+ten_more : (n before : ℕ) → 10 ^ n * (10 * before) ≡ 10 ^ suc n * before
+ten_more n before = sym (mul_assoc (10 ^ n) 10 before) ∙ ap (λ m. m * before) (sym (pow-suc 10 n))
+
+grown : (n value before after : ℕ) → value < 10 ^ n * before → before ≤ 10 * after → value < 10 ^ suc n * after
+grown n value before after less le = subst (λ m. value < m) (ten_more n after) (lt_of_lt_of_le less (mul-le-mul_left (10 ^ n) le))
+
+pub written_small : (n : ℕ) (run : List ℕ) (before : ℕ) → AreDigits run → length run ≤ n → value_after before run < 10 ^ n * (before + 1)
+written_small zero [] before are few = omega arith
+written_small zero (digit ∷ run) before are few = absurd (omega (arith, few))
+written_small (suc n) [] before are few = grown n before (before + 1) (before + 1) (written_small n [] before tt (omega arith)) (omega arith)
+written_small (suc n) (digit ∷ run) before are few =
+    grown n (value_after (before * 10 + (digit - 48)) run) (before * 10 + (digit - 48) + 1) (before + 1) (written_small n run (before * 10 + (digit - 48)) are.2 (omega (arith, few))) (omega (arith, small digit are.1))
+
+run_le : (bytes : List ℕ) → length (digit_run bytes) ≤ length bytes
+run_le bytes = omega (arith, digits_count bytes)
+
+pub run_short : (text : List ℕ) → length (digit_run (take 8 text)) ≤ 8
+run_short text = omega (arith, run_le (take 8 text), length-take 8 text)

@@ -1,6 +1,6 @@
-use Rattle.std.proofs.Common.{◌∙◌, ap, not, take, length, arith}
+use Rattle.std.proofs.Common.{◌∙◌, ap, not, take, arith}
 use Rattle.std.proofs.lemmas.List.{length-take-le}
-use Rattle.std.proofs.lemmas.Simd.{trailing_mask_l, leading_from_mask_l}
+use Rattle.std.proofs.lemmas.Simd.{trailing_mask_l}
 use lib.Count.{count_trailing_zeros}
 use Rattle.weld_values.specs.Tokens.{is_digit}
 use Rattle.weld_values.proofs.Eights.{run_is}

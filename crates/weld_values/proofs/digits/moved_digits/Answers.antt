@@ -1,4 +1,4 @@
-use Rattle.std.proofs.Common.{sym, ◌∙◌, ap}
+use Rattle.std.proofs.Common.{◌∙◌, ap}
 use Rattle.weld_values.specs.Tokens.{digit_run, after_digits}
 use Rattle.weld_values.specs.Eights.{word_of}
 use Rattle.weld_values.proofs.Eights.{run_digits, parts, moved_run}
