@@ -1,9 +1,9 @@
-//! Pieces of structs of scalars, read side by side and joined in their order.
+//! Pieces of lists of scalars or of structs, read side by side and joined in their order.
 
 ghost use Rattle.std.specs.Prelude.{◌≡◌, ◌++◌, ◌<◌, List, ℕ, true, length, map, IfOk, IfSome, OnOk};
 ghost use Rattle.std.specs.List.{AllZip};
 ghost use Rattle.weld_data.specs.Value.{Value};
-ghost use Rattle.weld_values.specs.Pieces.{IsFlat};
+ghost use Rattle.weld_values.specs.Judging.{IsPlain};
 ghost use Rattle.weld_read_pieces.specs.Cuts.{with_commas};
 ghost use Rattle.weld_read_pieces.specs.Joined.{AreValues, ArePieces};
 
@@ -12,9 +12,9 @@ use rayon::prelude::*;
 use std::alloc::{AllocError, Global};
 use std::thread::Threads;
 use weld_data::Vals;
-use weld_tree::Ty;
-use weld_values::laws::flat_values_join_at_commas;
-use weld_values::read_struct_piece;
+use weld_tree::{Ty, TyForm};
+use weld_values::laws::plain_values_join_at_commas;
+use weld_values::read_shallow_piece;
 
 /// What each piece is read as, in order, the pieces shared among the processors. Where there is one alone, no thread is started.
 fn read_pieces(
@@ -31,7 +31,7 @@ fn read_pieces(
         .map(
             |piece: &&[u8]| -> Result<Option<Vals>, AllocError>
                 ensures { IfOk result (λ found. IfSome found (λ items. AreValues ty.entry.now piece.now.now items)) }
-            { read_struct_piece(ty, alloc, piece) },
+            { read_shallow_piece(ty, alloc, piece) },
         )
         .collect(rt, alloc)
 }
@@ -83,9 +83,17 @@ fn join_all(
     Ok(Some(items))
 }
 
-/// The structs of scalars that the text is, with a comma between each two; none where it is anything else. So many pieces of it
-/// are read side by side.
-pub(crate) fn read_structs(
+/// Behind which byte a text of values of the type may be cut: a list of them has no such comma in a value, unless a string has.
+fn cut_of(ty: &Ty) -> CutAt {
+    match &ty.form {
+        TyForm::Vec(_) => CutAt::Bracket,
+        _ => CutAt::Brace,
+    }
+}
+
+/// The lists of scalars, or the structs of such and of scalars, that the text is, with a comma between each two; none where it is
+/// anything else, or a piece doesn't end where a value does. So many pieces of it are read side by side.
+pub(crate) fn read_nested(
     rt: &(impl Threads + Sync),
     alloc: Global,
     text: &[u8],
@@ -93,11 +101,11 @@ pub(crate) fn read_structs(
     workers: u32,
 ) -> Result<Option<Vals>, AllocError>
     requires some_worker { 0 < workers }
-    requires flat { IsFlat ty.now }
+    requires plain { IsPlain ty.now }
     ensures { IfOk result (λ found. IfSome found (λ items. AreValues ty.now text.now items)) }
 {
-    flat_values_join_at_commas();
-    let pieces = cut_pieces(alloc, text, text.len() / workers as usize, CutAt::Brace)?;
+    plain_values_join_at_commas();
+    let pieces = cut_pieces(alloc, text, text.len() / workers as usize, cut_of(ty))?;
     let answers = read_pieces(rt, alloc, ty, pieces.as_slice())?;
     join_all(alloc, ty, pieces.as_slice(), answers)
 }

@@ -2,7 +2,7 @@ use Rattle.std.proofs.Common.{ap, subst, ◌∙◌, IfOk, IfSome}
 use Rattle.rayon.proofs.ListFacts.{IfOk-then, AllZip-weaken}
 use Rattle.rayon.proofs.ToStd.{slice-AllZip}
 use Rattle.weld_read_pieces.specs.Joined.{AreValues}
-use Rattle.weld_read_pieces.proofs.structs.read_pieces.Goals as goal
+use Rattle.weld_read_pieces.proofs.nested.read_pieces.Goals as goal
 
 pub returns : goal.returns
 returns g c =

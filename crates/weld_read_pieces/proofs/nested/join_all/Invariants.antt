@@ -3,7 +3,7 @@ use Rattle.std.specs.List.{AllZip}
 use Rattle.std.specs.Vec.Iter.{into_iter_items}
 use Rattle.weld_read_pieces.specs.Joined.{AreValues}
 use Rattle.weld_read_pieces.proofs.Whole.{MakeUp}
-use Rattle.weld_read_pieces.proofs.structs.join_all.Given as goal
+use Rattle.weld_read_pieces.proofs.nested.join_all.Given as goal
 
 -- the pieces whose answers are left make up, behind the items, what all pieces are
 abbrev pub invariant-loop-answer : goal.invariant-loop-answer

@@ -1,7 +1,7 @@
 use Rattle.std.specs.Vec.Iter.{into_iter_items}
 use Rattle.weld_data.specs.View.{view_val}
 use Rattle.weld_read_pieces.proofs.Whole.{append_more}
-use Rattle.weld_read_pieces.proofs.structs.append.Goals as goal
+use Rattle.weld_read_pieces.proofs.nested.append.Goals as goal
 
 pub loop-value-preserved : goal.loop-value-preserved
 loop-value-preserved c =

@@ -2,7 +2,7 @@ use Rattle.std.proofs.Common.{◌≡◌, ◌∙◌, length, subst, sym}
 use Rattle.std.specs.List.{AllZip}
 use Rattle.std.specs.Vec.Iter.{into_iter_items}
 use Rattle.weld_read_pieces.proofs.Whole.{make_up_none, next_piece, no_piece, make_up_more, make_up_last}
-use Rattle.weld_read_pieces.proofs.structs.join_all.Goals as goal
+use Rattle.weld_read_pieces.proofs.nested.join_all.Goals as goal
 
 pub loop-answer-init : goal.loop-answer-init
 loop-answer-init c =
