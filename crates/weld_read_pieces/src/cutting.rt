@@ -5,11 +5,13 @@ ghost use Rattle.weld_read_pieces.specs.Cuts.{with_commas};
 
 use std::alloc::{AllocError, Global};
 
-/// At which commas a text is cut: at any, or at those behind a closing brace. A struct of scalars has no such comma inside.
+/// At which commas a text is cut: at any, at those behind a closing brace, or at those behind a closing bracket or a quote. A
+/// struct or a list of scalars has no such comma inside.
 #[derive(Clone, Copy, PartialEq, Eq)]
 pub(crate) enum CutAt {
     Comma,
     Brace,
+    Bracket,
 }
 
 /// Whether the text may be cut at this place, if a comma stands there.
@@ -19,6 +21,7 @@ fn may_cut(text: &[u8], at: usize, cut_at: CutAt) -> bool
     match cut_at {
         CutAt::Comma => true,
         CutAt::Brace => 0 < at && text[at - 1] == b'}',
+        CutAt::Bracket => 0 < at && (text[at - 1] == b']' || text[at - 1] == b'"'),
     }
 }
 

@@ -9,16 +9,16 @@ ghost use Rattle.weld_values.specs.Judging.{IsReadable};
 ghost use Rattle.weld_read_pieces.specs.Joined.{AreValues};
 
 use crate::joining::read_joined;
-use crate::structs::read_structs;
+use crate::nested::read_nested;
 use std::alloc::{AllocError, Global};
 use std::thread::Threads;
 use weld_data::{Column, Kind, Val};
 use weld_tree::{Ty, TyForm};
 use weld_values::laws::{
-    flat_values_in_brackets_read_as_lists, read_values_have_the_type,
+    plain_values_in_brackets_read_as_lists, read_values_have_the_type,
     scalars_in_brackets_read_as_lists,
 };
-use weld_values::{DataFault, inside_brackets, is_struct_of_scalars};
+use weld_values::{DataFault, inside_brackets, is_shallow};
 
 /// Shorter texts are read by one thread, since starting others takes longer than reading.
 const SHORT: usize = 262_144;
@@ -74,8 +74,8 @@ fn read_column(
     }
 }
 
-/// The list of structs of scalars of this type that the content is, if it is one.
-fn read_struct_list(
+/// The list of values of this type that the content is, if it is one and they are lists of scalars, or structs of such and of scalars.
+fn read_nested_list(
     rt: &(impl Threads + Sync),
     alloc: Global,
     content: &[u8],
@@ -85,20 +85,20 @@ fn read_struct_list(
     requires { 0 < workers }
     ensures { IfOk result (λ found. IfSome found (λ v. ReadsAs content.now (vec item.now) (view_val v))) }
 {
-    flat_values_in_brackets_read_as_lists();
-    if !is_struct_of_scalars(item) {
+    plain_values_in_brackets_read_as_lists();
+    if !is_shallow(item) {
         return Ok(None);
     }
     let Some(body) = inside_brackets(content) else {
         return Ok(None);
     };
-    match read_structs(rt, alloc, body, item, workers)? {
+    match read_nested(rt, alloc, body, item, workers)? {
         Some(items) => Ok(Some(Val::List(Column::Nest(items)))),
         None => Ok(None),
     }
 }
 
-/// The value of the type that the content is, if it is a list of scalars or of structs of them.
+/// The value of the type that the content is, if it is a list of scalars, of lists of them or of structs of both.
 fn read_list(
     rt: &(impl Threads + Sync),
     alloc: Global,
@@ -114,7 +114,7 @@ fn read_list(
         return Ok(None);
     };
     let TyForm::Scalar(kind) = &item.form else {
-        return read_struct_list(rt, alloc, content, item, workers);
+        return read_nested_list(rt, alloc, content, item, workers);
     };
     let Some(body) = inside_brackets(content) else {
         return Ok(None);
@@ -125,9 +125,10 @@ fn read_list(
     }
 }
 
-/// The content of a data block as a value of the type, or why it is none, as `weld_values::read_value` tells it. A long list
-/// of scalars, or of structs of scalars, is read in pieces, as many as there are workers, each by a thread where one is free. What isn't in form or in
-/// range is read again from its beginning, so that the reason is the first there.
+/// The content of a data block as a value of the type, or why it is none, as `weld_values::read_value` tells it. A long list of
+/// scalars, of lists of them (as of strings), or of structs of both, is read in pieces, as many as there are workers, each by a
+/// thread where one is free. What isn't in form or in range is read again from its beginning, so that the reason is the first
+/// there; so is what was cut at a comma within a string.
 pub fn read_value(
     rt: &(impl Threads + Sync),
     alloc: Global,

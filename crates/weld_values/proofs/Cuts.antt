@@ -104,7 +104,7 @@ integer_by : (c : ℕ) (cs : List ℕ) (s : ℕ) (q : List ℕ) (z : ℤ) (r : L
 integer_by c cs s q z r true d e = signed_carried (λ (n : ℕ). neg_ℤ (pos n)) cs s q z r d e
 integer_by c cs s q z r false d e = signed_carried pos (c ∷ cs) s q z r d e
 
-no_integer : (z : ℤ) (r : List ℕ) → integer_at [] ≡ Some (z, r) → ⊥
+pub no_integer : (z : ℤ) (r : List ℕ) → integer_at [] ≡ Some (z, r) → ⊥
 unfolding integer_at numeral_at
 no_integer z r e = none_is (z, r) e
 

@@ -1,4 +1,5 @@
 pub mod Numbers
+pub mod Eights
 pub mod Integers
 pub mod Judgements
 pub mod Listings
@@ -23,7 +24,6 @@ pub mod Readable
 pub mod OneReading
 pub mod Ascending
 pub mod Settling
-pub mod Runs
 pub mod Cuts
 pub mod Carried
 pub mod Pieces

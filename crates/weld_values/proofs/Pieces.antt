@@ -9,12 +9,12 @@ use Rattle.weld_values.specs.Tokens.{after_blanks, byte_at}
 use Rattle.weld_values.specs.Grammar.{Listed, Enclosed, At}
 use Rattle.weld_values.specs.Judging.{IsPlain, IsReadInto}
 use Rattle.weld_values.specs.Reading.{ReadsAs}
-use Rattle.weld_values.specs.Pieces.{Separated, InBrackets, IsFlat}
+use Rattle.weld_values.specs.Pieces.{Separated, InBrackets}
 use Rattle.weld_values.proofs.Listings.{more_listed}
 use Rattle.weld_values.proofs.Readings.{plain_stays, plain_gives}
 use Rattle.weld_values.proofs.RoundTrip.{typed_good}
 use Rattle.weld_values.proofs.KeyTypes.{plain_readable}
-use Rattle.weld_values.proofs.Carried.{flat_is_plain, flat_carried, list_carried}
+use Rattle.weld_values.proofs.Carried.{plain_carried, list_carried}
 use Rattle.weld_values.proofs.Cuts.{byte_at_end}
 
 -- what was read of a piece so far
@@ -68,11 +68,11 @@ enclosed_by : (t : TypeTree) (o : Option (List ℕ)) (vs : List Value) (inner en
 enclosed_by t o vs inner end back n l c = subst (λ (p : Option (List ℕ)). Enclosed (At t) 93 p vs inner back) (sym n) (end, l, c)
 
 -- such values in brackets
-pub bracketed : (t : TypeTree) → IsFlat t → (text body : List ℕ) (vs : List Value) → InBrackets text body → Separated (At t) vs body → All (HasValue t) vs → ReadsAs text (vec t) (list (values vs))
+pub bracketed : (t : TypeTree) → IsPlain t → (text body : List ℕ) (vs : List Value) → InBrackets text body → Separated (At t) vs body → All (HasValue t) vs → ReadsAs text (vec t) (list (values vs))
 bracketed t f text body vs b (end, l, blank) typed =
     let inner = body ++ 93 ∷ b.back in
-    let enclosed = enclosed_by t (byte_at 93 inner) vs inner (end ++ 93 ∷ b.back) b.back b.holds (list_carried (At t) (flat_carried t f) vs body end 93 b.back refl l) (byte_at_end 93 end b.back refl blank) in
-    let good = typed_good (vec t) (plain_readable t (flat_is_plain t f)) (list (values vs)) (all_are (HasValue t) vs typed) in
+    let enclosed = enclosed_by t (byte_at 93 inner) vs inner (end ++ 93 ∷ b.back) b.back b.holds (list_carried (At t) (plain_carried t f) vs body end 93 b.back refl l) (byte_at_end 93 end b.back refl blank) in
+    let good = typed_good (vec t) (plain_readable t f) (list (values vs)) (all_are (HasValue t) vs typed) in
     record {
       raw = list (values vs);
       spelled = record { rest = b.back; at = inl (inner, vs, b.opens, enclosed, refl); ends = b.ends };

@@ -3,5 +3,5 @@ pub mod Grammar
 pub mod Reading
 pub mod Judging
 pub mod Showing
-pub mod Runs
+pub mod Eights
 pub mod Pieces

@@ -1,6 +1,6 @@
 -- Lists whose text is cut at commas.
 use Rattle.std.specs.Prelude.{◌≡◌, ◌++◌, ℕ, Bool, true, false, List, [], ◌∷◌, Some, None}
-use Rattle.weld_tree.specs.TypeTree.{TypeTree, TypeTrees, scalar, vec, struct as struct_of, dict as dict_of, build, no_types, more_types}
+use Rattle.weld_tree.specs.TypeTree.{TypeTree, scalar, vec, struct as struct_of, dict as dict_of, build}
 use Rattle.weld_values.specs.Tokens.{after_blanks, byte_at}
 use Rattle.weld_values.specs.Grammar.{Part, Listed}
 
@@ -22,15 +22,10 @@ is_scalar (struct_of ts) = false
 is_scalar (dict_of k v) = false
 is_scalar (build b) = false
 
-abbrev mutual
-  -- a scalar, or a struct of such types
-  pub IsFlat : TypeTree → Type 0
-  IsFlat (scalar k) = Unit {0}
-  IsFlat (vec t) = ⊥
-  IsFlat (struct_of ts) = AreFlat ts
-  IsFlat (dict_of k v) = ⊥
-  IsFlat (build b) = ⊥
-
-  pub AreFlat : TypeTrees → Type 0
-  AreFlat no_types = Unit {0}
-  AreFlat (more_types t ts) = IsFlat t × AreFlat ts
+-- a scalar, or a list of scalars
+abbrev pub is_row : TypeTree → Bool
+is_row (scalar k) = true
+is_row (vec t) = is_scalar t
+is_row (struct_of ts) = false
+is_row (dict_of k v) = false
+is_row (build b) = false

@@ -27,6 +27,7 @@ pub trait Cell: Copy + Drop {
 }
 
 /// Appends the scalar at the front of the text, and answers what follows it.
+#[inline(always)]
 pub(crate) fn append_cell<'a, T: Cell>(
     items: &mut Items<T>,
     text: &'a [u8],
@@ -51,6 +52,7 @@ impl Cell for bool {
 
     ghost value = { λ (b : Bool). number kinds.Bool (truth b) };
 
+    #[inline(always)]
     fn read(text: &[u8]) -> Option<(bool, Flaw, &[u8])> {
         match truth(after_blanks(text)) {
             Some((value, rest)) => Some((value, Flaw::Fine, rest)),
@@ -64,6 +66,7 @@ impl Cell for i8 {
 
     ghost value = { number kinds.I8 };
 
+    #[inline(always)]
     fn read(text: &[u8]) -> Option<(i8, Flaw, &[u8])> {
         match integer(after_blanks(text)) {
             Some((x, rest)) => Some(narrowed_i8(x, rest)),
@@ -77,6 +80,7 @@ impl Cell for i16 {
 
     ghost value = { number kinds.I16 };
 
+    #[inline(always)]
     fn read(text: &[u8]) -> Option<(i16, Flaw, &[u8])> {
         match integer(after_blanks(text)) {
             Some((x, rest)) => Some(narrowed_i16(x, rest)),
@@ -90,6 +94,7 @@ impl Cell for i32 {
 
     ghost value = { number kinds.I32 };
 
+    #[inline(always)]
     fn read(text: &[u8]) -> Option<(i32, Flaw, &[u8])> {
         match integer(after_blanks(text)) {
             Some((x, rest)) => Some(narrowed_i32(x, rest)),
@@ -103,6 +108,7 @@ impl Cell for i64 {
 
     ghost value = { number kinds.I64 };
 
+    #[inline(always)]
     fn read(text: &[u8]) -> Option<(i64, Flaw, &[u8])> {
         match integer(after_blanks(text)) {
             Some((x, rest)) => Some(narrowed_i64(x, rest)),
@@ -116,6 +122,7 @@ impl Cell for u8 {
 
     ghost value = { λ (n : ℕ). number kinds.U8 (pos n) };
 
+    #[inline(always)]
     fn read(text: &[u8]) -> Option<(u8, Flaw, &[u8])> {
         match integer(after_blanks(text)) {
             Some((x, rest)) => Some(narrowed_u8(x, rest)),
@@ -129,6 +136,7 @@ impl Cell for u16 {
 
     ghost value = { λ (n : ℕ). number kinds.U16 (pos n) };
 
+    #[inline(always)]
     fn read(text: &[u8]) -> Option<(u16, Flaw, &[u8])> {
         match integer(after_blanks(text)) {
             Some((x, rest)) => Some(narrowed_u16(x, rest)),
@@ -142,6 +150,7 @@ impl Cell for u32 {
 
     ghost value = { λ (n : ℕ). number kinds.U32 (pos n) };
 
+    #[inline(always)]
     fn read(text: &[u8]) -> Option<(u32, Flaw, &[u8])> {
         match integer(after_blanks(text)) {
             Some((x, rest)) => Some(narrowed_u32(x, rest)),
@@ -155,6 +164,7 @@ impl Cell for u64 {
 
     ghost value = { λ (n : ℕ). number kinds.U64 (pos n) };
 
+    #[inline(always)]
     fn read(text: &[u8]) -> Option<(u64, Flaw, &[u8])> {
         match integer(after_blanks(text)) {
             Some((x, rest)) => Some(narrowed_u64(x, rest)),
@@ -164,6 +174,7 @@ impl Cell for u64 {
 }
 
 /// The number as one of kind i8, if it is in range; and what follows it.
+#[inline(always)]
 fn narrowed_i8(x: i128, rest: &[u8]) -> (i8, Flaw, &[u8])
     ensures judged { (z : ℤ) → IsClamped x z → Judged result.1 (number kinds.I8 z) (number kinds.I8 result.0) }
     ensures rest { result.2.now ≡ rest.now }
@@ -176,6 +187,7 @@ fn narrowed_i8(x: i128, rest: &[u8]) -> (i8, Flaw, &[u8])
 }
 
 /// The number as one of kind i16, if it is in range; and what follows it.
+#[inline(always)]
 fn narrowed_i16(x: i128, rest: &[u8]) -> (i16, Flaw, &[u8])
     ensures judged { (z : ℤ) → IsClamped x z → Judged result.1 (number kinds.I16 z) (number kinds.I16 result.0) }
     ensures rest { result.2.now ≡ rest.now }
@@ -188,6 +200,7 @@ fn narrowed_i16(x: i128, rest: &[u8]) -> (i16, Flaw, &[u8])
 }
 
 /// The number as one of kind i32, if it is in range; and what follows it.
+#[inline(always)]
 fn narrowed_i32(x: i128, rest: &[u8]) -> (i32, Flaw, &[u8])
     ensures judged { (z : ℤ) → IsClamped x z → Judged result.1 (number kinds.I32 z) (number kinds.I32 result.0) }
     ensures rest { result.2.now ≡ rest.now }
@@ -200,6 +213,7 @@ fn narrowed_i32(x: i128, rest: &[u8]) -> (i32, Flaw, &[u8])
 }
 
 /// The number as one of kind i64, if it is in range; and what follows it.
+#[inline(always)]
 fn narrowed_i64(x: i128, rest: &[u8]) -> (i64, Flaw, &[u8])
     ensures judged { (z : ℤ) → IsClamped x z → Judged result.1 (number kinds.I64 z) (number kinds.I64 result.0) }
     ensures rest { result.2.now ≡ rest.now }
@@ -212,6 +226,7 @@ fn narrowed_i64(x: i128, rest: &[u8]) -> (i64, Flaw, &[u8])
 }
 
 /// The number as one of kind u8, if it is in range; and what follows it.
+#[inline(always)]
 fn narrowed_u8(x: i128, rest: &[u8]) -> (u8, Flaw, &[u8])
     ensures judged { (z : ℤ) → IsClamped x z → Judged result.1 (number kinds.U8 z) (number kinds.U8 (pos result.0)) }
     ensures rest { result.2.now ≡ rest.now }
@@ -224,6 +239,7 @@ fn narrowed_u8(x: i128, rest: &[u8]) -> (u8, Flaw, &[u8])
 }
 
 /// The number as one of kind u16, if it is in range; and what follows it.
+#[inline(always)]
 fn narrowed_u16(x: i128, rest: &[u8]) -> (u16, Flaw, &[u8])
     ensures judged { (z : ℤ) → IsClamped x z → Judged result.1 (number kinds.U16 z) (number kinds.U16 (pos result.0)) }
     ensures rest { result.2.now ≡ rest.now }
@@ -236,6 +252,7 @@ fn narrowed_u16(x: i128, rest: &[u8]) -> (u16, Flaw, &[u8])
 }
 
 /// The number as one of kind u32, if it is in range; and what follows it.
+#[inline(always)]
 fn narrowed_u32(x: i128, rest: &[u8]) -> (u32, Flaw, &[u8])
     ensures judged { (z : ℤ) → IsClamped x z → Judged result.1 (number kinds.U32 z) (number kinds.U32 (pos result.0)) }
     ensures rest { result.2.now ≡ rest.now }
@@ -248,6 +265,7 @@ fn narrowed_u32(x: i128, rest: &[u8]) -> (u32, Flaw, &[u8])
 }
 
 /// The number as one of kind u64, if it is in range; and what follows it.
+#[inline(always)]
 fn narrowed_u64(x: i128, rest: &[u8]) -> (u64, Flaw, &[u8])
     ensures judged { (z : ℤ) → IsClamped x z → Judged result.1 (number kinds.U64 z) (number kinds.U64 (pos result.0)) }
     ensures rest { result.2.now ≡ rest.now }

@@ -1,11 +1,15 @@
 //! Runs of digits, read as numbers.
 
-ghost use Rattle.std.specs.Prelude.{◌≡◌, ◌^◌, ◌≤◌, ◌+◌, ◌<◌, ◌*◌, ◌∷◌, List, ℕ};
+ghost use Rattle.std.specs.Prelude.{◌≡◌, ◌^◌, ◌≤◌, ◌+◌, ◌<◌, ◌*◌, ◌∷◌, [], List, ℕ, not, map, length, take};
 ghost use Rattle.weld_values.specs.Tokens.{is_digit, value_after, digit_run, after_digits};
 ghost use Rattle.weld_values.specs.Judging.{IsCapped};
-ghost use Rattle.weld_values.specs.Runs.{Makes};
+ghost use Rattle.weld_values.specs.Eights.{word_of, padded, AreSmall};
+ghost use Rattle.std.specs.Simd.Lanes.{mask_l};
+
+use std::simd::prelude::*;
 
 /// Whether the byte is a decimal digit.
+#[inline(always)]
 fn is_digit(byte: u8) -> bool
     ensures { result ≡ is_digit byte }
 {
@@ -67,72 +71,132 @@ fn many_digits(before: u64, text: &[u8]) -> (u128, &[u8])
     (u128::from(value), rest)
 }
 
-/// A run of digits as its bytes are taken one after another: the number that it writes, how many digits it has, and whether no
-/// other byte has ended it yet.
-#[derive(Clone, Copy)]
-pub(crate) struct Run {
-    value: u64,
-    count: usize,
-    goes_on: bool,
+/// The digits of a word without their zeros, so that each byte is a digit's number.
+const ZEROS: u64 = 0x3030_3030_3030_3030;
+
+/// The powers of ten up to the eighth.
+static POWERS: [u64; 9] = [
+    1,
+    10,
+    100,
+    1_000,
+    10_000,
+    100_000,
+    1_000_000,
+    10_000_000,
+    100_000_000,
+];
+
+/// The bytes that are no digits, a bit for each, the first byte's the lowest.
+#[inline(always)]
+fn other_bytes(bytes: u8x8) -> u64
+    ensures { result ≡ mask_l (map (λ byte. not (is_digit byte)) bytes) }
+{
+    (bytes - u8x8::splat(b'0'))
+        .simd_ge(u8x8::splat(10))
+        .to_bitmask()
 }
 
-/// The run after one byte more. It has no branch, since where numbers end can't be foreseen.
-fn step(run: Run, byte: u8) -> Run
-    requires small { run.value < 10 ^ 18 }
-    requires short { run.count < 8 }
-    ensures makes { (rest : List ℕ) (number count : ℕ) (tail : List ℕ) → Makes run (byte ∷ rest) number count tail → Makes result rest number count tail }
-    ensures small { result.value ≤ run.value * 10 + 9 }
-    ensures short { result.count ≤ run.count + 1 }
+/// How many of the first eight bytes of the text are digits before any other byte.
+#[inline(always)]
+fn count_digits(text: &[u8]) -> usize
+    requires { 8 ≤ length text.now }
+    ensures { result ≡ length (digit_run (take 8 text.now)) }
 {
-    let goes_on = run.goes_on & is_digit(byte);
-    let next = run.value * 10 + u64::from(byte.wrapping_sub(b'0'));
-    let value = if goes_on { next } else { run.value };
-    let count = run.count + usize::from(goes_on);
-    Run {
-        value,
-        count,
-        goes_on,
+    let others = other_bytes(u8x8::from_slice(text));
+    if others == 0 {
+        8
+    } else {
+        others.trailing_zeros() as usize
     }
 }
 
-/// The run after four bytes more.
-fn step_four(run: Run, a: u8, b: u8, c: u8, d: u8) -> Run
-    requires small { run.value < 10 ^ 14 }
-    requires short { run.count < 5 }
-    ensures makes { (rest : List ℕ) (number count : ℕ) (tail : List ℕ) → Makes run (a ∷ b ∷ c ∷ d ∷ rest) number count tail → Makes result rest number count tail }
-    ensures small { result.value ≤ run.value * 10000 + 9999 }
-    ensures short { result.count ≤ run.count + 4 }
+/// The first eight bytes of the text as a word, the first byte the lowest.
+#[inline(always)]
+fn first_word(text: &[u8]) -> u64
+    requires { 8 ≤ length text.now }
+    ensures { result ≡ word_of (take 8 text.now) }
 {
-    step(step(step(step(run, a), b), c), d)
+    match text {
+        [a, b, c, d, e, f, g, h, ..] => { u64::from_le_bytes([*a, *b, *c, *d, *e, *f, *g, *h]) }
+        _ => unreachable!(),
+    }
 }
 
-/// The same as `many_digits`, eight bytes at once where so many are left.
-fn eight_digits(before: u64, text: &[u8]) -> (u128, &[u8])
-    requires { before < 10 ^ 9 }
+/// The digits of a word whose first bytes, so many, are digits: these numbers as the last bytes, and 0 before them.
+#[inline(always)]
+fn moved_digits(word: u64, count: usize) -> u64
+    requires { count ≤ 8 }
+    ensures { (bytes : List ℕ) → word ≡ word_of bytes → length (digit_run bytes) ≡ count → result ≡ word_of (padded bytes) }
+{
+    let half = 32 - 4 * count as u32;
+    (word.wrapping_sub(ZEROS) << half) << half
+}
+
+/// The number that eight digits write, of which each is a byte of the word, the first the lowest.
+#[inline(always)]
+fn joined_digits(word: u64) -> u64
+    ensures { (a b c d e f g h : ℕ) → AreSmall (a ∷ b ∷ c ∷ d ∷ e ∷ f ∷ g ∷ h ∷ []) → word ≡ word_of (a ∷ b ∷ c ∷ d ∷ e ∷ f ∷ g ∷ h ∷ [])
+        → result ≡ a * 10000000 + b * 1000000 + c * 100000 + d * 10000 + e * 1000 + f * 100 + g * 10 + h }
+{
+    let pairs = (word.wrapping_mul(10).wrapping_add(word >> 8)) & 0x00ff_00ff_00ff_00ff;
+    let fours = (pairs.wrapping_mul(100).wrapping_add(pairs >> 16)) & 0x0000_ffff_0000_ffff;
+    (fours.wrapping_mul(10_000).wrapping_add(fours >> 32)) & 0xffff_ffff
+}
+
+/// The number that the digits among the first eight bytes of the text write after those of another number, and how many they are.
+#[inline(always)]
+fn word_digits(before: u64, text: &[u8]) -> (u64, usize)
+    requires long { 8 ≤ length text.now }
+    requires small { before < 10 ^ 10 }
+    ensures value { result.0 ≡ value_after before (digit_run (take 8 text.now)) }
+    ensures count { result.1 ≡ length (digit_run (take 8 text.now)) }
+    ensures small { result.0 < 10 ^ 8 * (before + 1) }
+{
+    let count = count_digits(text);
+    let digits = moved_digits(first_word(text), count);
+    (before * POWERS[count] + joined_digits(digits), count)
+}
+
+/// The same as `many_digits`, of which the first eight are taken at once.
+fn sixteen_digits(before: u64, text: &[u8]) -> (u128, &[u8])
+    requires { before < 10 ^ 10 }
     ensures value { IsCapped result.0 (value_after before (digit_run text.now)) }
     ensures small { result.0 < 2 ^ 68 }
     ensures rest { result.1.now ≡ after_digits text.now }
 {
-    match text {
-        [a, b, c, d, e, f, g, h, more @ ..] => {
-            let run = Run {
-                value: before,
-                count: 0,
-                goes_on: true,
-            };
-            let half = step_four(run, *a, *b, *c, *d);
-            let whole = step_four(half, *e, *f, *g, *h);
-            if whole.goes_on {
-                many_digits(whole.value, more)
-            } else {
-                (u128::from(whole.value), &text[whole.count..])
-            }
-        }
-        _ => many_digits(before, text),
+    if text.len() < 8 {
+        return many_digits(before, text);
+    }
+    let (value, count) = word_digits(before, text);
+    if count < 8 {
+        (u128::from(value), &text[count..])
+    } else {
+        many_digits(value, &text[8..])
+    }
+}
+
+/// The same, of which the first sixteen are taken in two words.
+#[inline(always)]
+fn eight_digits(before: u64, text: &[u8]) -> (u128, &[u8])
+    requires { before < 10 ^ 2 }
+    ensures value { IsCapped result.0 (value_after before (digit_run text.now)) }
+    ensures small { result.0 < 2 ^ 68 }
+    ensures rest { result.1.now ≡ after_digits text.now }
+{
+    if text.len() < 8 {
+        return many_digits(before, text);
+    }
+    let (value, count) = word_digits(before, text);
+    if count < 8 {
+        (u128::from(value), &text[count..])
+    } else {
+        sixteen_digits(value, &text[8..])
     }
 }
 
 /// The same where one digit stands before.
+#[inline(always)]
 fn second_digit(before: u64, text: &[u8]) -> (u128, &[u8])
     requires { before < 10 }
     ensures value { IsCapped result.0 (value_after before (digit_run text.now)) }
@@ -151,6 +215,7 @@ fn second_digit(before: u64, text: &[u8]) -> (u128, &[u8])
 /// In place of one that is greater than any of 64 bits it may be another such one.
 ///
 /// Two digits are taken one by one, and eight at once after them, since most numbers are short or long.
+#[inline(always)]
 pub(crate) fn leading_digits(text: &[u8]) -> (u128, &[u8])
     ensures value { IsCapped result.0 (value_after 0 (digit_run text.now)) }
     ensures small { result.0 < 2 ^ 68 }

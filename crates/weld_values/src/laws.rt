@@ -7,9 +7,9 @@ ghost use Rattle.weld_tree.specs.TypeTree.{TypeTree, scalar, vec};
 ghost use Rattle.weld_tree.specs.Types.{IsWellFormed, IsBuilderFree};
 ghost use Rattle.weld_fits.specs.HasValue.{HasValue};
 ghost use Rattle.weld_values.specs.Reading.{Spells, ReadsAs, WhyNot};
-ghost use Rattle.weld_values.specs.Judging.{IsReadable};
+ghost use Rattle.weld_values.specs.Judging.{IsReadable, IsPlain};
 ghost use Rattle.weld_values.specs.Grammar.{At, Found, scalar_at};
-ghost use Rattle.weld_values.specs.Pieces.{Separated, InBrackets, IsFlat};
+ghost use Rattle.weld_values.specs.Pieces.{Separated, InBrackets};
 ghost use Rattle.weld_values.specs.Showing.{show};
 
 use crate::fault::DataFault;
@@ -65,15 +65,15 @@ pub fn scalars_in_brackets_read_as_lists()
         → All (HasValue (scalar k)) vs → ReadsAs text (vec (scalar k)) (list (values vs)) }
 {}
 
-/// Two texts of scalars, or of structs of scalars, with a comma between each two are, with a comma between them, the values of
+/// Two texts of values without dictionaries, with a comma between each two, are, with a comma between them, the values of
 /// the one and then those of the other.
-pub fn flat_values_join_at_commas()
-    ensures { (t : TypeTree) (p q : List ℕ) (vs ws : List Value) → IsFlat t → Separated (At t) vs p → Separated (At t) ws q
+pub fn plain_values_join_at_commas()
+    ensures { (t : TypeTree) (p q : List ℕ) (vs ws : List Value) → IsPlain t → Separated (At t) vs p → Separated (At t) ws q
         → Separated (At t) (vs ++ ws) (p ++ 44 ∷ q) }
 {}
 
 /// Such values with commas between them, in brackets, read as the list of them.
-pub fn flat_values_in_brackets_read_as_lists()
-    ensures { (t : TypeTree) (text body : List ℕ) (vs : List Value) → IsFlat t → InBrackets text body → Separated (At t) vs body
+pub fn plain_values_in_brackets_read_as_lists()
+    ensures { (t : TypeTree) (text body : List ℕ) (vs : List Value) → IsPlain t → InBrackets text body → Separated (At t) vs body
         → All (HasValue t) vs → ReadsAs text (vec t) (list (values vs)) }
 {}

@@ -15,7 +15,7 @@ mod whole;
 
 pub use cell::Cell;
 pub use fault::DataFault;
-pub use piece::{inside_brackets, is_struct_of_scalars, read_piece, read_struct_piece};
+pub use piece::{inside_brackets, is_shallow, read_piece, read_shallow_piece};
 pub use read::read_value;
 pub use weld_write_value::write_value;
 pub use whole::read_cell;

@@ -1,12 +1,13 @@
-//! Lists of scalars or of structs of them, in pieces that are cut at commas.
+//! Lists of scalars, of lists of them or of structs of these, in pieces that are cut at commas.
 
 ghost use Rattle.std.specs.Prelude.{◌≡◌, ◌++◌, ◌∷◌, [], List, ℕ, true, map, IfOk, IfSome, All};
 ghost use Rattle.std.specs.List.{list_all};
-ghost use Rattle.weld_tree.specs.TypeTree.{scalar, struct as struct_of, pack};
+ghost use Rattle.weld_tree.specs.TypeTree.{scalar, pack};
 ghost use Rattle.weld_fits.specs.HasValue.{HasValue};
 ghost use Rattle.weld_values.specs.Tokens as tokens;
 ghost use Rattle.weld_values.specs.Grammar.{scalar_at, At, Found};
-ghost use Rattle.weld_values.specs.Pieces.{Separated, InBrackets, IsFlat, is_scalar};
+ghost use Rattle.weld_values.specs.Pieces.{Separated, InBrackets, is_scalar, is_row};
+ghost use Rattle.weld_values.specs.Judging.{IsPlain, ArePlain};
 
 use crate::cell::{Cell, append_cell};
 use crate::flaw::Flaw;
@@ -51,34 +52,47 @@ fn is_scalar(ty: &Ty) -> bool
     }
 }
 
-/// Whether all types are scalars'.
-fn are_scalars(types: &[Ty]) -> bool
-    ensures { result ≡ list_all is_scalar types.now }
+/// Whether the type is a scalar's or that of a list of scalars.
+fn is_row(ty: &Ty) -> bool
+    ensures { result ≡ is_row ty.now }
 {
-    types.iter().all(|ty| is_scalar(ty))
+    match &ty.form {
+        TyForm::Scalar(_) => true,
+        TyForm::Vec(item) => is_scalar(item),
+        TyForm::Struct(_) | TyForm::Dict(_, _) | TyForm::Build(_) => false,
+    }
 }
 
-/// Whether a struct of fields of these types is one of scalars.
-fn has_scalars(fields: &Tys) -> bool
-    ensures { result ≡ true → IsFlat (struct_of (pack fields.now)) }
+/// Whether all types are such.
+fn are_rows(types: &[Ty]) -> bool
+    ensures { result ≡ list_all is_row types.now }
 {
-    are_scalars(fields.as_slice())
+    types.iter().all(|ty| is_row(ty))
 }
 
-/// Whether the type is that of a struct of scalars, as which `read_struct_piece` reads.
-pub fn is_struct_of_scalars(ty: &Ty) -> bool
-    ensures { result ≡ true → IsFlat ty.now }
+/// Whether all fields are of such types.
+fn has_rows(fields: &Tys) -> bool
+    ensures { result ≡ true → ArePlain (pack fields.now) }
 {
-    let TyForm::Struct(fields) = &ty.form else {
-        return false;
-    };
-    has_scalars(fields)
+    are_rows(fields.as_slice())
+}
+
+/// Whether the type is that of a list of scalars, or of a struct of scalars and such lists, as which `read_shallow_piece`
+/// reads.
+pub fn is_shallow(ty: &Ty) -> bool
+    ensures { result ≡ true → IsPlain ty.now }
+{
+    match &ty.form {
+        TyForm::Vec(item) => is_scalar(item),
+        TyForm::Struct(fields) => has_rows(fields),
+        TyForm::Scalar(_) | TyForm::Dict(_, _) | TyForm::Build(_) => false,
+    }
 }
 
 /// The values of the type that the text is, one or more with a comma between each two, if it is nothing else and all numbers
 /// are in range.
-fn read_flat_piece(ty: &Ty, alloc: Global, text: &[u8]) -> Result<Option<Vals>, AllocError>
-    requires { IsFlat ty.now }
+fn read_plain_piece(ty: &Ty, alloc: Global, text: &[u8]) -> Result<Option<Vals>, AllocError>
+    requires { IsPlain ty.now }
     ensures separated { IfOk result (λ found. IfSome found (λ items. Separated (At ty.now) items text.now)) }
     ensures typed { IfOk result (λ found. IfSome found (λ items. All (HasValue ty.now) items)) }
 {
@@ -101,14 +115,14 @@ fn read_flat_piece(ty: &Ty, alloc: Global, text: &[u8]) -> Result<Option<Vals>, 
     }
 }
 
-/// The structs of scalars of the type that the text is, one or more with a comma between each two, if the type is of such, and
-/// the text nothing else, and all numbers are in range. It fails for want of memory alone.
-pub fn read_struct_piece(ty: &Ty, alloc: Global, text: &[u8]) -> Result<Option<Vals>, AllocError>
+/// The values of the type that the text is, one or more with a comma between each two, if the type `is_shallow`, and the text
+/// nothing else, and all numbers are in range. It fails for want of memory alone.
+pub fn read_shallow_piece(ty: &Ty, alloc: Global, text: &[u8]) -> Result<Option<Vals>, AllocError>
     ensures separated { IfOk result (λ found. IfSome found (λ items. Separated (At ty.now) items text.now)) }
     ensures typed { IfOk result (λ found. IfSome found (λ items. All (HasValue ty.now) items)) }
 {
-    if is_struct_of_scalars(ty) {
-        read_flat_piece(ty, alloc, text)
+    if is_shallow(ty) {
+        read_plain_piece(ty, alloc, text)
     } else {
         Ok(None)
     }

@@ -13,6 +13,7 @@ ghost use Rattle.weld_values.specs.Judging.{IsCapped, IsClamped};
 use crate::digits::leading_digits;
 
 /// Whether the byte is a space, a tab, a carriage return or a line feed.
+#[inline(always)]
 pub(crate) fn is_blank(byte: u8) -> bool
     ensures { result ≡ is_blank byte }
 {
@@ -20,6 +21,7 @@ pub(crate) fn is_blank(byte: u8) -> bool
 }
 
 /// The text without the blanks at its front.
+#[inline(always)]
 pub(crate) fn after_blanks(text: &[u8]) -> &[u8]
     ensures value { result.now ≡ tokens.after_blanks text.now }
     ensures no_longer { length result.now ≤ length text.now }
@@ -35,6 +37,7 @@ pub(crate) fn after_blanks(text: &[u8]) -> &[u8]
 }
 
 /// What follows this byte at the front of the text.
+#[inline(always)]
 pub(crate) fn after_byte(text: &[u8], byte: u8) -> Option<&[u8]>
     ensures value { option_copied result ≡ tokens.after_byte byte text.now }
     ensures less { IfSome result (λ rest. length rest.now < length text.now) }
@@ -47,6 +50,7 @@ pub(crate) fn after_byte(text: &[u8], byte: u8) -> Option<&[u8]>
 
 /// What follows this byte, before which blanks may stand.
 #[tactic(auto, unfolding(crate::specs::Tokens::byte_at))]
+#[inline(always)]
 pub(crate) fn byte_at(text: &[u8], byte: u8) -> Option<&[u8]>
     ensures value { option_copied result ≡ tokens.byte_at byte text.now }
     ensures less { IfSome result (λ rest. length rest.now < length text.now) }
@@ -55,6 +59,7 @@ pub(crate) fn byte_at(text: &[u8], byte: u8) -> Option<&[u8]>
 }
 
 /// The number that the digits at the front of the text write, and what follows them; none where no digit stands there.
+#[inline(always)]
 fn numeral(text: &[u8]) -> Option<(u128, &[u8])>
     ensures found { IfSome result (λ found. (n : ℕ) × (numeral_at text.now ≡ Some (n, found.1.now)) × IsCapped found.0 n) }
     ensures small { IfSome result (λ found. found.0 < 2 ^ 68) }
@@ -70,6 +75,7 @@ fn numeral(text: &[u8]) -> Option<(u128, &[u8])>
 
 /// The same with a minus before the digits.
 #[tactic(auto, using(crate::proofs::Integers::clamped_negative))]
+#[inline(always)]
 fn negative(digits: &[u8]) -> Option<(i128, &[u8])>
     ensures found { IfSome result (λ found. (n : ℕ) × (numeral_at digits.now ≡ Some (n, found.1.now)) × IsClamped found.0 (neg_ℤ (pos n))) }
     ensures none { IfNone result (numeral_at digits.now ≡ None) }
@@ -83,6 +89,7 @@ fn negative(digits: &[u8]) -> Option<(i128, &[u8])>
 
 /// The same without a minus.
 #[tactic(auto, using(crate::proofs::Integers::clamped_positive))]
+#[inline(always)]
 fn positive(digits: &[u8]) -> Option<(i128, &[u8])>
     ensures found { IfSome result (λ found. (n : ℕ) × (numeral_at digits.now ≡ Some (n, found.1.now)) × IsClamped found.0 (pos n)) }
     ensures none { IfNone result (numeral_at digits.now ≡ None) }
@@ -95,6 +102,7 @@ fn positive(digits: &[u8]) -> Option<(i128, &[u8])>
 }
 
 /// The number with a minus before it.
+#[inline(always)]
 fn negated(value: u128) -> i128
     requires { value < 2 ^ 68 }
     ensures { result ≡ neg_ℤ (pos value) }
@@ -103,6 +111,7 @@ fn negated(value: u128) -> i128
 }
 
 /// The number with no sign before it.
+#[inline(always)]
 fn widened(value: u128) -> i128
     requires { value < 2 ^ 68 }
     ensures { result ≡ pos value }
@@ -111,6 +120,7 @@ fn widened(value: u128) -> i128
 }
 
 /// The integer at the front of the text, and what follows it. In place of one that no kind has it may be another such one.
+#[inline(always)]
 pub(crate) fn integer(text: &[u8]) -> Option<(i128, &[u8])>
     ensures found { IfSome result (λ found. (z : ℤ) × (integer_at text.now ≡ Some (z, found.1.now)) × IsClamped found.0 z) }
     ensures none { IfNone result (integer_at text.now ≡ None) }

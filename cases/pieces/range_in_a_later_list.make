@@ -1,0 +1,2 @@
+printf '|m: vec[vec[u8]]| len(m)\n%%%%\n%%value\n'
+awk 'BEGIN { for (i = 0; i < 60000; i++) printf "%s[1,%s]", i == 0 ? "[" : ",", i == 50000 ? "300" : i % 256; print "]" }'
