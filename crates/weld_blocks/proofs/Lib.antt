@@ -4,6 +4,7 @@ pub mod Doing
 pub mod Gathering
 pub mod LeafLemmas
 pub mod Merges
+pub mod OuterLemmas
 pub mod PairLemmas
 pub mod PutLemmas
 pub mod Scalars

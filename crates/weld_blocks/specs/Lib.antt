@@ -4,6 +4,7 @@ pub mod Choices
 pub mod Deeds
 pub mod Does
 pub mod Numbers
+pub mod Outer
 pub mod Puts
 pub mod Scope
 pub mod Structs

@@ -2,9 +2,10 @@
 
 ghost use Rattle.std.specs.Prelude.{◌≡◌, IfSome, true, false};
 ghost use Rattle.weld_builders.specs.Outcome.{done};
-ghost use Rattle.weld_meaning.specs.Evaluation.{eval as eval_of, leaf_thing, one_thing, operated as operated_value, truth_value};
+ghost use Rattle.weld_meaning.specs.Evaluation.{eval as eval_of, leaf_thing, one_thing, looked_up as looked_up_value, operated as operated_value, truth_value};
 ghost use Rattle.weld_meaning.specs.Thing.{plain};
-ghost use Rattle.weld_data.specs.Value.{number};
+ghost use Rattle.weld_data.specs.Value.{list, number, values};
+ghost use Rattle.weld_data.specs.View.{view_column};
 ghost use Rattle.weld_eval.specs.ShortView.{view_short};
 ghost use Rattle.weld_tree.specs.ExprView.{view_leaf, view_one};
 ghost use Rattle.weld_blocks.specs.Numbers.{number_at, MayGive, MayBeNumbers, IsChosen, IsName, Chooses};
@@ -18,14 +19,16 @@ use crate::gather::gather;
 use crate::leaves::{constant, field_named, named};
 use crate::numbers::{Numbers, is_same};
 use crate::operations::{Altered, Operated, is_integer, takes};
+use crate::outer::{Looked, outer_value};
+use crate::scalar::whole_number;
 use crate::scope::{Bound, Scope, with_bound};
 use std::alloc::Global;
-use weld_data::{BinOp, Kind, Num, wrap};
+use weld_data::{BinOp, Column, Kind, Num, Val, wrap};
 use weld_eval::short::Short;
 use weld_tree::{Expr, Form, LeafForm, ManyForm, OneForm, Sym, ThreeForm, TwoForm};
 
 /// The numbers that an expression comes to on so many rows, where it is made of literals, names, fields of rows, operators,
-/// `if`, `select` and `let`, no row of it faults, also in arms that aren't chosen, and there is memory for them.
+/// `if`, `select`, `let`, lengths and elements of vectors that stand outside, no row of it faults, also in arms that aren't chosen, and there is memory for them.
 #[cycle(columns)]
 #[tactic(auto, using(crate::proofs::ColumnLemmas::leaf_numbers))]
 pub fn numbers(e: &Expr, scope: &Scope, count: usize, alloc: Global) -> Option<Numbers>
@@ -34,8 +37,10 @@ pub fn numbers(e: &Expr, scope: &Scope, count: usize, alloc: Global) -> Option<N
     match &e.form {
         Form::Leaf(form) => of_leaf(form, scope, count, alloc),
         Form::One(OneForm::Field(_), _) => of_field(e, scope, count, alloc),
+        Form::One(OneForm::Len, _) => of_length(e, scope, count, alloc),
         Form::One(_, _) => of_one(e, scope, count, alloc),
         Form::Two(TwoForm::Binary(_), _, _) => of_binary(e, scope, count, alloc),
+        Form::Two(TwoForm::LookUp, _, _) => of_look_up(e, scope, count, alloc),
         Form::Two(TwoForm::And, _, _) => of_and(e, scope, count, alloc),
         Form::Two(TwoForm::Or, _, _) => of_or(e, scope, count, alloc),
         Form::Three(ThreeForm::If | ThreeForm::Select, _, _, _) => of_choice(
@@ -120,6 +125,50 @@ fn of_one(e: &Expr, scope: &Scope, count: usize, alloc: Global) -> Option<Number
         }
         _ => None,
     }
+}
+
+/// The length of a vector that stands outside, at each place.
+#[tactic(auto, using(crate::proofs::OuterLemmas::length_numbers))]
+fn of_length(e: &Expr, scope: &Scope, count: usize, alloc: Global) -> Option<Numbers>
+    ensures { MayBeNumbers e.now (scope_env scope.now) result count }
+{
+    match &e.form {
+        Form::One(OneForm::Len, part) => match outer_value(part, &*scope) {
+            Some(Val::List(column)) => constant(whole_number(column.len()), count, alloc),
+            _ => None,
+        },
+        _ => None,
+    }
+}
+
+/// The elements of a vector that stands outside, at places that are worked out for each row.
+#[cycle(columns)]
+#[tactic(auto, using(crate::proofs::OuterLemmas::looked_numbers))]
+fn of_look_up(e: &Expr, scope: &Scope, count: usize, alloc: Global) -> Option<Numbers>
+    ensures { MayBeNumbers e.now (scope_env scope.now) result count }
+{
+    match &e.form {
+        Form::Two(TwoForm::LookUp, first, second) => {
+            let column = match outer_value(first, &*scope) {
+                Some(Val::List(column)) => column,
+                _ => return None,
+            };
+            let places = match numbers(second, scope, count, alloc) {
+                Some(places) => places,
+                None => return None,
+            };
+            looked_up(column, &places, count, alloc)
+        }
+        _ => None,
+    }
+}
+
+/// The elements of a column at places that are numbers.
+fn looked_up(column: &Column, places: &Numbers, count: usize, alloc: Global) -> Option<Numbers>
+    ensures { MayGive (λ place v. looked_up_value (list (values (view_column column.now))) (number_at places.now place) ≡ done v) result count }
+{
+    let of = Looked { column, places };
+    gather(alloc, count, &of)
 }
 
 /// What a form of one part makes of numbers.

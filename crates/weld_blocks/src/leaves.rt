@@ -302,7 +302,7 @@ fn number_in(x: &Owned) -> Option<Short>
 
 /// The argument of a parameter, where there is one. It takes no memory.
 #[tactic(auto, using(weld_eval::proofs::Arguments::found_there, weld_eval::proofs::Arguments::not_there, weld_eval::proofs::Arguments::ended))]
-fn argument<'a>(params: &'a Binders, values: &'a Vals, name: Sym) -> Option<&'a Val>
+pub(crate) fn argument<'a>(params: &'a Binders, values: &'a Vals, name: Sym) -> Option<&'a Val>
     ensures { IfSome result (λ v. look_for name.0 (with_arguments params.now values.now) ≡ Some (plain (view_val v.now))) }
 {
     let binders = params.as_slice();

@@ -12,6 +12,7 @@ mod items;
 mod leaves;
 pub mod numbers;
 mod operations;
+mod outer;
 mod pairs;
 pub mod puts;
 pub mod scalar;
