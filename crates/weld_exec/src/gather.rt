@@ -1,6 +1,6 @@
 //! The vectors of a loop's legs: those that are read where they stand, and those that stand on the stack.
 
-ghost use Rattle.std.specs.Prelude.{◌≡◌, ◌++◌, true, map, OnOk, IfOk};
+ghost use Rattle.std.specs.Prelude.{◌≡◌, ◌++◌, ◌∷◌, [], true, map, OnOk, IfOk};
 ghost use Rattle.weld_tree.specs.ExprTree.{pack_legs};
 ghost use Rattle.weld_tree.specs.ExprView.{view_leg};
 ghost use Rattle.weld_meaning.specs.Evaluation.{eval_leg};
@@ -18,7 +18,7 @@ ghost use Rattle.weld_exec.specs.Stacked.{LegsStand, HasPile, IsAtLoop, AreThere
 
 use crate::evaluate::{parameters, within};
 use crate::stack::drop_top;
-use std::alloc::Global;
+use std::alloc::{AllocError, Global};
 use weld_data::{Stop, Vals};
 use weld_eval::frame::Frame;
 use weld_eval::names::Names;
@@ -27,6 +27,14 @@ use weld_eval_forms::legs::{count_rows, whole};
 use weld_eval_plain::walk::eval;
 use weld_plan::is_path;
 use weld_tree::{Expr, Form, Leg, Program};
+
+/// One vector more.
+fn push_vector<'a>(vectors: &mut Vec<Held<'a>>, vector: Held<'a>) -> Result<(), AllocError>
+    ensures { OnOk result (vectors.new.items ≡ vectors.old.items ++ vector.entry ∷ []) }
+{
+    vectors.push(vector)?;
+    Ok(())
+}
 
 #[tactic(auto, using(crate::proofs::Moving::rest_read, crate::proofs::Moving::rest_stacked, crate::proofs::Moving::leg_fit, crate::proofs::Moving::vectors_more, crate::proofs::Moving::vector_on_top, crate::proofs::Moving::something_there, crate::proofs::Moving::leg_no_fault))]
 /// Appends the vectors of these legs, of which those that aren't read where they stand are on the stack, the first
@@ -49,16 +57,16 @@ fn gather<'a>(
         Some((leg, rest)) => {
             if is_read(leg) {
                 match read(leg, frame, alloc) {
-                    Ok(vector) => match vectors.push(vector) {
-                        Ok(_) => gather(rest, stack, frame, vectors, alloc),
+                    Ok(vector) => match push_vector(vectors, vector) {
+                        Ok(()) => gather(rest, stack, frame, vectors, alloc),
                         Err(_) => Err(Stop::Memory),
                     },
                     Err(stop) => Err(stop),
                 }
             } else {
                 match stack {
-                    Fields::And(x, below) => match vectors.push(lend(x)) {
-                        Ok(_) => gather(rest, below, frame, vectors, alloc),
+                    Fields::And(x, below) => match push_vector(vectors, lend(x)) {
+                        Ok(()) => gather(rest, below, frame, vectors, alloc),
                         Err(_) => Err(Stop::Memory),
                     },
                     Fields::End => unreachable!(),
