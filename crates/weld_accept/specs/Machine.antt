@@ -1,6 +1,6 @@
 -- What the machine's stack stands for: the items that are pending, and the steps and the tokens that it comes to.
 use Rattle.std.specs.Prelude.{◌≡◌, List, [], ◌∷◌, ◌++◌}
-use Rattle.weld_terminals.specs.declared.class.Class.{Class}
+use Rattle.weld_grammar.specs.declared.terminals.class.Class.{Class}
 use Rattle.weld_grammar.specs.declared.item.Item.{Item}
 use Rattle.weld_grammar.specs.Grammar.{Part, item}
 use Rattle.weld_grammar.specs.Derivation.{Tree, yield, IsOf}

@@ -1,6 +1,6 @@
 -- Why the machine stops.
 use Rattle.std.specs.Prelude.{⊤, List}
-use Rattle.weld_terminals.specs.declared.class.Class.{Class}
+use Rattle.weld_grammar.specs.declared.terminals.class.Class.{Class}
 use Rattle.weld_grammar.specs.declared.rule.Rule.{Rule}
 use Rattle.weld_grammar.specs.Breaks.{BreaksAt}
 use Rattle.weld_accept.specs.declared.stop.Stop.{Stop}

@@ -9,8 +9,8 @@ use crate::stack::Stack;
 use crate::steps::Steps;
 use crate::stop::Stop;
 use std::alloc::Global;
+use weld_grammar::terminals::Token;
 use weld_grammar::{Item, Rule};
-use weld_terminals::Token;
 
 /// The steps of the tree by which the rule derives the tokens, or where the tokens break the rule first. It
 /// fails otherwise only for want of memory.

@@ -1,12 +1,12 @@
 //! What may begin an item, as a test.
 ghost use Rattle.std.specs.Prelude.{◌≡◌};
-ghost use Rattle.weld_terminals.specs.Symbols.{symbol_number};
-ghost use Rattle.weld_terminals.specs.ReservedWords.{reserved_number};
+ghost use Rattle.weld_grammar.specs.Symbols.{symbol_number};
+ghost use Rattle.weld_grammar.specs.ReservedWords.{reserved_number};
 ghost use Rattle.weld_grammar.specs.Grammar.{is_of as is_of_class};
 ghost use Rattle.weld_grammar.specs.Begins.{is_sign as is_sign_class, is_fixed as is_fixed_class};
 
 use weld_grammar::Terminal;
-use weld_terminals::{Class, Reserved, Symbol};
+use weld_grammar::terminals::{Class, Reserved, Symbol};
 
 /// The symbol's place among all.
 fn number_of_symbol(symbol: Symbol) -> u8

@@ -7,7 +7,7 @@ ghost use Rattle.weld_grammar.specs.Pending.{depth, behind, first_begun as first
 ghost use Rattle.weld_accept.specs.Machine.{items_of, Moves, Opens};
 
 use crate::entry::Entry;
-use crate::operand::{operand, plain};
+use crate::operand::{operand, primary};
 use crate::stack::Stack;
 use crate::starts::begins;
 use crate::step::Step;
@@ -15,8 +15,8 @@ use crate::steps::Steps;
 use crate::table::{Production, body};
 use std::alloc::AllocError;
 use weld_grammar::laws::parts_open;
+use weld_grammar::terminals::Class;
 use weld_grammar::{Item, Terminal};
-use weld_terminals::Class;
 
 /// Whether the item can be empty.
 pub fn nullable(item: Item) -> bool
@@ -80,7 +80,8 @@ fn open(item: Item, class: Class, stack: &mut Stack, steps: &mut Steps) -> Resul
     }
 }
 
-/// The same, at once where a name or a number begins what it mostly begins.
+/// The same, at once where an operand begins what it mostly begins: so the levels between an expression and its operand
+/// aren't opened one by one.
 fn begin(item: Item, class: Class, stack: &mut Stack, steps: &mut Steps) -> Result<(), AllocError>
     requires { IsTrue (begins_class item class) }
     ensures pending { OnOk result (items_of stack.new
@@ -88,10 +89,10 @@ fn begin(item: Item, class: Class, stack: &mut Stack, steps: &mut Steps) -> Resu
     ensures opened { OnOk result (Opens item class stack.old steps.old stack.new steps.new) }
 {
     if let Item::Part(rule) = item {
-        if let Some(terminal) = plain(class) {
-            if let Some(entries) = operand(rule) {
+        if let Some(entries) = operand(rule) {
+            if let Some(part) = primary(class) {
                 stack.extend(entries)?;
-                return steps.push(Step::Shift(terminal));
+                return open(part, class, stack, steps);
             }
         }
     }

@@ -4,8 +4,8 @@ ghost use Rattle.weld_grammar.specs.declared.rule.Rule.TheVariants as rules;
 ghost use Rattle.weld_grammar.specs.Begins.{starts as starts_class, is_sign as is_sign_class, is_fixed as is_fixed_class, begins as begins_class, starts_int_kind as int_kind_class, starts_build as build_class, starts_form as form_class, starts_primary as primary_class, starts_unary as unary_class, starts_expr as expr_class, starts_type as type_class};
 
 use crate::lead::{is_fixed, is_of, is_sign};
+use weld_grammar::terminals::{Class, Reserved, Symbol};
 use weld_grammar::{Item, Rule, Terminal};
-use weld_terminals::{Class, Reserved, Symbol};
 
 fn starts_int_kind(class: Class) -> bool
     ensures { result ≡ int_kind_class class }

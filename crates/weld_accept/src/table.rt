@@ -3,8 +3,8 @@ ghost use Rattle.std.specs.Prelude.{◌≡◌};
 ghost use Rattle.weld_grammar.specs.Grammar.{body as body_of};
 ghost use Rattle.weld_accept.specs.Table.{view_body};
 
+use weld_grammar::terminals::{Reserved, Symbol};
 use weld_grammar::{Item, Rule, Terminal};
-use weld_terminals::{Reserved, Symbol};
 
 /// What a rule stands for: items one after another, or one of these items.
 #[derive(Clone, Copy)]

@@ -1,7 +1,7 @@
 use std::alloc::{AllocError, Global};
 use weld_accept::{Stop, derive};
 use weld_grammar::Rule;
-use weld_terminals::Token;
+use weld_grammar::terminals::Token;
 
 /// Where the tokens break the rule first; none where it derives them.
 pub(crate) fn first_break(

@@ -1,8 +1,8 @@
 use crate::places::tokens_of;
 use std::test::Fail;
 use weld_accept::{Step, derive};
+use weld_grammar::terminals::{Class, Reserved, Symbol};
 use weld_grammar::{Rule, Terminal};
-use weld_terminals::{Class, Reserved, Symbol};
 
 // vec[i64]: each token is taken, and each rule ends behind its last token
 #[test]

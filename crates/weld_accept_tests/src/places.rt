@@ -2,7 +2,7 @@ use crate::breaks::first_break;
 use std::alloc::{AllocError, Global};
 use std::test::Fail;
 use weld_grammar::Rule;
-use weld_terminals::{Class, Reserved, Symbol, Token, Word};
+use weld_grammar::terminals::{Class, Reserved, Symbol, Token, Word};
 use weld_tree::Place;
 
 /// The tokens of these classes.

@@ -2,7 +2,7 @@ use crate::breaks::first_break;
 use crate::places::tokens_of;
 use std::test::Fail;
 use weld_grammar::Rule;
-use weld_terminals::{Class, Reserved, Symbol};
+use weld_grammar::terminals::{Class, Reserved, Symbol};
 
 // The same as in the tests of places: the words of types and builders, and what stands after a whole text.
 static BROKEN: [(&[Class], usize); 25] = [

@@ -6,7 +6,7 @@ use Rattle.weld_tree.specs.declared.binder.Binder.{Binder}
 use Rattle.weld_tree.specs.TypeTree.{TypeTree, TypeTrees, struct as tuple, no_types, more_types}
 use Rattle.weld_tree.specs.Types.{IsBuilder, AreBuilders, IsWellFormed, HasTypes}
 use Rattle.weld_tree.specs.ExprTree.{ExprTree, ExprTrees, At, two, three, many, let_in, loop, more_exprs, LegTrees, Two, binary, and, or, look_up, key_exists, merge, Three, if_else, select, slice, Many, make_vec, make_struct, pack_exprs}
-use Rattle.weld_fits.specs.HasValue.{HasValue, AllAre}
+use Rattle.weld_tree.specs.HasValue.{HasValue, AllAre}
 use Rattle.weld_builders.specs.Outcome.{Outcome, done, fault, and_then, map_out}
 use Rattle.weld_builders.specs.Part.{Part}
 use Rattle.weld_meaning.specs.Thing.{Thing, plain, building, several, Things, more_things, struct_of, bare_thing, fields_of}

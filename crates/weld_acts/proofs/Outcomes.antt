@@ -1,7 +1,7 @@
 -- Outcomes and runs that are the same step by step.
 use Rattle.std.proofs.Common.{◌≡◌, List, [], ◌∷◌, refl, ap, ◌∙◌}
 use Rattle.weld_tree.specs.TypeTree.{TypeTree}
-use Rattle.weld_fits.specs.HasValue.{HasValue}
+use Rattle.weld_tree.specs.HasValue.{HasValue}
 use Rattle.weld_builders.specs.Outcome.{Outcome, done, fault, stuck, and_then, map_out}
 use Rattle.weld_meaning.specs.Thing.{Thing}
 use Rattle.weld_meaning.specs.Evaluation.{Row, run}

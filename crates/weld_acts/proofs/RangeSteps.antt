@@ -2,7 +2,7 @@
 use Rattle.std.proofs.Common.{◌≡◌, ℕ, zero, suc, ◌+◌, ◌-◌, ◌<◌, ◌≤◌, List, [], ◌∷◌, take, drop, slice_get, Some, refl, sym, ap, ◌∙◌, subst, arith}
 use Rattle.weld_data.specs.Value.{Value, values}
 use Rattle.weld_tree.specs.ExprTree.{ExprTree, loop}
-use Rattle.weld_fits.specs.HasValue.{HasValue, AllAre}
+use Rattle.weld_tree.specs.HasValue.{HasValue, AllAre}
 use Rattle.weld_builders.specs.Outcome.{Outcome, done, fault, and_then}
 use Rattle.weld_meaning.specs.Thing.{Thing}
 use Rattle.weld_meaning.specs.ThingType.{HasThing}

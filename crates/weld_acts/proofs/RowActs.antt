@@ -5,7 +5,7 @@ use Rattle.weld_data.specs.declared.stop.Stop.{Stop}
 use Rattle.weld_data.specs.declared.stop.Stop.TheVariants.{Fault, Memory}
 use Rattle.weld_tree.specs.declared.binder.Binder.{Binder}
 use Rattle.weld_tree.specs.ExprTree.{ExprTree, At, LegTrees, loop}
-use Rattle.weld_fits.specs.HasValue.{HasValue}
+use Rattle.weld_tree.specs.HasValue.{HasValue}
 use Rattle.weld_builders.specs.Outcome.{Outcome}
 use Rattle.weld_meaning.specs.Thing.{Thing, plain, bare_thing}
 use Rattle.weld_meaning.specs.ThingType.{HasThing}

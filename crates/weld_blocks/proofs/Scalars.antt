@@ -1,5 +1,5 @@
 -- Operators on numbers of one kind.
-use Rattle.weld_eval_values.proofs.ScalarLemmas as lemmas
+use Rattle.weld_eval.proofs.ScalarLemmas as lemmas
 use Rattle.std.proofs.Common.{ℕ, mod-eq_of_lt, ◌<◌, ◌≡◌, ◌^◌, ℤ, pos, w64, Some, sym, ap}
 use Rattle.std.specs.Int.{cast_signed, int_wrap}
 use Rattle.weld_data.specs.declared.kind.Kind.TheVariants as kinds
@@ -11,7 +11,7 @@ use Rattle.weld_data.specs.Operation.{operation, answer_kind}
 use Rattle.weld_data.specs.Value.{number}
 use Rattle.weld_builders.specs.Outcome.{done}
 use Rattle.weld_meaning.specs.Evaluation.{operated}
-use Rattle.weld_eval_values.specs.Fits.{AreOperands, IsIntegerNumber}
+use Rattle.weld_eval.specs.Fits.{AreOperands, IsIntegerNumber}
 
 pub operated_some : (op : BinOp) (k m : Kind) (x y z : ℤ) → AreOperands op (number k x) (number m y) → Some z ≡ operation op k x y → operated op (number k x) (number m y) ≡ done (number (answer_kind op k) z)
 operated_some = lemmas.operated_some

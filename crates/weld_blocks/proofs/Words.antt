@@ -8,8 +8,8 @@ use Rattle.weld_data.specs.Operation.{TakesKind, operation, answer_kind}
 use Rattle.weld_data.specs.Value.{number}
 use Rattle.weld_builders.specs.Outcome.{done, fault}
 use Rattle.weld_meaning.specs.Evaluation.{operated, truth_of}
-use Rattle.weld_eval_values.specs.Fits.{AreOperands, IsTruth}
-use Rattle.weld_eval_values.proofs.ScalarLemmas.{left_in_range, right_in_range, takes_operands, operated_some, operated_none, operands_kind}
+use Rattle.weld_eval.specs.Fits.{AreOperands, IsTruth}
+use Rattle.weld_eval.proofs.ScalarLemmas.{left_in_range, right_in_range, takes_operands, operated_some, operated_none, operands_kind}
 use Rattle.weld_eval.specs.Word.{of_word}
 
 pub left_word : (op : BinOp) (k m : Kind) (x y : ℤ) → AreOperands op (number k (of_word k x)) (number m (of_word m y)) → InRange k (of_word k x)

@@ -8,7 +8,7 @@ use Rattle.weld_builders.specs.Outcome.{Outcome, done, fault, and_then, map_out}
 use Rattle.weld_meaning.specs.Thing.{Thing, plain, several, Things, no_things, more_things, fields_of, first_of, rest_of}
 use Rattle.weld_meaning.specs.Evaluation.{Env, eval, merged, truth_of, truth_value}
 use Rattle.weld_built.specs.Pair.{pair}
-use Rattle.weld_eval_values.specs.Fits.{IsTruth}
+use Rattle.weld_eval.specs.Fits.{IsTruth}
 use Rattle.weld_acts.specs.Act.{IsMerge, act, act_all}
 use Rattle.weld_acts.specs.ActFits.{ActFits, ActsFit}
 use Rattle.weld_blocks.specs.Numbers.{count_of, number_at, AreNumbersOf}

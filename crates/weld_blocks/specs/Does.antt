@@ -4,7 +4,7 @@ use Rattle.weld_builders.specs.Outcome.{Outcome, done, and_then}
 use Rattle.weld_meaning.specs.Thing.{Thing, plain}
 use Rattle.weld_meaning.specs.Evaluation.{merged, truth_of}
 use Rattle.weld_built.specs.Pair.{pair}
-use Rattle.weld_eval_values.specs.Fits.{IsTruth}
+use Rattle.weld_eval.specs.Fits.{IsTruth}
 use Rattle.weld_blocks.specs.Deeds.{do_of, DeedFits}
 use Rattle.weld_blocks.specs.Numbers.{count_of, number_at}
 use Rattle.weld_blocks.specs.Puts.{IsPut}

@@ -13,7 +13,9 @@ use crate::numbers::Numbers;
 use crate::works::{Works, worked};
 use std::alloc::Global;
 use weld_data::{BinOp, Kind};
-use weld_word_arithmetic::{difference, is_at_most, is_equal, is_less, number_of, product, sum};
+use weld_eval::word_arithmetic::{
+    difference, is_at_most, is_equal, is_less, number_of, product, sum,
+};
 
 /// A kind of integers that is known where a loop is compiled.
 trait OfKind {

@@ -4,13 +4,13 @@ ghost use Rattle.std.specs.Prelude.{◌≡◌};
 ghost use Rattle.weld_data.specs.Kind.{IsInteger};
 ghost use Rattle.weld_builders.specs.Outcome.{done};
 ghost use Rattle.weld_meaning.specs.Evaluation.{operated as operated_value, negated as negated_value, contrary as contrary_value, cast_to, truth_of as truth_value_of, whole_number as whole_number_value};
-ghost use Rattle.weld_eval_values.specs.Answers.{Answers, IsSure};
-ghost use Rattle.weld_eval_values.specs.Fits.{AreOperands, IsIntegerNumber, IsTruth};
+ghost use Rattle.weld_eval.specs.Answers.{Answers, IsSure};
+ghost use Rattle.weld_eval.specs.Fits.{AreOperands, IsIntegerNumber, IsTruth};
 ghost use Rattle.weld_eval.specs.ShortView.{view_short};
 
 use weld_data::{BinOp, Kind, Stop};
 use weld_eval::short::Short;
-use weld_word_arithmetic::{answer_kind, converted, operation, opposite};
+use weld_eval::word_arithmetic::{answer_kind, converted, operation, opposite};
 
 /// The operator's answer on two numbers of a kind that it takes: wrapping arithmetic or a comparison.
 /// It faults exactly where it divides by 0. It takes no memory.

@@ -8,10 +8,10 @@ use native.Mathlib.Decide.{ℕ_discrete}
 use lib.ListN.{get_elem?}
 use Rattle.atomic_table.specs.Table.{State}
 use Rattle.atomic_table.proofs.Lists.{set_again, set_else, set_here}
-use Rattle.weld_hands.specs.Dealing.{hand, hands_below}
-use Rattle.weld_hands.proofs.Dealt.{length_hands}
-use Rattle.weld_hands.specs.Sharing.{Core, PermitsAll, after, after_all, dealt}
-use Rattle.weld_hands.specs.declared.event.Event.{Event}
+use Rattle.weld_board.specs.Dealing.{hand, hands_below}
+use Rattle.weld_board.proofs.HandsDealt.{length_hands}
+use Rattle.weld_board.specs.Sharing.{Core, PermitsAll, after, after_all, dealt}
+use Rattle.weld_board.specs.declared.hands.event.Event.{Event}
 use Rattle.weld_board.specs.declared.dealt.Dealt.{Dealt}
 use Rattle.weld_board.specs.declared.share.Share.{Share}
 use Rattle.weld_board.specs.Weights.{weigh}

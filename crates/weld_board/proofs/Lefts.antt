@@ -4,8 +4,8 @@ use Rattle.std.proofs.lemmas.List.{get_or-drop, get_or-take, drop_more, length-d
 use Rattle.std.proofs.Math.ListN.{drop_of_length-le, get_or-append}
 use mathlib.Core.Logic.{dite}
 use native.Mathlib.Decide.{ℕ_discrete}
-use Rattle.weld_hands.specs.Dealing.{start, size, hand}
-use Rattle.weld_hands.proofs.Dealt.{start_within, start_rises}
+use Rattle.weld_board.specs.Dealing.{start, size, hand}
+use Rattle.weld_board.proofs.HandsDealt.{start_within, start_rises}
 use Rattle.weld_board.specs.declared.dealt.Dealt.{Dealt}
 use Rattle.weld_board.specs.Draws.{first_of, size_of}
 use Rattle.weld_board.specs.Sitting.{numbers}

@@ -1,3 +1,10 @@
+mod Machines
+mod Once
+pub mod HandsDealt
+mod Done
+mod Ending
+mod Sorting
+mod WorkersSeats
 mod Weighing
 mod Stepping
 mod Seating

@@ -9,7 +9,7 @@ use native.Mathlib.Decide.{dec_le, ℕ_discrete}
 use Rattle.atomic_table.specs.declared.shared.Seat.{Seat as Place}
 use Rattle.atomic_table.proofs.Lists.{one_turn}
 use Rattle.weld_tiles.specs.declared.tile.Tile.{Tile}
-use Rattle.weld_hands.proofs.Dealt.{start_within}
+use Rattle.weld_board.proofs.HandsDealt.{start_within}
 use Rattle.weld_board.specs.declared.dealt.Dealt.{Dealt}
 use Rattle.weld_board.specs.declared.share.Share.{Share}
 use Rattle.weld_board.specs.declared.board.Board.{Board}

@@ -9,8 +9,8 @@ use native.Mathlib.Decide.{dec_le, ℕ_discrete}
 use lib.ListN.{get_elem?}
 use Rattle.atomic_table.specs.Table.{State}
 use Rattle.atomic_table.proofs.Lists.{set_again}
-use Rattle.weld_hands.specs.Sharing.{Core, Permits, left_in, taken_by, moved, moved_first, after}
-use Rattle.weld_hands.specs.declared.event.Event.TheVariants.{Pop, Steal}
+use Rattle.weld_board.specs.Sharing.{Core, Permits, left_in, taken_by, moved, moved_first, after}
+use Rattle.weld_board.specs.declared.hands.event.Event.TheVariants.{Pop, Steal}
 use Rattle.weld_board.specs.declared.dealt.Dealt.{Dealt}
 use Rattle.weld_board.specs.declared.share.Share.{Share}
 use Rattle.weld_board.specs.Draws.{first_of, size_of, tiles_drawn, late, drawn}

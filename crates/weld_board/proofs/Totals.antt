@@ -6,8 +6,8 @@ use Rattle.std.proofs.lemmas.List.Elements.{All-head, All-tail}
 use Rattle.std.proofs.lemmas.List.Sorted.{IsPermutation-refl, IsPermutation-trans, IsPermutation-cons, IsPermutation-middle, IsPermutation-sym}
 use mathlib.Core.Logic.{dite}
 use native.Mathlib.Decide.{dec_lt, ℕ_discrete}
-use Rattle.weld_hands.specs.Dealing.{joined}
-use Rattle.weld_hands.proofs.Dealt.{start_rises, start_first, start_last, start_within}
+use Rattle.weld_board.specs.Dealing.{joined}
+use Rattle.weld_board.proofs.HandsDealt.{start_rises, start_first, start_last, start_within}
 use Rattle.weld_board.specs.declared.dealt.Dealt.{Dealt}
 use Rattle.weld_board.specs.declared.share.Share.{Share}
 use Rattle.weld_board.specs.declared.board.Board.{Board}

@@ -1,6 +1,6 @@
 -- What seats drew on hands (this project's profile).
 use Rattle.std.specs.Prelude.{ℕ, zero, suc, ◌+◌, cond, eqb, ltb, leb, List, [], ◌∷◌, ◌++◌}
-use Rattle.weld_hands.specs.Dealing.{start, size}
+use Rattle.weld_board.specs.Dealing.{start, size}
 use Rattle.weld_board.specs.declared.dealt.Dealt.{Dealt}
 use Rattle.weld_board.specs.declared.share.Share.{Share}
 use Rattle.weld_board.specs.Weights.{weigh}

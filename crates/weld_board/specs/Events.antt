@@ -3,10 +3,10 @@ use Rattle.std.specs.Prelude.{◌≡◌, ℕ, ◌+◌, ◌%◌, ◌^◌, ◌<◌
 use mathlib.Core.Option.{some}
 use lib.ListN.{get_elem?}
 use Rattle.atomic_table.specs.Table.{State, stepped, keeps, opening}
-use Rattle.weld_hands.specs.Dealing.{hand}
-use Rattle.weld_hands.specs.Sharing.{Core, Permits, PermitsAll, after, after_all, dealt}
-use Rattle.weld_hands.specs.declared.event.Event.{Event}
-use Rattle.weld_hands.specs.declared.event.Event.TheVariants.{Pop, Steal}
+use Rattle.weld_board.specs.Dealing.{hand}
+use Rattle.weld_board.specs.Sharing.{Core, Permits, PermitsAll, after, after_all, dealt}
+use Rattle.weld_board.specs.declared.hands.event.Event.{Event}
+use Rattle.weld_board.specs.declared.hands.event.Event.TheVariants.{Pop, Steal}
 use Rattle.weld_board.specs.declared.dealt.Dealt.{Dealt}
 use Rattle.weld_board.specs.declared.share.Share.{Share}
 use Rattle.weld_board.specs.Draws.{tiles_drawn, late, fresh, drawn}

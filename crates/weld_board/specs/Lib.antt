@@ -1,3 +1,8 @@
+pub mod Dealing
+pub mod Sharing
+pub mod Machines
+pub mod Spans
+pub mod Work
 pub mod Weights
 pub mod Draws
 pub mod Rule

@@ -1,7 +1,7 @@
 //! The end of a board.
 
 ghost use Rattle.std.specs.Prelude.{◌≡◌, ◌<◌, ℕ, [], ◌∷◌, ◌++◌, All, length, map, IsPermutation};
-ghost use Rattle.weld_hands.specs.Dealing.{joined};
+ghost use Rattle.weld_board.specs.Dealing.{joined};
 ghost use Rattle.weld_board.specs.declared.seat.Seat.{Seat};
 ghost use Rattle.weld_board.specs.Rule.{IsAll};
 ghost use Rattle.weld_board.specs.Sitting.{Sits, IsEmptied, board_dealt, seats_in, shares_of, taken, lists_taken, numbers};

@@ -6,12 +6,14 @@ pub mod board;
 pub mod closing;
 pub mod dealing;
 pub mod dealt;
+pub mod hands;
 pub mod laws;
 pub mod rule;
 pub mod seat;
 pub mod seats;
 pub mod share;
 pub mod take;
+pub mod workers;
 
 pub use board::Board;
 pub use closing::{Taken, close};

@@ -7,9 +7,9 @@ ghost use Rattle.weld_board.specs.Rule.{IsBounded};
 ghost use Rattle.weld_board.specs.Sitting.{Sits, Takes, AreOnHands, draws_in, board_tiles, seat_number};
 
 use crate::board::Board;
+use crate::hands::start_of;
 use crate::rule::{Draw, View};
 use crate::seat::Seat;
-use weld_hands::start_of;
 use weld_tiles::Tile;
 
 /// One draw on a hand, by one atomic step: the place that it finds, which no other draw has. It takes no memory.

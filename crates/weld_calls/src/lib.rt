@@ -3,7 +3,9 @@
 #![tactic(auto)]
 
 pub mod call;
+pub mod call_laws;
 pub mod laws;
+pub mod lists;
 pub mod misfit;
 pub mod pattern;
 

@@ -9,11 +9,11 @@ use Rattle.weld_tree.specs.declared.code.Code.TheVariants.{Y1, Y2, Y3}
 use Rattle.weld_tree.specs.ExprTree.{ExprTree}
 use Rattle.weld_tree.specs.Program.{ProgramTree, IsProgram, IsWellMade}
 use Rattle.weld_tree.specs.TypeTree.{TypeTree}
-use Rattle.weld_type_walk.specs.Noted.{known_by, typed, typed_program}
+use Rattle.weld_check_types.specs.Noted.{known_by, typed, typed_program}
 use Rattle.weld_types.specs.Sizes.{KeepsSize, ProgramKeepsSize}
 use Rattle.weld_types.specs.Tests.{is_builder_free, is_well_formed}
 use Rattle.weld_types.specs.Walk.{Found, found, demand_at, go_on, note_place, param_type, param_types_fit, place_of, program_type, type_of}
-use Rattle.weld_unnoted.specs.Unnoted.{IsSameButNotes}
+use Rattle.weld_check_types.specs.Unnoted.{IsSameButNotes}
 
 -- the laws of typing as they stand on the calls that state them
 abbrev pub WalkIsTyping : Type 0

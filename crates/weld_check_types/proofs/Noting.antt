@@ -11,7 +11,7 @@ use Rattle.weld_tree.specs.ExprTree.{At, ExprTree, leaf, one, two, three, many, 
 use Rattle.weld_tree.specs.Program.{IsWellMade, AreWellMade, LegsAreWellMade}
 use Rattle.weld_types.specs.Tests.{are_all, is_builder, is_builder_free, is_well_formed, is_within_limits, same_type}
 use Rattle.weld_types.specs.Walk.{Found, found, refused, Judged, fits, breaks, at_node, demand, demand_at, elements, go_on, note_place, noted, one_type, two_type, three_type, many_type, row_by, row_of, Strips, strips_of, type_of, types_of, with_element}
-use Rattle.weld_type_walk.specs.Noted.{at, known_by, under, rows_found, all_with_types, legs_with_types, typed}
+use Rattle.weld_check_types.specs.Noted.{at, known_by, under, rows_found, all_with_types, legs_with_types, typed}
 use Rattle.weld_check_types.specs.Notes.{AreNoted, AllAreNoted, LegsAreNoted, HasNote}
 use Rattle.weld_check_types.proofs.Same.{legs_made_stay, made_stays, strips_stay, type_stays}
 

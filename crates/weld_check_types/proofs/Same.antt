@@ -10,8 +10,8 @@ use Rattle.weld_tree.specs.ExprTree.{ExprTree, leaf, one, two, three, many, let_
 use Rattle.weld_tree.specs.Program.{IsProgram, AreDistinct, syms_of, bound, bound_in, bound_in_leg, bound_in_legs, IsScoped, AreScoped, LegIsScoped, LegsAreScoped, IsWellMade, AreWellMade, LegIsWellMade, LegsAreWellMade, OneIsWellMade, HasExprs, HasLegs}
 use Rattle.weld_types.specs.Tests.{is_builder_free, same_type}
 use Rattle.weld_types.specs.Walk.{Found, found, refused, at_node, demand_at, elements, go_on, noted, one_type, two_type, three_type, many_type, row_by, strips_of, type_of, types_of, place_of}
-use Rattle.weld_type_walk.specs.Noted.{known_by, under, rows_found, with_types, all_with_types, leg_with_types, legs_with_types, typed}
-use Rattle.weld_unnoted.specs.Unnoted.{unnoted, all_unnoted, leg_unnoted, legs_unnoted, placed}
+use Rattle.weld_check_types.specs.Noted.{known_by, under, rows_found, with_types, all_with_types, leg_with_types, legs_with_types, typed}
+use Rattle.weld_check_types.specs.Unnoted.{unnoted, all_unnoted, leg_unnoted, legs_unnoted, placed}
 
 -- ---- what is noted is all that changes
 

@@ -1,2 +1,5 @@
+pub mod Gathered
+pub mod Noted
+pub mod Unnoted
 pub mod Notes
 pub mod Typed

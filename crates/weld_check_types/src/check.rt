@@ -2,13 +2,13 @@ ghost use Rattle.std.specs.Prelude.{◌≡◌, IfErr, IfOk};
 ghost use Rattle.weld_check_types.specs.Notes.{ProgramIsNoted};
 ghost use Rattle.weld_types.specs.Says.{RefusalSays};
 ghost use Rattle.weld_types.specs.Walk.{found, program_type};
-ghost use Rattle.weld_unnoted.specs.Unnoted.{IsSameButNotes};
+ghost use Rattle.weld_check_types.specs.Unnoted.{IsSameButNotes};
 
+use crate::type_walk::note_program;
 use crate::typed::Typed;
 use std::alloc::Global;
 use weld_meaning::laws::types_are_unique;
 use weld_tree::{Program, Refusal};
-use weld_type_walk::note_program;
 use weld_types::laws::the_walk_is_typing;
 
 /// The program with its type, if it has one by the typing rules; each node of its body has its type noted then, and

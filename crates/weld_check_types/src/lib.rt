@@ -2,7 +2,9 @@
 #![tactic(auto)]
 
 pub mod check;
+pub mod type_walk;
 pub mod typed;
+pub mod unnoted;
 
 pub use check::check_types;
 pub use typed::Typed;

@@ -14,12 +14,12 @@ use Rattle.weld_data.specs.View.{view_val}
 use Rattle.weld_data.proofs.Wrapping.{IsWrapped-wrapped}
 use Rattle.weld_builders.specs.Outcome.{Outcome, done, fault, stuck, and_then, map_out, or_fault}
 use Rattle.weld_builders.specs.Range.{AllInRange}
-use Rattle.weld_eval_values.specs.Answers.{Answers}
-use Rattle.weld_lists.specs.Lists.{number_vector, paired, each, elementwise, chosen, wrapped_sum, dot}
-use Rattle.weld_call_laws.specs.Folds.{combined_all}
-use Rattle.weld_call_laws.proofs.Outcomes.{map_out-map_out, map_out-same}
-use Rattle.weld_call_laws.proofs.Eaches.{each_done}
-use Rattle.weld_call_laws.proofs.Totals.{total_of, combined_is, sum_of_wrapped}
+use Rattle.weld_eval.specs.Answers.{Answers}
+use Rattle.weld_calls.specs.Lists.{number_vector, paired, each, elementwise, chosen, wrapped_sum, dot}
+use Rattle.weld_calls.specs.Folds.{combined_all}
+use Rattle.weld_calls.proofs.Outcomes.{map_out-map_out, map_out-same}
+use Rattle.weld_calls.proofs.Eaches.{each_done}
+use Rattle.weld_calls.proofs.Totals.{total_of, combined_is, sum_of_wrapped}
 
 pub vector_or_fault : (op : BinOp) (k : Kind) (xs ys us vs zs : List ℤ) (v : Value) → xs ≡ us → ys ≡ vs → elementwise op k xs ys ≡ done zs → v ≡ number_vector k zs → map_out (number_vector k) (elementwise op k us vs) ≡ done v
 vector_or_fault op k xs ys us vs zs v e f h g = (λ i. map_out (number_vector k) (elementwise op k (sym e i) (sym f i))) ∙ ap (map_out (number_vector k)) h ∙ ap done (sym g)

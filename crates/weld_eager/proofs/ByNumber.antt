@@ -5,10 +5,10 @@ use Rattle.weld_data.specs.declared.kind.Kind.TheVariants as kinds
 use Rattle.weld_data.specs.Value.{Value, number, list, struct, dict, Values, no_values, and_value, list_of_values}
 use Rattle.weld_tree.specs.TypeTree.{TypeTree, TypeTrees, scalar, vec, struct as tuple, dict as dictionary, build, no_types, more_types}
 use Rattle.weld_tree.specs.Types.{IsKey}
-use Rattle.weld_fits.specs.HasValue.{HasValue, HaveValues}
+use Rattle.weld_tree.specs.HasValue.{HasValue, HaveValues}
 use Rattle.weld_calls.specs.CallTypes.{argument, item, kind_in, nth_type}
-use Rattle.weld_eval_values.specs.Fits.{IsList, HasField}
-use Rattle.weld_lists.specs.CallMeaning.{kind_of, value_at}
+use Rattle.weld_eval.specs.Fits.{IsList, HasField}
+use Rattle.weld_calls.specs.CallMeaning.{kind_of, value_at}
 use Rattle.weld_eager.specs.Fitting.{AreOf}
 use Rattle.weld_eager.specs.Reading.{IsKeptVector, IsKeyVector}
 

@@ -5,8 +5,8 @@ use Rattle.weld_data.specs.Kind.{InRange}
 use Rattle.weld_builders.specs.Outcome.{done, fault, and_then, map_out}
 use Rattle.weld_builders.specs.Range.{AllInRange}
 use Rattle.weld_eager.proofs.Words.{bits, bits_are, cell_in_range, all_in_range_at}
-use Rattle.weld_lists.specs.Lists.{paired, chosen}
-use Rattle.weld_call_laws.proofs.Outcomes.{and_then-map_out, map_out-and_then, map_out-map_out, and_then-same, map_out-same}
+use Rattle.weld_calls.specs.Lists.{paired, chosen}
+use Rattle.weld_calls.proofs.Outcomes.{and_then-map_out, map_out-and_then, map_out-map_out, and_then-same, map_out-same}
 use Rattle.weld_eager.proofs.Combining.{paired_apart, left_from}
 
 -- ---- lists of one length

@@ -5,11 +5,11 @@ use Rattle.weld_data.specs.declared.kind.Kind.{Kind}
 use Rattle.weld_data.specs.Order.{IsNumber}
 use Rattle.weld_data.specs.Value.{Value, number, list, struct, dict, values, list_of_values, list_of_values-values}
 use Rattle.weld_tree.specs.TypeTree.{scalar, vec}
-use Rattle.weld_fits.specs.HasValue.{HasValue, AllAre}
+use Rattle.weld_tree.specs.HasValue.{HasValue, AllAre}
 use Rattle.weld_data.specs.Kind.{InRange}
-use Rattle.weld_lists.specs.Lists.{number_in, numbers, truth_in}
+use Rattle.weld_calls.specs.Lists.{number_in, numbers, truth_in}
 use Rattle.weld_builders.specs.Range.{AllInRange}
-use Rattle.weld_call_laws.proofs.Histograms.{all_in_range}
+use Rattle.weld_calls.proofs.Histograms.{all_in_range}
 use Rattle.weld_eager.proofs.Words.{bits, bits_are}
 use Rattle.weld_eager.specs.Reading.{AreNumbers}
 

@@ -14,9 +14,9 @@ use Rattle.weld_builders.specs.Outcome.{Outcome, done, fault, and_then, map_out,
 use Rattle.weld_builders.specs.Range.{AllInRange}
 use Rattle.weld_calls.specs.CallTypes.{IsArithmetic}
 use Rattle.weld_eager.proofs.Words.{bits, bits_are, bits_in_range, all_in_range_at}
-use Rattle.weld_lists.specs.Lists.{paired, each, elementwise}
-use Rattle.weld_call_laws.specs.Folds.{combined_all}
-use Rattle.weld_call_laws.proofs.Outcomes.{and_then-map_out, map_out-and_then, map_out-map_out, and_then-same, map_out-same}
+use Rattle.weld_calls.specs.Lists.{paired, each, elementwise}
+use Rattle.weld_calls.specs.Folds.{combined_all}
+use Rattle.weld_calls.proofs.Outcomes.{and_then-map_out, map_out-and_then, map_out-map_out, and_then-same, map_out-same}
 
 one_more : (op : MergeOp) (k : Kind) (a : ℤ) (xs : List ℤ) (i : ℕ) → i < length xs → combined_all op k a (take (suc i) xs) ≡ combination op k (combined_all op k a (take i xs)) (slice_index_or xs i (pos 0))
 one_more op k a [] i h = absurd (none i h)

@@ -3,14 +3,14 @@ use Rattle.std.proofs.Common.{◌≡◌, ℕ, zero, suc, ◌+◌, ◌≤◌, ℤ
 use Rattle.weld_data.specs.declared.kind.Kind.{Kind}
 use Rattle.weld_data.specs.Value.{Value, number, list, struct, dict, values, values-list_of_values}
 use Rattle.weld_tree.specs.TypeTree.{TypeTree, vec}
-use Rattle.weld_fits.specs.HasValue.{HasValue, AllAre}
+use Rattle.weld_tree.specs.HasValue.{HasValue, AllAre}
 use Rattle.weld_builders.specs.Outcome.{Outcome, done, fault, and_then, map_out}
-use Rattle.weld_eval_values.specs.Fits.{IsList}
-use Rattle.weld_lists.specs.Lists.{items, numbers, number_vector, each, dot}
+use Rattle.weld_eval.specs.Fits.{IsList}
+use Rattle.weld_calls.specs.Lists.{items, numbers, number_vector, each, dot}
 use Rattle.weld_data.specs.Kind.{InRange}
 use Rattle.weld_eager.specs.Reading.{IsFaultOr}
-use Rattle.weld_lists.specs.CallMeaning.{rows_dot_meaning}
-use Rattle.weld_call_laws.proofs.Outcomes.{map_out-map_out, map_out-same}
+use Rattle.weld_calls.specs.CallMeaning.{rows_dot_meaning}
+use Rattle.weld_calls.proofs.Outcomes.{map_out-map_out, map_out-same}
 
 pub dot_as : (k : Kind) (xs us ys : List ℤ) (z : ℤ) → xs ≡ us → dot k xs ys ≡ done z → dot k us ys ≡ done z
 dot_as k xs us ys z e h = ap (λ zs. dot k zs ys) (sym e) ∙ h

@@ -12,8 +12,8 @@ use Rattle.weld_data.specs.Wrapped.{wrapped}
 use Rattle.weld_data.specs.Value.{Value, number, list, struct, dict, entries, Values, no_values, and_value, list_of_values}
 use Rattle.weld_data.proofs.Wrapping.{wrapped-in_range}
 use Rattle.weld_tree.specs.TypeTree.{TypeTree}
-use Rattle.weld_fits.specs.HasValue.{HasValue, AllAre}
-use Rattle.weld_eval_values.specs.Fits.{IsList}
+use Rattle.weld_tree.specs.HasValue.{HasValue, AllAre}
+use Rattle.weld_eval.specs.Fits.{IsList}
 use Rattle.weld_builders.specs.ValueOrder.{ValueMap}
 use Rattle.weld_builders.specs.Outcome.{done, fault, map_out}
 use Rattle.weld_builders.specs.Part.{merge_key, combined as combined_number, appended, dictionary}
@@ -23,12 +23,12 @@ use Rattle.weld_pieces.specs.Keyed.{KeysAreKept, HasOneKeyType, itself, shown}
 use Rattle.weld_pieces.proofs.KeptKeys.{start_holds, merge_holds}
 use Rattle.weld_eager.proofs.Words.{bits, bits_are, all_in_range_at}
 use Rattle.weld_eval_forms.proofs.KeyTypes.{is_key, same_keys}
-use Rattle.weld_lists.specs.Lists.{items, numbers, vector, paired, grouped, wrapped_sum}
-use Rattle.weld_lists.specs.CallMeaning.{group_sum_meaning, group_list_meaning, group_count_meaning}
-use Rattle.weld_call_laws.proofs.Groups.{merge_all, merged_by_keys, by_keys_same, chained, beside_itself}
-use Rattle.weld_call_laws.proofs.Eaches.{map-map}
-use Rattle.weld_call_laws.proofs.Outcomes.{map_out-map_out, map_out-same}
-use Rattle.weld_lists.specs.Lists.{of_some, by_keys, beside, how_many}
+use Rattle.weld_calls.specs.Lists.{items, numbers, vector, paired, grouped, wrapped_sum}
+use Rattle.weld_calls.specs.CallMeaning.{group_sum_meaning, group_list_meaning, group_count_meaning}
+use Rattle.weld_calls.proofs.Groups.{merge_all, merged_by_keys, by_keys_same, chained, beside_itself}
+use Rattle.weld_calls.proofs.Eaches.{map-map}
+use Rattle.weld_calls.proofs.Outcomes.{map_out-map_out, map_out-same}
+use Rattle.weld_calls.specs.Lists.{of_some, by_keys, beside, how_many}
 use Rattle.weld_data.specs.Lookup.{same_value}
 use Rattle.weld_groups.specs.Groups.{list_value}
 use Rattle.weld_eager.specs.Reading.{IsKeyOf, AreKeys, IsKeyVector, AreGrouped, how_many_wrapped}

@@ -3,11 +3,11 @@ use Rattle.std.proofs.Common.{◌≡◌, ℕ, zero, suc, ◌+◌, ◌<◌, ◌�
 use Rattle.weld_data.specs.declared.kind.Kind.{Kind}
 use Rattle.weld_data.specs.Value.{Value, number, list, struct, dict, values, list_of_values}
 use Rattle.weld_tree.specs.TypeTree.{scalar}
-use Rattle.weld_fits.specs.HasValue.{HasValue, AllAre}
+use Rattle.weld_tree.specs.HasValue.{HasValue, AllAre}
 use Rattle.weld_builders.specs.Outcome.{Outcome, done, fault, stuck, map_out}
 use Rattle.weld_pieces.specs.Kept.{IsKeptAs}
-use Rattle.weld_lists.specs.Lists.{vector, paired, marked}
-use Rattle.weld_call_laws.proofs.Outcomes.{map_out-map_out, map_out-same}
+use Rattle.weld_calls.specs.Lists.{vector, paired, marked}
+use Rattle.weld_calls.proofs.Outcomes.{map_out-map_out, map_out-same}
 use Rattle.weld_eager.specs.Reading.{AreKept}
 use Rattle.weld_eager.proofs.Combining.{paired_apart}
 use Rattle.weld_eager.proofs.Columns.{listed}

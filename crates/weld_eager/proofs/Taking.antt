@@ -5,7 +5,7 @@ use Rattle.weld_data.specs.declared.kind.Kind.{Kind}
 use Rattle.weld_data.specs.declared.kind.Kind.TheVariants as kinds
 use Rattle.weld_data.specs.Value.{Value, number, list, struct, dict, values, values-list_of_values}
 use Rattle.weld_tree.specs.TypeTree.{scalar}
-use Rattle.weld_fits.specs.HasValue.{HasValue, AllAre}
+use Rattle.weld_tree.specs.HasValue.{HasValue, AllAre}
 use Rattle.weld_builders.specs.Outcome.{Outcome, done, fault, and_then, map_out, or_fault}
 use Rattle.weld_builders.specs.Part.{as_number}
 use Rattle.weld_builders.specs.Range.{AllInRange}
@@ -13,10 +13,10 @@ use Rattle.weld_meaning.specs.Evaluation.{elements_of, element_at, part_of, slic
 use Rattle.weld_pieces.specs.Answer.{IsOutside}
 use Rattle.weld_eager.proofs.Words.{bits, bits_are, all_in_range_at}
 use Rattle.weld_calls.specs.CallTypes.{place_type}
-use Rattle.weld_eval_values.specs.Fits.{IsList}
-use Rattle.weld_lists.specs.Lists.{items, number_in, vector, each}
-use Rattle.weld_call_laws.proofs.Outcomes.{map_out-map_out, map_out-same}
-use Rattle.weld_call_laws.proofs.Arguments.{number_is}
+use Rattle.weld_eval.specs.Fits.{IsList}
+use Rattle.weld_calls.specs.Lists.{items, number_in, vector, each}
+use Rattle.weld_calls.proofs.Outcomes.{map_out-map_out, map_out-same}
+use Rattle.weld_calls.proofs.Arguments.{number_is}
 use Rattle.weld_data.specs.declared.value.Val.{Val}
 use Rattle.weld_data.specs.declared.value.Column.{Column}
 use Rattle.weld_data.specs.View.{view_val, view_column}

@@ -11,10 +11,10 @@ use Rattle.weld_builders.specs.Outcome.{Outcome, done, fault, and_then, map_out,
 use Rattle.weld_builders.specs.Part.{merge_cell, result_of}
 use Rattle.weld_builders.specs.Range.{AllInRange}
 use Rattle.weld_pieces.specs.Answer.{IsOutside}
-use Rattle.weld_lists.specs.Lists.{number_vector, is_place, tallied}
-use Rattle.weld_lists.specs.CallMeaning.{histogram_meaning}
-use Rattle.weld_call_laws.specs.Folds.{folded}
-use Rattle.weld_call_laws.proofs.Tallies.{raise, cells, tallies, tallied_fold}
+use Rattle.weld_calls.specs.Lists.{number_vector, is_place, tallied}
+use Rattle.weld_calls.specs.CallMeaning.{histogram_meaning}
+use Rattle.weld_calls.specs.Folds.{folded}
+use Rattle.weld_calls.proofs.Tallies.{raise, cells, tallies, tallied_fold}
 use Rattle.weld_eager.specs.Reading.{IsPlaceAmong}
 use Rattle.weld_eager.proofs.Words.{bits, bits_are, bits_in_range, all_in_range_at, read_in_range}
 use Rattle.weld_eager.proofs.Combining.{left_from}

@@ -2,7 +2,7 @@
 use Rattle.std.specs.Prelude.{List, [], ◌∷◌}
 use Rattle.weld_data.specs.Value.{Value}
 use Rattle.weld_tree.specs.TypeTree.{TypeTree}
-use Rattle.weld_fits.specs.HasValue.{HasValue}
+use Rattle.weld_tree.specs.HasValue.{HasValue}
 
 -- there are as many values as types, and each is of the type of its place
 abbrev pub AreOf : List TypeTree → List Value → Type 0

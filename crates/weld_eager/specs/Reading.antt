@@ -7,11 +7,11 @@ use Rattle.weld_data.specs.Wrapped.{wrapped}
 use Rattle.weld_data.specs.Value.{Value, values}
 use Rattle.weld_tree.specs.TypeTree.{TypeTree, scalar, vec}
 use Rattle.weld_tree.specs.Types.{IsKey}
-use Rattle.weld_fits.specs.HasValue.{HasValue, AllAre}
+use Rattle.weld_tree.specs.HasValue.{HasValue, AllAre}
 use Rattle.weld_builders.specs.Outcome.{Outcome, done, fault, map_out}
 use Rattle.weld_builders.specs.ValueOrder.{ValueMap}
-use Rattle.weld_eval_values.specs.Fits.{IsList}
-use Rattle.weld_lists.specs.Lists.{paired, grouped}
+use Rattle.weld_eval.specs.Fits.{IsList}
+use Rattle.weld_calls.specs.Lists.{paired, grouped}
 
 -- what is answered, seen so, is the outcome; nothing is answered where it is a fault
 abbrev pub IsFaultOr : {T A : Type 0} → Option T → (T → A) → Outcome A → Type 0

@@ -4,7 +4,7 @@ ghost use Rattle.std.specs.Prelude.{◌≡◌, IfOk};
 ghost use Rattle.weld_data.specs.Value.{Value};
 ghost use Rattle.weld_data.specs.View.{view_val};
 ghost use Rattle.weld_builders.specs.Outcome.{Outcome, done};
-ghost use Rattle.weld_eval_values.specs.Answers.{Answers};
+ghost use Rattle.weld_eval.specs.Answers.{Answers};
 ghost use Rattle.weld_eager.specs.Reading.{IsFaultOr};
 
 use std::alloc::AllocError;

@@ -3,7 +3,7 @@
 ghost use Rattle.std.specs.Prelude.{◌≡◌, ◌<◌, length};
 ghost use Rattle.weld_data.specs.View.{view_val};
 ghost use Rattle.weld_calls.specs.CallTypes.{argument as type_of, item, kind_in as plain_kind_in};
-ghost use Rattle.weld_lists.specs.CallMeaning.{kind_at as plain_kind_at, value_at};
+ghost use Rattle.weld_calls.specs.CallMeaning.{kind_at as plain_kind_at, value_at};
 
 use weld_data::{Kind, Val, Vals};
 use weld_tree::{Ty, TyForm, Tys};

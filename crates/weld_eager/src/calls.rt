@@ -7,13 +7,13 @@ ghost use Rattle.weld_data.specs.Value.{number};
 ghost use Rattle.weld_data.specs.View.{view_val};
 ghost use Rattle.weld_data.specs.Wrapped.{wrapped};
 ghost use Rattle.weld_tree.specs.TypeTree.{scalar, vec};
-ghost use Rattle.weld_fits.specs.HasValue.{HasValue};
+ghost use Rattle.weld_tree.specs.HasValue.{HasValue};
 ghost use Rattle.weld_builders.specs.Outcome.{map_out};
 ghost use Rattle.weld_builders.specs.Range.{AllInRange};
-ghost use Rattle.weld_call_laws.specs.Folds.{combined_all};
+ghost use Rattle.weld_calls.specs.Folds.{combined_all};
 ghost use Rattle.weld_calls.specs.CallTypes.{IsArithmetic, truth_type};
-ghost use Rattle.weld_lists.specs.Lists.{numbers, truths, dot as dot_list};
-ghost use Rattle.weld_lists.specs.CallMeaning.{place_by_place, scale_meaning, compare_meaning, count_meaning, where_meaning};
+ghost use Rattle.weld_calls.specs.Lists.{numbers, truths, dot as dot_list};
+ghost use Rattle.weld_calls.specs.CallMeaning.{place_by_place, scale_meaning, compare_meaning, count_meaning, where_meaning};
 ghost use Rattle.weld_eager.specs.Reading.{IsFaultOr};
 
 use crate::make::{truth_vector_of, vector_of};
@@ -21,7 +21,7 @@ use crate::numbers::{chosen, compared, count_true, elementwise, scaled, total};
 use crate::read::{number_of, numbers_as, truths_of};
 use std::alloc::{AllocError, Global};
 use weld_data::{BinOp, Kind, MergeOp, Num, Val};
-use weld_eval_values::whole_number;
+use weld_eval::values::whole_number;
 
 /// The operator's answers, place by place; none where there is a fault.
 #[tactic(auto, using(crate::proofs::Answering::vector_or_fault))]

@@ -2,8 +2,8 @@
 
 ghost use Rattle.weld_data.specs.View.{view_val};
 ghost use Rattle.weld_calls.specs.CallTypes.{FitsCall, HasItsOperator};
-ghost use Rattle.weld_eval_values.specs.Answers.{Answers};
-ghost use Rattle.weld_lists.specs.CallMeaning.{call_meaning};
+ghost use Rattle.weld_eval.specs.Answers.{Answers};
+ghost use Rattle.weld_calls.specs.CallMeaning.{call_meaning};
 ghost use Rattle.weld_eager.specs.Fitting.{AreOf};
 
 mod elements;

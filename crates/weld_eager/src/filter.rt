@@ -3,10 +3,10 @@
 ghost use Rattle.std.specs.Prelude.{◌≡◌, length, IfOk};
 ghost use Rattle.weld_data.specs.View.{view_val, view_column};
 ghost use Rattle.weld_tree.specs.TypeTree.{vec};
-ghost use Rattle.weld_fits.specs.HasValue.{HasValue};
+ghost use Rattle.weld_tree.specs.HasValue.{HasValue};
 ghost use Rattle.weld_builders.specs.Outcome.{done, map_out};
 ghost use Rattle.weld_calls.specs.CallTypes.{truth_type};
-ghost use Rattle.weld_lists.specs.Lists.{items, truths, vector, paired, marked};
+ghost use Rattle.weld_calls.specs.Lists.{items, truths, vector, paired, marked};
 ghost use Rattle.weld_eager.specs.Reading.{IsFaultOr, IsKeptVector, AreKept};
 
 use crate::read::truths_of;

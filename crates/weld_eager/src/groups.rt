@@ -5,12 +5,12 @@ ghost use Rattle.weld_data.specs.declared.kind.Kind.TheVariants as kinds;
 ghost use Rattle.weld_data.specs.Kind.{IsInteger};
 ghost use Rattle.weld_data.specs.View.{view_val, view_column};
 ghost use Rattle.weld_tree.specs.TypeTree.{scalar, vec};
-ghost use Rattle.weld_fits.specs.HasValue.{HasValue};
+ghost use Rattle.weld_tree.specs.HasValue.{HasValue};
 ghost use Rattle.weld_builders.specs.Outcome.{done};
 ghost use Rattle.weld_builders.specs.Range.{AllInRange};
 ghost use Rattle.weld_pieces.specs.Keyed.{KeysAreKept, HasOneKeyType};
-ghost use Rattle.weld_lists.specs.Lists.{items, wrapped_sum};
-ghost use Rattle.weld_lists.specs.CallMeaning.{group_sum_meaning, group_list_meaning, group_count_meaning};
+ghost use Rattle.weld_calls.specs.Lists.{items, wrapped_sum};
+ghost use Rattle.weld_calls.specs.CallMeaning.{group_sum_meaning, group_list_meaning, group_count_meaning};
 ghost use Rattle.weld_eager.specs.Reading.{IsFaultOr, IsKeptVector, AreKept, AreKeys, IsKeyVector, AreGrouped, how_many_wrapped};
 
 use crate::places::column_of;

@@ -4,11 +4,11 @@ ghost use Rattle.std.specs.Prelude.{IfOk, IfSome};
 ghost use Rattle.weld_data.specs.declared.kind.Kind.TheVariants as kinds;
 ghost use Rattle.weld_data.specs.View.{view_val};
 ghost use Rattle.weld_tree.specs.TypeTree.{vec};
-ghost use Rattle.weld_fits.specs.HasValue.{HasValue};
+ghost use Rattle.weld_tree.specs.HasValue.{HasValue};
 ghost use Rattle.weld_builders.specs.Range.{AllInRange};
 ghost use Rattle.weld_calls.specs.CallTypes.{place_type};
-ghost use Rattle.weld_lists.specs.Lists.{numbers, number_vector};
-ghost use Rattle.weld_lists.specs.CallMeaning.{histogram_meaning};
+ghost use Rattle.weld_calls.specs.Lists.{numbers, number_vector};
+ghost use Rattle.weld_calls.specs.CallMeaning.{histogram_meaning};
 ghost use Rattle.weld_eager.specs.Reading.{IsFaultOr};
 
 use crate::make::vector_of;

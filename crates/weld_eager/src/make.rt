@@ -3,7 +3,7 @@
 ghost use Rattle.std.specs.Prelude.{◌≡◌, IfOk};
 ghost use Rattle.weld_data.specs.View.{view_val};
 ghost use Rattle.weld_builders.specs.Range.{AllInRange};
-ghost use Rattle.weld_lists.specs.Lists.{number_vector, truth_vector};
+ghost use Rattle.weld_calls.specs.Lists.{number_vector, truth_vector};
 
 use std::alloc::{AllocError, Global};
 use weld_data::{Column, Items, Kind, Num, Val};

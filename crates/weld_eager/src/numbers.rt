@@ -5,10 +5,10 @@ ghost use Rattle.weld_data.specs.Kind.{IsInteger, InRange};
 ghost use Rattle.weld_data.specs.Operation.{operation, start_of};
 ghost use Rattle.weld_data.specs.Wrapped.{wrapped};
 ghost use Rattle.weld_builders.specs.Range.{AllInRange};
-ghost use Rattle.weld_call_laws.specs.Folds.{combined_all};
+ghost use Rattle.weld_calls.specs.Folds.{combined_all};
 ghost use Rattle.weld_calls.specs.CallTypes.{IsArithmetic};
 ghost use Rattle.weld_eager.specs.Reading.{IsFaultOr};
-ghost use Rattle.weld_lists.specs.Lists.{elementwise as elementwise_list, chosen as chosen_list, compared as compared_numbers, how_many};
+ghost use Rattle.weld_calls.specs.Lists.{elementwise as elementwise_list, chosen as chosen_list, compared as compared_numbers, how_many};
 
 use std::alloc::{AllocError, Global};
 use weld_data::{BinOp, Kind, MergeOp, Num, binary, combine, neutral};

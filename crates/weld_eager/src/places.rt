@@ -5,23 +5,23 @@ ghost use Rattle.weld_data.specs.Value.{Value};
 ghost use Rattle.weld_data.specs.declared.kind.Kind.TheVariants as kinds;
 ghost use Rattle.weld_data.specs.View.{view_val, view_column};
 ghost use Rattle.weld_tree.specs.TypeTree.{vec};
-ghost use Rattle.weld_fits.specs.HasValue.{HasValue};
+ghost use Rattle.weld_tree.specs.HasValue.{HasValue};
 ghost use Rattle.weld_builders.specs.Outcome.{Outcome, done, map_out};
 ghost use Rattle.weld_builders.specs.Range.{AllInRange};
 ghost use Rattle.weld_meaning.specs.Thing.{value_field};
 ghost use Rattle.weld_meaning.specs.Evaluation.{element_at};
 ghost use Rattle.weld_calls.specs.CallTypes.{place_type};
 ghost use Rattle.weld_pieces.specs.Answer.{IsOutside};
-ghost use Rattle.weld_eval_values.specs.Answers.{Answers};
-ghost use Rattle.weld_eval_values.specs.Fits.{HasField, IsList};
-ghost use Rattle.weld_lists.specs.CallMeaning.{slice_meaning, take_meaning};
-ghost use Rattle.weld_lists.specs.Lists.{items, numbers, vector, each};
+ghost use Rattle.weld_eval.specs.Answers.{Answers};
+ghost use Rattle.weld_eval.specs.Fits.{HasField, IsList};
+ghost use Rattle.weld_calls.specs.CallMeaning.{slice_meaning, take_meaning};
+ghost use Rattle.weld_calls.specs.Lists.{items, numbers, vector, each};
 ghost use Rattle.weld_eager.specs.Reading.{IsFaultOr, IsKeptVector, AreKept, IsPlaceAmong};
 
 use crate::read::numbers_as;
 use std::alloc::{AllocError, Global};
 use weld_data::{Column, Kind, Stop, Val};
-use weld_eval_values::{field_of, part_of};
+use weld_eval::values::{field_of, part_of};
 use weld_pieces::ListPart;
 
 /// So many elements of a vector from a place on. It faults where they aren't all there.

@@ -5,9 +5,9 @@ ghost use Rattle.std.specs.Ordering.{int_eq};
 ghost use Rattle.weld_data.specs.Kind.{InRange};
 ghost use Rattle.weld_data.specs.View.{view_val, view_column};
 ghost use Rattle.weld_tree.specs.TypeTree.{scalar, vec};
-ghost use Rattle.weld_fits.specs.HasValue.{HasValue};
+ghost use Rattle.weld_tree.specs.HasValue.{HasValue};
 ghost use Rattle.weld_builders.specs.Range.{AllInRange};
-ghost use Rattle.weld_lists.specs.Lists.{number_in, numbers as numbers_in, truth_in, truths as truths_in};
+ghost use Rattle.weld_calls.specs.Lists.{number_in, numbers as numbers_in, truth_in, truths as truths_in};
 ghost use Rattle.weld_eager.specs.Reading.{AreNumbers, IsNumberVector};
 
 use std::alloc::{AllocError, Global};

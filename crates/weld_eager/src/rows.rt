@@ -5,11 +5,11 @@ ghost use Rattle.weld_data.specs.Kind.{IsInteger, InRange};
 ghost use Rattle.weld_data.specs.Value.{values};
 ghost use Rattle.weld_data.specs.View.{view_val, view_column};
 ghost use Rattle.weld_tree.specs.TypeTree.{scalar, vec};
-ghost use Rattle.weld_fits.specs.HasValue.{HasValue, AllAre};
+ghost use Rattle.weld_tree.specs.HasValue.{HasValue, AllAre};
 ghost use Rattle.weld_builders.specs.Range.{AllInRange};
-ghost use Rattle.weld_eval_values.specs.Elements.{view_element};
-ghost use Rattle.weld_lists.specs.Lists.{numbers, each, dot as dot_list};
-ghost use Rattle.weld_lists.specs.CallMeaning.{rows_dot_meaning};
+ghost use Rattle.weld_eval.specs.Elements.{view_element};
+ghost use Rattle.weld_calls.specs.Lists.{numbers, each, dot as dot_list};
+ghost use Rattle.weld_calls.specs.CallMeaning.{rows_dot_meaning};
 ghost use Rattle.weld_eager.specs.Reading.{IsFaultOr};
 
 use crate::calls::dot_of;
@@ -18,7 +18,7 @@ use crate::places::column_of;
 use crate::read::numbers_as;
 use std::alloc::{AllocError, Global};
 use weld_data::{Column, Kind, Val};
-use weld_eval_values::{Element, element_of};
+use weld_eval::values::{Element, element_of};
 
 /// The dot of each row with a vector; none where a row has another length than the vector.
 #[tactic(auto, using(crate::proofs::DotRows::rows_answer, crate::proofs::DotRows::rows_fault))]

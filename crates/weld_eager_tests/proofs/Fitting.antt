@@ -7,14 +7,14 @@ use Rattle.weld_data.specs.View.{view_val}
 use Rattle.weld_tree.specs.TypeTree.{TypeTree}
 use Rattle.weld_tree.specs.Types.{IsWellFormed, IsBuilderFree}
 use Rattle.weld_tree.specs.Program.{ProgramTree}
-use Rattle.weld_fits.specs.HasValue.{HasValue}
+use Rattle.weld_tree.specs.HasValue.{HasValue}
 use Rattle.weld_meaning.specs.Typing.{ProgramHas}
 use Rattle.weld_meaning.specs.Meaning.{ArgumentsFit, GivesOrFaults, meaning}
 use Rattle.weld_calls.specs.declared.call.Call.{Call}
 use Rattle.weld_calls.specs.CallTypes.{AreValueTypes, FitsCall, HasItsOperator, IsValueType, misfit, row}
 use Rattle.weld_calls.specs.CallPrograms.{fragment, params_from}
-use Rattle.weld_lists.specs.CallMeaning.{call_meaning}
-use Rattle.weld_eval_values.specs.Answers.{Answers}
+use Rattle.weld_calls.specs.CallMeaning.{call_meaning}
+use Rattle.weld_eval.specs.Answers.{Answers}
 use Rattle.weld_objects.specs.Objects.{IsGiven}
 use Rattle.weld_eager.specs.Fitting.{AreOf}
 

@@ -2,7 +2,7 @@
 
 ghost use Rattle.std.specs.Prelude.{IfOk};
 ghost use Rattle.weld_data.specs.View.{view_val};
-ghost use Rattle.weld_fits.specs.HasValue.{HasValue};
+ghost use Rattle.weld_tree.specs.HasValue.{HasValue};
 ghost use Rattle.weld_calls.specs.CallTypes.{AreValueTypes, FitsCall, HasItsOperator};
 ghost use Rattle.weld_eager.specs.Fitting.{AreOf};
 ghost use Rattle.weld_meaning.specs.Meaning.{ArgumentsFit};
@@ -11,18 +11,18 @@ ghost use Rattle.weld_objects.specs.Objects.{IsGiven};
 use crate::given::{Given, check, count_of, read_given};
 use std::alloc::Global;
 use std::test::Fail;
-use weld_answer_type::answer_type;
-use weld_call_laws::laws::each_call_means_its_list;
 use weld_calls::Call;
+use weld_calls::call_laws::each_call_means_its_list;
 use weld_data::{Stop, Text, Val, Vals};
 use weld_eager::eager::eager;
 use weld_eval_plain::eval_plain;
-use weld_fragments::fragment;
 use weld_lazy::laws::inputs_are_given_up;
 use weld_lazy::{Graph, Lowered, ObjectId};
 use weld_libraries::add_library_call;
+use weld_libraries::fragments::fragment;
 use weld_meaning::Accepted;
 use weld_meaning::laws::typed_programs_are_never_stuck;
+use weld_objects::answer_type::answer_type;
 use weld_tree::Ty;
 use weld_values::write_value;
 

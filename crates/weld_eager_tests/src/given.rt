@@ -2,7 +2,7 @@
 
 ghost use Rattle.std.specs.Prelude.{◌≡◌, IsTrue, length, IfOk, OnOk};
 ghost use Rattle.weld_data.specs.View.{view_val};
-ghost use Rattle.weld_fits.specs.HasValue.{HasValue};
+ghost use Rattle.weld_tree.specs.HasValue.{HasValue};
 ghost use Rattle.weld_calls.specs.CallTypes.{AreValueTypes, FitsCall, HasItsOperator, IsArithmetic, IsComparison, IsValueType, row};
 ghost use Rattle.weld_eager.specs.Fitting.{AreOf};
 

@@ -5,7 +5,7 @@ use Rattle.weld_builders.specs.Outcome.{done}
 use Rattle.weld_meaning.specs.Environment.{look_for}
 use Rattle.weld_meaning.specs.Evaluation.{Env, found}
 use Rattle.weld_meaning.specs.Thing.{Thing}
-use Rattle.weld_eval_values.specs.Answers.{Answers}
+use Rattle.weld_eval.specs.Answers.{Answers}
 use Rattle.weld_eval.specs.declared.frame.Frame.{Frame}
 use Rattle.weld_eval.specs.declared.frame.Frame.TheFolds.{fold-roll-Frame}
 use Rattle.weld_eval.specs.declared.frame.Frame.TheVariants as links

@@ -5,7 +5,7 @@ use Rattle.weld_tree.specs.declared.binder.Binder.{Binder}
 use Rattle.weld_tree.specs.TypeTree.{TypeTree, TypeTrees, no_types, more_types}
 use Rattle.weld_tree.specs.Types.{IsBuilderFree, AreBuilderFree, IsWellFormed}
 use Rattle.weld_tree.specs.ExprTree.{ExprTree, At, one, two, three, many, let_in, loop, iterate, ExprTrees, more_exprs, LegTree, LegTrees, more_legs, One, Two, Three, Many}
-use Rattle.weld_fits.specs.HasValue.{HasValue}
+use Rattle.weld_tree.specs.HasValue.{HasValue}
 use Rattle.weld_builders.specs.Outcome.{done}
 use Rattle.weld_builders.proofs.Order.{value_cmp_total}
 use Rattle.weld_builders.proofs.Steps.{keys_stand}

@@ -1,3 +1,7 @@
+pub mod ByteLemmas
+pub mod ScalarLemmas
+pub mod VectorLemmas
+pub mod Words
 pub mod Arguments
 pub mod Below
 pub mod Children

@@ -7,7 +7,7 @@ use Rattle.weld_data.specs.Value.{Value, Values, no_values, and_value, struct, v
 use Rattle.weld_builders.specs.Outcome.{done, fault, and_then, map_out}
 use Rattle.weld_meaning.specs.Evaluation.{join_rows, zipped, rows_of}
 use Rattle.weld_meaning.specs.Thing.{value_at, value_field}
-use Rattle.weld_eval_values.specs.Fits.{HasField}
+use Rattle.weld_eval.specs.Fits.{HasField}
 use Rattle.weld_eval.specs.declared.short.Short.{Short}
 use Rattle.weld_eval.specs.NumberAnswers.{ElementNumber, FieldNumber}
 use Rattle.weld_eval.specs.RowLists.{or_none, rows_in, RowsAnswer, all_long, AllReach, elements_at, row_in, all_reach, has_row, is_one}

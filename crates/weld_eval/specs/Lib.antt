@@ -1,3 +1,8 @@
+pub mod Answers
+pub mod Bounds
+pub mod Elements
+pub mod Fits
+pub mod WordArithmeticAnswers
 pub mod Fit
 pub mod FrameView
 pub mod Fresh

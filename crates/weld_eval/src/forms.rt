@@ -9,17 +9,17 @@ ghost use Rattle.weld_tree.specs.TypeTree.{scalar, struct as tuple, total, pack}
 ghost use Rattle.weld_tree.specs.Types.{IsMergerType, AreIntegerTypes};
 ghost use Rattle.weld_tree.specs.ExprView.{view_leaf};
 ghost use Rattle.weld_tree.specs.TypeView.{view_build};
-ghost use Rattle.weld_eval_values.specs.Answers.{Answers};
+ghost use Rattle.weld_eval.specs.Answers.{Answers};
 ghost use Rattle.weld_eval.specs.FrameView.{env_of};
 ghost use Rattle.weld_eval.specs.Takes.{LeafTakes, IsScalar, IsInteger, IsFresh};
 ghost use Rattle.weld_eval.specs.ThingView.{held_of};
 
 use crate::frame::{Frame, find};
 use crate::thing::{Held, Owned};
+use crate::values::bytes_of;
 use std::alloc::{AllocError, Global};
 use weld_built::Built;
 use weld_data::{Kind, MergeOp, Num, Stop, Val};
-use weld_eval_values::bytes_of;
 use weld_pieces::TotalsPart;
 use weld_pieces::totals::neutral_number;
 use weld_tree::{BuildTy, LeafForm, Ty, TyForm, Tys};

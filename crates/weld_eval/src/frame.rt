@@ -7,7 +7,7 @@ ghost use Rattle.weld_meaning.specs.Environment.{look_for};
 ghost use Rattle.weld_meaning.specs.Evaluation.{found};
 ghost use Rattle.weld_meaning.specs.Meaning.{with_arguments};
 ghost use Rattle.weld_meaning.specs.Thing.{plain};
-ghost use Rattle.weld_eval_values.specs.Answers.{Answers};
+ghost use Rattle.weld_eval.specs.Answers.{Answers};
 ghost use Rattle.weld_eval.specs.FrameView.{env_of};
 ghost use Rattle.weld_eval.specs.RowView.{row_value};
 ghost use Rattle.weld_eval.specs.SlotView.{slot_thing};

@@ -4,7 +4,7 @@ ghost use Rattle.std.specs.Prelude.{◌≡◌, ℕ};
 ghost use Rattle.weld_data.specs.Value.{Value};
 ghost use Rattle.weld_tree.specs.declared.binder.Binder.{Binder};
 ghost use Rattle.weld_tree.specs.ExprTree.{ExprTree, At, LegTrees, loop, let_in, Two, two};
-ghost use Rattle.weld_fits.specs.HasValue.{HasValue};
+ghost use Rattle.weld_tree.specs.HasValue.{HasValue};
 ghost use Rattle.weld_builders.specs.Outcome.{done, map_out};
 ghost use Rattle.weld_meaning.specs.Thing.{Thing, plain, bare_thing, after_thing};
 ghost use Rattle.weld_meaning.specs.ThingType.{HasThing};

@@ -4,17 +4,17 @@ ghost use Rattle.std.specs.Prelude.{◌≡◌, ◌<◌, ◌++◌, length as leng
 ghost use Rattle.weld_data.specs.View.{view_val, view_column};
 ghost use Rattle.weld_builders.specs.Outcome.{done};
 ghost use Rattle.weld_meaning.specs.Thing.{value_field};
-ghost use Rattle.weld_eval_values.specs.Elements.{view_element};
-ghost use Rattle.weld_eval_values.specs.Fits.{HasField};
+ghost use Rattle.weld_eval.specs.Elements.{view_element};
+ghost use Rattle.weld_eval.specs.Fits.{HasField};
 ghost use Rattle.weld_eval.specs.LegsView.{lists_of};
 ghost use Rattle.weld_eval.specs.NumberAnswers.{NumberAnswer, FieldNumber, PairAnswer};
 ghost use Rattle.weld_eval.specs.RowLists.{RowsAnswer, all_long, all_reach, has_row, is_one, row_in, elements_at};
 
 use crate::number::{number_at, number_of, pair_of};
 use crate::short::Short;
+use crate::values::{Element, element_of, field_of};
 use std::alloc::{AllocError, Global};
 use weld_data::{Column, Stop, Val, Vals};
-use weld_eval_values::{Element, element_of, field_of};
 
 /// The vectors that a loop runs over, lent where they stand.
 #[derive(Clone, Copy)]

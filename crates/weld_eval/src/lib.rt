@@ -12,3 +12,5 @@ pub mod number;
 pub mod row;
 pub mod short;
 pub mod thing;
+pub mod values;
+pub mod word_arithmetic;

@@ -8,9 +8,9 @@ use crate::legs::{
     Legs, element_in, field_in, is_one_leg, number_field_in, number_in_legs, pair_in_legs, value_in,
 };
 use crate::short::Short;
+use crate::values::Element;
 use std::alloc::{AllocError, Global};
 use weld_data::Val;
-use weld_eval_values::Element;
 
 /// A row of a loop by its number, from 0, which isn't built: it is the element of the one leg, or the
 /// struct of the elements of more legs. Each leg has an element of that number.
@@ -26,8 +26,8 @@ impl<'a> RowAt<'a> {
     ghost use Rattle.weld_data.specs.View.{view_val};
     ghost use Rattle.weld_builders.specs.Outcome.{done};
     ghost use Rattle.weld_meaning.specs.Thing.{value_field};
-    ghost use Rattle.weld_eval_values.specs.Elements.{view_element};
-    ghost use Rattle.weld_eval_values.specs.Fits.{HasField};
+    ghost use Rattle.weld_eval.specs.Elements.{view_element};
+    ghost use Rattle.weld_eval.specs.Fits.{HasField};
     ghost use Rattle.weld_eval.specs.RowLists.{rows_in, is_one};
     ghost use Rattle.weld_eval.specs.RowView.{row_value};
     ghost use Rattle.weld_eval.specs.NumberAnswers.{NumberAnswer, FieldNumber, PairAnswer};

@@ -7,7 +7,7 @@ use Rattle.weld_data.specs.Value.{Value, number, list, struct, dict, Values, no_
 use Rattle.weld_data.proofs.Keys.{key_types_agree, key_of_type}
 use Rattle.weld_tree.specs.TypeTree.{TypeTree, TypeTrees, scalar, vec, struct as tuple, dict as mapping, build, no_types, more_types}
 use Rattle.weld_tree.specs.Types.{IsKeyField, AreKeyFields, IsKey}
-use Rattle.weld_fits.specs.HasValue.{HasValue, HaveValues, AllAre, AllEntriesAre}
+use Rattle.weld_tree.specs.HasValue.{HasValue, HaveValues, AllAre, AllEntriesAre}
 
 numbers_are : (k : Kind) (vs : Values) → AllAre (HasValue (scalar k)) vs → AreNumbers k vs
 numbers_are k no_values h = tt

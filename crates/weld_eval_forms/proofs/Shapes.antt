@@ -6,13 +6,13 @@ use Rattle.weld_data.specs.Order.{IsNumber}
 use Rattle.weld_data.specs.Value.{Value, number, list, struct, dict, Values, no_values, and_value, list_of_values}
 use Rattle.weld_tree.specs.TypeTree.{TypeTree, TypeTrees, scalar, vec, struct as tuple, no_types, more_types}
 use Rattle.weld_tree.specs.ExprTree.{neg, not, cast, len, field}
-use Rattle.weld_fits.specs.HasValue.{HasValue, HaveValues}
+use Rattle.weld_tree.specs.HasValue.{HasValue, HaveValues}
 use Rattle.weld_meaning.specs.Thing.{Thing, plain, building, several, Things, no_things, more_things}
 use Rattle.weld_meaning.specs.ThingType.{HasThing, HaveBuilders}
 use Rattle.weld_meaning.specs.Typing.{IsField}
 use Rattle.weld_builders.specs.Part.{Part}
 use Rattle.weld_meaning.proofs.Good.{IsValueType, value_of_thing}
-use Rattle.weld_eval_values.specs.Fits.{IsIntegerNumber, IsTruth, IsList, HasField}
+use Rattle.weld_eval.specs.Fits.{IsIntegerNumber, IsTruth, IsList, HasField}
 use Rattle.weld_eval.specs.Takes.{OneTakes, IsPlain, HasThingAt}
 
 -- a thing of a type of values is a value of it

@@ -12,7 +12,7 @@ use Rattle.weld_data.proofs.Operations.{combination-start_left}
 use Rattle.weld_tree.specs.TypeTree.{TypeTree, TypeTrees, no_types, more_types, scalar, vec, struct as tuple, dict as mapping, build, list as list_of, total, keyed, cells, groups}
 use Rattle.weld_tree.specs.Types.{IsIntegerType, AreIntegerTypes, IsMergerType}
 use Rattle.weld_tree.specs.ExprTree.{started}
-use Rattle.weld_fits.specs.HasValue.{HasValue, HaveValues, AllAre}
+use Rattle.weld_tree.specs.HasValue.{HasValue, HaveValues, AllAre}
 use Rattle.weld_builders.specs.Outcome.{done, and_then, map_out, or_fault}
 use Rattle.weld_builders.specs.Part.{Part, Totals, totals_part, totals_builder, kinds_of, with_kinds, start, cells_part, start_part, cells_shape, repeated, as_number_list, as_numbers, merge_cell, merge_part}
 use Rattle.weld_pieces.specs.Totals.{totals_in, number_in as number_of_total, AreIntegers}
@@ -23,7 +23,7 @@ use Rattle.weld_meaning.proofs.WellFormed.{merger_free}
 use Rattle.weld_meaning.specs.Thing.{Thing, plain, building}
 use Rattle.weld_meaning.specs.ThingType.{HasThing}
 use Rattle.weld_meaning.specs.Evaluation.{one_thing, kinds_in, started_builder}
-use Rattle.weld_eval_values.specs.Fits.{IsIntegerNumber}
+use Rattle.weld_eval.specs.Fits.{IsIntegerNumber}
 use Rattle.weld_eval.specs.Takes.{OneTakes, IsPlain, IsScalar}
 use Rattle.weld_eval_forms.specs.Legs.{elements_of_value}
 use Rattle.weld_eval_forms.specs.Starts.{number_in, numbers_in, totals_among, AreIntegerNumbers, MayStartTotal, total_from_value, filled, pair_value}

@@ -9,7 +9,7 @@ use Rattle.weld_meaning.specs.ThingType.{HasThing}
 use Rattle.weld_meaning.specs.Typing.{truth_type, place_type}
 use Rattle.weld_meaning.specs.Evaluation.{truth_of, selected, three_thing}
 use Rattle.weld_meaning.proofs.Good.{free_value_type, value_of_thing}
-use Rattle.weld_eval_values.specs.Fits.{IsTruth, IsList, IsPlaceNumber}
+use Rattle.weld_eval.specs.Fits.{IsTruth, IsList, IsPlaceNumber}
 use Rattle.weld_eval.specs.Takes.{ThreeTakes, IsPlain}
 use Rattle.weld_eval_forms.proofs.Shapes.{plain_of_type, value_has, list_of_type}
 

@@ -3,12 +3,12 @@ use Rattle.std.proofs.Common.{◌≡◌, Bool, if◌then◌else◌, ap, subst, �
 use Rattle.weld_data.specs.Value.{Value, number, list, struct, dict, no_values, and_value}
 use Rattle.weld_tree.specs.TypeTree.{TypeTree}
 use Rattle.weld_tree.specs.Types.{pair_of}
-use Rattle.weld_fits.specs.HasValue.{HasValue}
+use Rattle.weld_tree.specs.HasValue.{HasValue}
 use Rattle.weld_builders.specs.Outcome.{Outcome, done, and_then}
 use Rattle.weld_meaning.specs.Thing.{Thing, plain, value_field}
 use Rattle.weld_meaning.specs.Typing.{truth_type}
 use Rattle.weld_meaning.specs.Evaluation.{truth_of}
-use Rattle.weld_eval_values.specs.Fits.{IsTruth, HasField}
+use Rattle.weld_eval.specs.Fits.{IsTruth, HasField}
 use Rattle.weld_eval.specs.Takes.{IsPlain}
 use Rattle.weld_eval_forms.specs.FormTakes.{IsTurn, IsNext}
 use Rattle.weld_eval_forms.proofs.Shapes.{plain_of_type}

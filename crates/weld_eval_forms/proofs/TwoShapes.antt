@@ -8,7 +8,7 @@ use Rattle.weld_data.specs.Value.{Value, number, list, struct, dict, Values, no_
 use Rattle.weld_tree.specs.TypeTree.{TypeTree, BuildTree, TypeTrees, no_types, more_types, scalar, vec, struct as tuple, dict as mapping, build, list as list_of, total, keyed, cells, groups}
 use Rattle.weld_tree.specs.Types.{IsKey, IsWellFormed, IsWellFormedBuild, pair_of, takes}
 use Rattle.weld_tree.specs.ExprTree.{binary, look_up, key_exists, merge}
-use Rattle.weld_fits.specs.HasValue.{HasValue, HaveValues}
+use Rattle.weld_tree.specs.HasValue.{HasValue, HaveValues}
 use Rattle.weld_builders.specs.Part.{Part, Totals, list_part, total_part, totals_part, kinds_of, cells_part, keyed_part, groups_part}
 use Rattle.weld_pieces.specs.Kept.{IsNumberOf, AreNumbersOf, IsStructOfNumbers, IsPair}
 use Rattle.weld_built.specs.Logged.{IsItemOf}
@@ -17,7 +17,7 @@ use Rattle.weld_meaning.specs.ThingType.{TotalsFit, AreTotals, HasThing, HasPart
 use Rattle.weld_meaning.specs.Typing.{place_type}
 use Rattle.weld_meaning.proofs.Good.{free_value_type}
 use Rattle.weld_meaning.proofs.WellFormed.{key_free, takes_free}
-use Rattle.weld_eval_values.specs.Fits.{AreOperands, IsLookUp, IsKeyLookUp}
+use Rattle.weld_eval.specs.Fits.{AreOperands, IsLookUp, IsKeyLookUp}
 use Rattle.weld_eval.specs.Takes.{TwoTakes, IsPlain}
 use Rattle.weld_eval_forms.proofs.Shapes.{plain_of_type, value_has, number_of_kind}
 use Rattle.weld_eval_forms.proofs.KeyTypes.{is_key, key_for}

@@ -4,7 +4,7 @@ use Rattle.weld_data.specs.Value.{Value, number, list, struct, dict, list_of_val
 use Rattle.weld_builders.specs.Outcome.{Outcome, and_then}
 use Rattle.weld_meaning.specs.Thing.{Thing, plain, building, several, as_value}
 use Rattle.weld_meaning.specs.Evaluation.{strided_of}
-use Rattle.weld_eval_values.specs.Fits.{IsList, IsPlaceNumber}
+use Rattle.weld_eval.specs.Fits.{IsList, IsPlaceNumber}
 use Rattle.weld_eval.specs.declared.thing.Held.{Held}
 use Rattle.weld_eval.specs.ThingView.{held_of}
 -- the rows of such legs

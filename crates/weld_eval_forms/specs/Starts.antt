@@ -6,7 +6,7 @@ use Rattle.weld_data.specs.declared.num.Num.{Num}
 use Rattle.weld_data.specs.declared.op.MergeOp.{MergeOp}
 use Rattle.weld_data.specs.Operation.{start_of}
 use Rattle.weld_data.specs.Value.{Value, number, list, struct, dict, Values, no_values, and_value}
-use Rattle.weld_eval_values.specs.Fits.{IsIntegerNumber}
+use Rattle.weld_eval.specs.Fits.{IsIntegerNumber}
 use Rattle.weld_builders.specs.Part.{Part, Totals, list_part, total_part, totals_part}
 
 -- the number that a value is

@@ -5,7 +5,7 @@ ghost use Rattle.weld_data.specs.View.{view_val, view_column};
 ghost use Rattle.weld_builders.specs.Outcome.{done, and_then};
 ghost use Rattle.weld_meaning.specs.Evaluation.{elements_of};
 ghost use Rattle.weld_meaning.specs.Thing.{as_value};
-ghost use Rattle.weld_eval_values.specs.Answers.{Answers};
+ghost use Rattle.weld_eval.specs.Answers.{Answers};
 ghost use Rattle.weld_eval.specs.ThingView.{held_of};
 ghost use Rattle.weld_eval_forms.specs.Legs.{elements_in, leg_lists, IsVector, AreVectors, IsPlace, strided_elements, rows_in, RowsAnswer, all_long, AllReach, elements_at};
 
@@ -13,7 +13,7 @@ use crate::release::let_go;
 use std::alloc::{AllocError, Global};
 use weld_data::{Column, Stop, Val, Vals};
 use weld_eval::thing::{Held, Owned, value_of};
-use weld_eval_values::strided_part;
+use weld_eval::values::strided_part;
 
 /// A leg that runs over a whole vector. It takes no memory.
 pub fn whole<'a>(v: Held<'a>) -> Held<'a>

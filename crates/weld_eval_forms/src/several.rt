@@ -6,7 +6,7 @@ ghost use Rattle.weld_tree.specs.ExprTree.{make_vec, make_struct};
 ghost use Rattle.weld_meaning.specs.Evaluation.{many_thing};
 ghost use Rattle.weld_meaning.specs.Thing.{plain, more_things, after_thing};
 ghost use Rattle.weld_tree.specs.ExprView.{view_many};
-ghost use Rattle.weld_eval_values.specs.Answers.{Answers, OnFault};
+ghost use Rattle.weld_eval.specs.Answers.{Answers, OnFault};
 ghost use Rattle.weld_eval.specs.Takes.{Join, IsPlain};
 ghost use Rattle.weld_eval.specs.ThingView.{thing_of, things_of, held_of};
 ghost use Rattle.weld_eval_forms.specs.FormTakes.{ManyTakes, all_of, pack_things, is_value as is_a_value, all_are_values, values_among};

@@ -5,7 +5,7 @@ ghost use Rattle.weld_tree.specs.ExprTree.{select, slice};
 ghost use Rattle.weld_builders.specs.Outcome.{done};
 ghost use Rattle.weld_meaning.specs.Evaluation.{three_thing};
 ghost use Rattle.weld_tree.specs.ExprView.{view_three};
-ghost use Rattle.weld_eval_values.specs.Answers.{Answers};
+ghost use Rattle.weld_eval.specs.Answers.{Answers};
 ghost use Rattle.weld_eval.specs.Takes.{ThreeTakes};
 ghost use Rattle.weld_eval.specs.ThingView.{held_of};
 ghost use Rattle.weld_eval_forms.specs.FormTakes.{AreAllEvaluated};
@@ -14,7 +14,7 @@ use crate::release::let_go;
 use std::alloc::Global;
 use weld_data::Stop;
 use weld_eval::thing::{Held, Owned, value_of};
-use weld_eval_values::{part_of, truth_of};
+use weld_eval::values::{part_of, truth_of};
 use weld_tree::ThreeForm;
 
 /// A form of three parts, every one but `if`.

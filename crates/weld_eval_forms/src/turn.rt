@@ -9,7 +9,7 @@ ghost use Rattle.weld_eval_forms.specs.FormTakes.{IsTurn, IsNext, TurnAnswer};
 use std::alloc::{AllocError, Global};
 use weld_data::{Stop, Val};
 use weld_eval::thing::{Held, value_of};
-use weld_eval_values::{field_of, truth_of};
+use weld_eval::values::{field_of, truth_of};
 
 /// The next state, and whether to go on from it.
 #[tactic(auto, using(crate::proofs::Turns::turn_plain))]

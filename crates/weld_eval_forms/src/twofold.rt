@@ -5,10 +5,10 @@ ghost use Rattle.weld_data.specs.View.{view_val};
 ghost use Rattle.weld_builders.specs.Outcome.{done};
 ghost use Rattle.weld_meaning.specs.Thing.{plain};
 ghost use Rattle.weld_tree.specs.ExprTree.{binary, look_up as look_up_form, key_exists as key_form, merge};
-ghost use Rattle.weld_eval_values.specs.Elements.{view_element};
+ghost use Rattle.weld_eval.specs.Elements.{view_element};
 ghost use Rattle.weld_meaning.specs.Evaluation.{two_thing};
 ghost use Rattle.weld_tree.specs.ExprView.{view_two};
-ghost use Rattle.weld_eval_values.specs.Answers.{Answers, OnFault};
+ghost use Rattle.weld_eval.specs.Answers.{Answers, OnFault};
 ghost use Rattle.weld_eval.specs.Takes.{TwoTakes, IsStrict};
 ghost use Rattle.weld_eval.specs.ThingView.{thing_of, held_of};
 
@@ -17,7 +17,7 @@ use std::alloc::Global;
 use weld_data::{BinOp, Num, Stop, Val};
 use weld_eval::forms::number;
 use weld_eval::thing::{Held, Owned, into_value, value_of};
-use weld_eval_values::{Element, has_key, look_up, operated};
+use weld_eval::values::{Element, has_key, look_up, operated};
 use weld_tree::TwoForm;
 
 /// A form of two parts, every one but `&&` and `||`.

@@ -5,7 +5,7 @@ ghost use Rattle.weld_builders.specs.Outcome.{done};
 ghost use Rattle.weld_meaning.specs.Evaluation.{one_thing};
 ghost use Rattle.weld_tree.specs.ExprTree.{neg, not as not_of, cast as cast_of, len, field as field_form, finish};
 ghost use Rattle.weld_tree.specs.ExprView.{view_one};
-ghost use Rattle.weld_eval_values.specs.Answers.{Answers};
+ghost use Rattle.weld_eval.specs.Answers.{Answers};
 ghost use Rattle.weld_meaning.specs.Thing.{thing_at};
 ghost use Rattle.weld_eval.specs.Takes.{OneTakes, HasThingAt};
 ghost use Rattle.weld_eval.specs.ThingView.{held_of, thing_of, things_of};
@@ -15,7 +15,7 @@ use std::alloc::Global;
 use weld_data::{Kind, Stop};
 use weld_eval::forms::number;
 use weld_eval::thing::{Fields, Held, Owned, value_of};
-use weld_eval_values::{cast, contrary, field_of, length, negated};
+use weld_eval::values::{cast, contrary, field_of, length, negated};
 use weld_tree::OneForm;
 
 /// A form of one part.

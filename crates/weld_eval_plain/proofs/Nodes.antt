@@ -18,7 +18,7 @@ use Rattle.weld_meaning.specs.Typing.{truth_type}
 use Rattle.weld_meaning.specs.Meaning.{GivesOrFaults}
 use Rattle.weld_meaning.specs.Evaluation.{Env, eval, truth_of, truth_value, value_out, two_thing}
 use Rattle.weld_meaning.proofs.NeverStuck.{never_stuck}
-use Rattle.weld_eval_values.specs.Fits.{IsTruth}
+use Rattle.weld_eval.specs.Fits.{IsTruth}
 use Rattle.weld_eval.specs.Fit.{IsFit, AreFit}
 use Rattle.weld_eval.specs.Takes.{LeafTakes, OneTakes, TwoTakes, ThreeTakes, IsInteger, IsFresh, IsPlain}
 use Rattle.weld_eval.proofs.Children.{key_laws, gives, fit_one, one_takes, fit_first_of_two, fit_second_of_two, two_takes, fit_first_of_three, fit_second_of_three, fit_third_of_three, three_takes, fit_many, fit_value, fit_let_body}

@@ -5,7 +5,7 @@ use Rattle.weld_tree.specs.declared.binder.Binder.{Binder}
 use Rattle.weld_tree.specs.TypeTree.{TypeTree, TypeTrees, scalar, vec, struct as tuple, dict, build, no_types, more_types}
 use Rattle.weld_tree.specs.Types.{IsBuilder, AreBuilders, IsWellFormed, AreWellFormed}
 use Rattle.weld_tree.specs.ExprTree.{ExprTree, At, LegTrees, loop}
-use Rattle.weld_fits.specs.HasValue.{HasValue, AllAre}
+use Rattle.weld_tree.specs.HasValue.{HasValue, AllAre}
 use Rattle.weld_builders.specs.Outcome.{done, fault, and_then, map_out}
 use Rattle.weld_meaning.specs.Thing.{Thing, plain, building, several, Things, no_things, more_things, bare_thing, bare_things, after_thing}
 use Rattle.weld_meaning.specs.ThingType.{HasThing, HaveBuilders}

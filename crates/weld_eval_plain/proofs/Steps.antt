@@ -17,8 +17,8 @@ use Rattle.weld_tree.specs.ExprTree.{ExprTree, At, LegTrees, two, three, loop, T
 use Rattle.weld_builders.specs.Outcome.{Outcome, done, fault, and_then}
 use Rattle.weld_meaning.specs.Thing.{Thing, plain, building, several, bare_thing, after_thing}
 use Rattle.weld_meaning.specs.Evaluation.{whole_number, Env, Row, eval, rows_of, two_thing, three_thing}
-use Rattle.weld_eval_values.specs.Answers.{Answers, OnFault}
-use Rattle.weld_eval_values.specs.Fits.{IsTruth}
+use Rattle.weld_eval.specs.Answers.{Answers, OnFault}
+use Rattle.weld_eval.specs.Fits.{IsTruth}
 use Rattle.weld_eval.specs.Fit.{IsFit}
 use Rattle.weld_eval.specs.Takes.{IsPlain}
 use Rattle.weld_eval_forms.specs.Legs.{or_none, rows_in, RowsAnswer}

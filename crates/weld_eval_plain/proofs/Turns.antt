@@ -10,7 +10,7 @@ use Rattle.weld_tree.specs.Types.{IsBuilderFree, pair_of as pair_type}
 use Rattle.weld_data.specs.declared.stop.Stop.{Stop}
 use Rattle.weld_data.specs.declared.stop.Stop.TheVariants.{Fault, Memory}
 use Rattle.weld_meaning.specs.Typing.{truth_type}
-use Rattle.weld_fits.specs.HasValue.{HasValue}
+use Rattle.weld_tree.specs.HasValue.{HasValue}
 use Rattle.weld_builders.specs.Outcome.{Outcome, done, fault, and_then, map_out}
 use Rattle.weld_meaning.specs.Thing.{Thing, plain, as_value}
 use Rattle.weld_meaning.specs.ThingType.{HasThing}

@@ -6,7 +6,7 @@ use Rattle.weld_data.specs.declared.stop.Stop.{Stop}
 use Rattle.weld_data.specs.declared.stop.Stop.TheVariants.{Fault, Memory}
 use Rattle.weld_data.specs.declared.value.Val.{Val}
 use Rattle.weld_tree.specs.ExprTree.{ExprTree, iterate}
-use Rattle.weld_fits.specs.HasValue.{HasValue}
+use Rattle.weld_tree.specs.HasValue.{HasValue}
 use Rattle.weld_builders.specs.Outcome.{Outcome, done, fault, stuck, and_then, map_out}
 use Rattle.weld_meaning.specs.Thing.{Thing, plain}
 use Rattle.weld_meaning.specs.Evaluation.{Env, eval, value_out, next_turn, turns, turn_limit}

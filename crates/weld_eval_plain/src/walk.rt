@@ -6,7 +6,7 @@ ghost use Rattle.weld_tree.specs.ExprTree.{pack_exprs, pack_legs};
 ghost use Rattle.weld_tree.specs.ExprView.{view_leg};
 ghost use Rattle.weld_builders.specs.Outcome.{done};
 ghost use Rattle.weld_meaning.specs.Evaluation.{eval as eval_of, eval_all, eval_leg as eval_leg_of, eval_legs as eval_legs_of, turn_limit};
-ghost use Rattle.weld_eval_values.specs.Answers.{Answers};
+ghost use Rattle.weld_eval.specs.Answers.{Answers};
 ghost use Rattle.weld_eval.specs.Fit.{IsFit, AreFit, LegIsFit, LegsAreFit};
 ghost use Rattle.weld_eval.specs.FrameView.{env_of};
 ghost use Rattle.weld_eval.specs.ThingView.{thing_of, held_of};
@@ -21,13 +21,13 @@ use weld_data::{Num, Stop, Val};
 use weld_eval::forms::{leaf, number};
 use weld_eval::frame::{Frame, bind};
 use weld_eval::thing::{Held, Owned, bare_thing, into_owned, into_value, value_of};
+use weld_eval::values::{truth_of, whole_number};
 use weld_eval_forms::legs::{count_rows, row_at, strided, whole};
 use weld_eval_forms::several::{append, many, push_thing};
 use weld_eval_forms::triple::three;
 use weld_eval_forms::turn::pair_of;
 use weld_eval_forms::twofold::two;
 use weld_eval_forms::unary::one;
-use weld_eval_values::{truth_of, whole_number};
 use weld_tree::{Expr, Exprs, Form, Leg, Legs, ThreeForm, TwoForm};
 
 /// What an expression comes to, where its names stand for the things of the frame.

@@ -8,7 +8,7 @@ use Rattle.weld_tree.specs.ExprTree.{One, Two, Three, Many}
 use Rattle.weld_builders.specs.Outcome.{Outcome, done, fault, map_out}
 use Rattle.weld_meaning.specs.Thing.{Thing, plain, building, several, Things, no_things, more_things, first_of, rest_of}
 use Rattle.weld_meaning.specs.Evaluation.{one_thing, two_thing, three_thing, many_thing}
-use Rattle.weld_eval_values.specs.Answers.{Answers, OnFault}
+use Rattle.weld_eval.specs.Answers.{Answers, OnFault}
 use Rattle.weld_eval.specs.Takes.{OneTakes, TwoTakes, ThreeTakes, IsStrict}
 use Rattle.weld_eval_forms.specs.FormTakes.{AreAllEvaluated, ManyTakes, before_things, pack_things}
 use Rattle.weld_eval_forms.specs.Legs.{IsVector, IsPlace, elements_of_thing, strided_elements}

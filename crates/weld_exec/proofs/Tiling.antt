@@ -8,7 +8,7 @@ use Rattle.weld_builders.specs.Outcome.{done, fault}
 use Rattle.weld_meaning.specs.declared.loop_id.LoopId.{LoopId}
 use Rattle.weld_meaning.specs.Thing.{Thing, Things, more_things, first_of, rest_of, bare_thing}
 use Rattle.weld_meaning.specs.Evaluation.{Env, eval, value_out, rows_of}
-use Rattle.weld_eval_values.specs.Answers.{OnFault}
+use Rattle.weld_eval.specs.Answers.{OnFault}
 use Rattle.weld_eval.specs.RowLists.{or_none, rows_in}
 use Rattle.weld_eval.specs.ThingView.{things_of}
 use Rattle.weld_eval_plain.specs.Nodes.{IsLoop}

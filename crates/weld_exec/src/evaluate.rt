@@ -11,7 +11,7 @@ ghost use Rattle.weld_builders.specs.Outcome.{done};
 ghost use Rattle.weld_eval.specs.ThingView.{thing_of, held_of};
 ghost use Rattle.weld_eval_plain.specs.Nodes.{IsIterate};
 ghost use Rattle.weld_eval_plain.specs.Turns.{HoldsState, turns_from};
-ghost use Rattle.weld_eval_values.specs.Answers.{Answers};
+ghost use Rattle.weld_eval.specs.Answers.{Answers};
 
 use std::alloc::Global;
 use weld_data::{Stop, Val, Vals};

@@ -11,7 +11,7 @@ ghost use Rattle.weld_eval.specs.FrameView.{env_of};
 ghost use Rattle.weld_eval.specs.NamesView.{env_of_names};
 ghost use Rattle.weld_eval.specs.ThingView.{thing_of, things_of, held_of};
 ghost use Rattle.weld_eval_forms.specs.Legs.{elements_in, leg_lists, IsVector, AreVectors};
-ghost use Rattle.weld_eval_values.specs.Answers.{Answers, OnFault};
+ghost use Rattle.weld_eval.specs.Answers.{Answers, OnFault};
 ghost use Rattle.weld_plan.specs.Leads.{lists_in, loop_lists, AreThere, below_legs, below_loop};
 ghost use Rattle.weld_plan.specs.StepTree.{is_read as is_read_leg};
 ghost use Rattle.weld_exec.specs.Stacked.{LegsStand, HasPile, IsAtLoop, AreThereAt, CountAnswer};

@@ -3,7 +3,7 @@
 ghost use Rattle.std.specs.Prelude.{◌≡◌, Bool, OnOk};
 ghost use Rattle.weld_meaning.specs.Thing.{more_things, first_of, rest_of};
 ghost use Rattle.weld_eval.specs.ThingView.{thing_of, things_of, held_of};
-ghost use Rattle.weld_eval_values.specs.Answers.{OnFault};
+ghost use Rattle.weld_eval.specs.Answers.{OnFault};
 ghost use Rattle.weld_plan.specs.Leads.{IsTruthThing};
 ghost use Rattle.weld_exec.specs.Stacked.{IsSomething, IsTruthOnTop};
 
@@ -11,7 +11,7 @@ use std::alloc::{AllocError, Global};
 use std::mem;
 use weld_data::Stop;
 use weld_eval::thing::{Fields, Held, Owned, into_owned};
-use weld_eval_values::truth_of;
+use weld_eval::values::truth_of;
 
 /// Takes the newest thing off the stack. It takes no memory.
 pub(crate) fn pop(stack: &mut Fields) -> Owned

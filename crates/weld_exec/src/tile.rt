@@ -5,7 +5,7 @@ ghost use Rattle.weld_builders.specs.Outcome.{fault};
 ghost use Rattle.weld_acts.specs.Ranges.{Evaluation, IsAction, HoldsRange, RangeAnswer};
 ghost use Rattle.weld_eval.specs.FrameView.{env_of};
 ghost use Rattle.weld_eval.specs.ThingView.{thing_of, things_of};
-ghost use Rattle.weld_eval_values.specs.Answers.{OnFault};
+ghost use Rattle.weld_eval.specs.Answers.{OnFault};
 ghost use Rattle.weld_plan.specs.Leads.{loop_lists};
 ghost use Rattle.weld_tile_parts.specs.Kept.{IsTileOf};
 ghost use Rattle.weld_tile_parts.specs.Parts.{part_thing, part_evaluation};

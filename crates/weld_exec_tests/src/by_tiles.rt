@@ -4,7 +4,7 @@ ghost use Rattle.std.specs.Prelude.{◌≡◌, ◌≤◌, ◌<◌, IfOk, OnOk};
 ghost use Rattle.weld_data.specs.View.{view_val};
 ghost use Rattle.weld_meaning.specs.Meaning.{ArgumentsFit, meaning};
 ghost use Rattle.weld_builders.specs.Outcome.{fault};
-ghost use Rattle.weld_eval_values.specs.Answers.{Answers, OnFault};
+ghost use Rattle.weld_eval.specs.Answers.{Answers, OnFault};
 ghost use Rattle.weld_tile_parts.specs.Parts.{joined_evaluation, IsWhole};
 ghost use Rattle.weld_plan.specs.PlanView.{IsPlan};
 ghost use Rattle.weld_exec.specs.Run.{env_inputs, program_meaning, IsReady, AtLoop, evaluation_of, rows_at, left_of};

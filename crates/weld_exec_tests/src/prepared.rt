@@ -2,16 +2,16 @@
 
 ghost use Rattle.std.specs.Prelude.{◌≡◌, IfOk};
 ghost use Rattle.weld_data.specs.View.{view_val};
-ghost use Rattle.weld_fits.specs.HasValue.{HasValue};
+ghost use Rattle.weld_tree.specs.HasValue.{HasValue};
 ghost use Rattle.weld_meaning.specs.Typing.{ProgramHas};
 ghost use Rattle.weld_meaning.specs.Meaning.{ArgumentsFit};
 
 use std::alloc::{AllocError, Global};
 use std::test::Fail;
 use std::thread::Threads;
-use weld_arguments::read_arguments;
 use weld_check_types::{Typed, check_types};
 use weld_data::{Stop, Val, Vals};
+use weld_inputs::arguments::read_arguments;
 use weld_job::split_blocks;
 use weld_meaning::Accepted;
 use weld_parse::parse;

@@ -11,7 +11,7 @@ use Rattle.weld_types.specs.Walk.{found, refusal_of, program_type, typing_refusa
 use Rattle.weld_types.specs.Says.{RefusalSays}
 use Rattle.weld_meaning.specs.LinearWalk.{linear_refusal}
 use Rattle.weld_uses.specs.Walks.{Fails}
-use Rattle.weld_unnoted.specs.Unnoted.{IsSameButNotes}
+use Rattle.weld_check_types.specs.Unnoted.{IsSameButNotes}
 use Rattle.weld_front.specs.Accepting.{IsCheckedOf, Says, RefusesOr}
 
 pub by_text : (text : List ℕ) (r : Refusal) → (r ≢ Memory → IsRefused text r) → RefusesOr text r

@@ -27,16 +27,16 @@ use Rattle.weld_front.specs.Texts.{ok_text, refusal_text, report_text, script_re
 use Rattle.weld_front.specs.Asking.{reads_a_job}
 use Rattle.weld_front.specs.Concluding.{IsCounted, IsReport, IsTold, Concludes}
 use Rattle.weld_session.specs.Answer.{shown_type, script_answer}
-use Rattle.weld_soak.specs.Soak.{soak_made, soak_shown, soak_table}
+use Rattle.weld_script.specs.Soak.{soak_made, soak_shown, soak_table}
 use Rattle.weld_front.specs.Sessions.{SessionAnswers, SoakAnswers, IsScriptReport, soak_script}
 use Rattle.weld_front.proofs.Noted.{NotesKnown, spelled_answers, shown_spelled, told_so}
 use Rattle.weld_front.specs.declared.answer.Answer.{Answer}
 use Rattle.weld_words.specs.declared.options.Options.{Options}
 use Rattle.weld_words.specs.declared.options.Command.{Command}
 use Rattle.weld_words.specs.declared.options.Command.TheVariants.{Run, Check, Show, Session, Soak}
-use Rattle.weld_unnoted.specs.Unnoted.{IsSameButNotes}
+use Rattle.weld_check_types.specs.Unnoted.{IsSameButNotes}
 use Rattle.weld_parse.specs.Parses.{Parses}
-use Rattle.weld_reads_back.specs.Texts.{TextSpells}
+use Rattle.weld_print.specs.Texts.{TextSpells}
 use Rattle.weld_front.specs.declared.status.Status.{Status}
 use Rattle.weld_front.specs.declared.status.Status.TheVariants.{Done, Fault, Words, Refused, Unfit, Read, Write, Memory}
 

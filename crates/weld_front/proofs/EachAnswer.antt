@@ -11,7 +11,7 @@ use Rattle.weld_tree.specs.declared.code.Code.TheVariants as codes_of
 use Rattle.weld_tree.specs.declared.place.Place.{Place}
 use Rattle.weld_tree.specs.declared.refusal.Refusal.{Refusal}
 use Rattle.weld_tree.specs.declared.refusal.Refusal.TheVariants.{At, Size}
-use Rattle.weld_fits.specs.HasValue.{HasValue}
+use Rattle.weld_tree.specs.HasValue.{HasValue}
 use Rattle.weld_types.specs.Walk.{Found, found, refused, refusal_of, program_type}
 use Rattle.weld_meaning.specs.LinearWalk.{linear_refusal}
 use Rattle.weld_meaning.specs.Accepted.{IsAccepted}
@@ -20,7 +20,7 @@ use Rattle.weld_meaning.specs.Meaning.{GivesOrFaults, ArgumentsFit, meaning}
 use Rattle.weld_job.specs.Blocks.{job_of}
 use Rattle.weld_job.specs.Job.{Job}
 use Rattle.weld_parse.specs.Parses.{Parses, IsRefused}
-use Rattle.weld_arguments.specs.Arguments.{Arguments, IsUnfit}
+use Rattle.weld_inputs.specs.Arguments.{Arguments, IsUnfit}
 use Rattle.weld_script.specs.declared.made.Declared.{Declared}
 use Rattle.weld_script.specs.declared.made.Made.{Made}
 use Rattle.weld_script.specs.Script.{PlainScript, IsScript, AreMade, AreDeclared, AreInputs, declared_of}
@@ -29,7 +29,7 @@ use Rattle.weld_read_script.specs.declared.read.ScriptFault.{ScriptFault}
 use Rattle.weld_read_script.specs.declared.read.ScriptFault.TheVariants as faults
 use Rattle.weld_inputs.specs.Inputs as of_script
 use Rattle.weld_session.specs.Answer.{MayBeGathered, loops_from, reached, shown_type, script_answer}
-use Rattle.weld_soak.specs.Soak.{soak_made, soak_shown, soak_table}
+use Rattle.weld_script.specs.Soak.{soak_made, soak_shown, soak_table}
 use Rattle.weld_share.specs.declared.note.RunNote.{RunNote}
 use Rattle.weld_front.specs.Accepting.{Accepts, Says, Refuses}
 use Rattle.weld_words.specs.declared.options.Options.{Options}

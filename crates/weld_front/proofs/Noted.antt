@@ -9,8 +9,8 @@ use Rattle.weld_tree.specs.declared.binder.Binder.{Binder}
 use Rattle.weld_job.specs.Job.{Block}
 use Rattle.weld_job.specs.Job.{Job}
 use Rattle.weld_meaning.specs.Meaning.{ArgumentsFit, meaning}
-use Rattle.weld_arguments.specs.Arguments.{Arguments, BlocksGive, DataGive, IsUnfit}
-use Rattle.weld_unnoted.specs.Unnoted.{IsSameButNotes}
+use Rattle.weld_inputs.specs.Arguments.{Arguments, BlocksGive, DataGive, IsUnfit}
+use Rattle.weld_check_types.specs.Unnoted.{IsSameButNotes}
 use Rattle.weld_vertical.specs.Chains.{IsChainProgram}
 use Rattle.weld_passes.specs.Normal.{IsOptimised}
 use Rattle.weld_share.specs.declared.note.RunNote.{RunNote}

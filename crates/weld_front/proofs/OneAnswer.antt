@@ -15,7 +15,7 @@ use Rattle.weld_meaning.specs.Meaning.{meaning}
 use Rattle.weld_job.specs.Blocks.{job_of}
 use Rattle.weld_job.specs.Job.{Job}
 use Rattle.weld_parse.specs.Parses.{Parses, IsRefused}
-use Rattle.weld_arguments.specs.Arguments.{Arguments, IsUnfit}
+use Rattle.weld_inputs.specs.Arguments.{Arguments, IsUnfit}
 use Rattle.weld_front.specs.Accepting.{Accepts, Says, IsIllTyped, IsNotLinear, Refuses}
 use Rattle.weld_words.specs.declared.options.Options.{Options}
 use Rattle.weld_words.specs.declared.options.Command.{Command}
@@ -29,7 +29,7 @@ use Rattle.weld_read_script.specs.declared.read.ScriptFault.{ScriptFault}
 use Rattle.weld_read_script.specs.declared.read.ScriptFault.TheVariants as faults
 use Rattle.weld_inputs.specs.Inputs as of_script
 use Rattle.weld_session.specs.Answer.{shown_type, script_answer}
-use Rattle.weld_soak.specs.Soak.{soak_made, soak_shown, soak_table}
+use Rattle.weld_script.specs.Soak.{soak_made, soak_shown, soak_table}
 use Rattle.weld_front.specs.Sessions.{IsScriptReport, ScriptConcludes, ScriptAnswers, ScriptRefusalAnswers, SessionAnswers, soak_script}
 use Rattle.weld_front.specs.Answer.{Answers, CommandAnswers, CommandHasOneText, HasOneText, RunAnswers, CheckAnswers, ShowAnswers, RefusalAnswers, ProgramAnswers, ProgramConcludes, is_too_long}
 use Rattle.weld_front.specs.Texts.{value_text, ok_text, unfit_text, refusal_text, script_refusal_text}

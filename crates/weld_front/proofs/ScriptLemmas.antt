@@ -6,7 +6,7 @@ use Rattle.weld_tree.specs.TypeTree.{TypeTree}
 use Rattle.weld_tree.specs.Program.{ProgramTree, loops}
 use Rattle.weld_job.specs.Job.{Job}
 use Rattle.weld_meaning.specs.Meaning.{ArgumentsFit, meaning}
-use Rattle.weld_unnoted.specs.Unnoted.{IsSameButNotes}
+use Rattle.weld_check_types.specs.Unnoted.{IsSameButNotes}
 use Rattle.weld_check_types.specs.Notes.{ProgramIsNoted}
 use Rattle.weld_share.specs.Counts.{IsNote}
 use Rattle.weld_share.specs.declared.note.RunNote.{RunNote}
@@ -18,7 +18,7 @@ use Rattle.weld_session.specs.Answer.{IsGathered, shown_type}
 use Rattle.weld_words.specs.declared.options.Options.{Options}
 use Rattle.weld_front.specs.Concluding.{IsCounted, IsTold}
 use Rattle.weld_front.specs.Sessions.{IsPastSizes, IsCountedOf, IsScriptReport, ScriptConcludes, ScriptAnswers, SessionAnswers, SoakAnswers, soak_script}
-use Rattle.weld_soak.specs.Soak.{soak_made, soak_shown, soak_table}
+use Rattle.weld_script.specs.Soak.{soak_made, soak_shown, soak_table}
 use Rattle.weld_front.specs.Texts.{fault_text, report_text, script_refusal_text, value_text}
 use Rattle.weld_front.specs.declared.answer.Answer.{Answer}
 use Rattle.weld_front.specs.declared.status.Status.{Status}

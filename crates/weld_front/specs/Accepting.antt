@@ -9,7 +9,7 @@ use Rattle.weld_tree.specs.declared.refusal.Refusal.TheVariants.{At, Memory}
 use Rattle.weld_parse.specs.Parses.{Parses, IsRefused}
 use Rattle.weld_types.specs.Walk.{program_type, typing_refusal, found}
 use Rattle.weld_meaning.specs.LinearWalk.{linear_refusal}
-use Rattle.weld_unnoted.specs.Unnoted.{IsSameButNotes}
+use Rattle.weld_check_types.specs.Unnoted.{IsSameButNotes}
 
 -- the text spells the program, no rule refuses it, and its value has the type
 pub record Accepts (text : List ℕ) (p : ProgramTree) (t : TypeTree) : Type 0 where

@@ -13,10 +13,10 @@ use Rattle.weld_tree.specs.declared.refusal.Refusal.TheVariants.{Size}
 use Rattle.weld_job.specs.Blocks.{job_of}
 use Rattle.weld_job.specs.Reading.{job_limit, TakesJust}
 use Rattle.weld_job.specs.Job.{Job}
-use Rattle.weld_arguments.specs.Arguments.{Arguments, IsUnfit}
+use Rattle.weld_inputs.specs.Arguments.{Arguments, IsUnfit}
 use Rattle.weld_meaning.specs.Meaning.{meaning}
 use Rattle.weld_print.specs.PrintText.{program_text}
-use Rattle.weld_reads_back.specs.Texts.{TextSpellsSoundly}
+use Rattle.weld_print.specs.Texts.{TextSpellsSoundly}
 use Rattle.weld_passes.specs.Normal.{IsOptimised}
 use Rattle.weld_front.specs.Accepting.{Accepts, Refuses}
 use Rattle.weld_front.specs.Concluding.{IsReport, Concludes}

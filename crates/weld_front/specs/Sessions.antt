@@ -15,7 +15,7 @@ use Rattle.weld_read_script.specs.declared.read.ScriptFault.{ScriptFault}
 use Rattle.weld_read_script.specs.declared.read.ScriptFault.TheVariants as faults
 use Rattle.weld_inputs.specs.Inputs.{Inputs, IsUnfit}
 use Rattle.weld_session.specs.Answer.{IsGathered, loops_from, reached, script_answer, shown_type}
-use Rattle.weld_soak.specs.Soak.{soak_made, soak_shown, soak_table}
+use Rattle.weld_script.specs.Soak.{soak_made, soak_shown, soak_table}
 use Rattle.weld_words.specs.declared.options.Options.{Options}
 use Rattle.weld_front.specs.Concluding.{Concludes}
 use Rattle.weld_front.specs.Texts.{report_text, script_refusal_text, unfit_text}

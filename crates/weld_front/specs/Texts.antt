@@ -8,7 +8,7 @@ use Rattle.weld_tree.specs.declared.code.Code.{Code}
 use Rattle.weld_tree.specs.declared.refusal.Refusal.{Refusal}
 use Rattle.weld_tree.specs.declared.refusal.Refusal.TheVariants.{At, Size, Memory}
 use Rattle.weld_values.specs.Showing.{show}
-use Rattle.weld_print_type.specs.TypeText.{type_text}
+use Rattle.weld_print.specs.TypeText.{type_text}
 use Rattle.weld_share.specs.declared.note.RunNote.{RunNote}
 use Rattle.weld_read_script.specs.declared.read.ScriptFault.{ScriptFault}
 use Rattle.weld_read_script.specs.declared.read.ScriptFault.TheVariants as faults

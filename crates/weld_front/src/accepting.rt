@@ -6,11 +6,11 @@ ghost use Rattle.weld_uses.specs.Walks.{Fails};
 ghost use Rattle.weld_front.specs.Accepting.{IsCheckedOf, RefusesOr};
 
 use std::alloc::Global;
+use weld_check_types::unnoted::notes_play_no_part;
 use weld_check_types::{Typed, check_types};
 use weld_meaning::Accepted;
 use weld_parse::parse;
 use weld_tree::{Refusal, Ty};
-use weld_unnoted::laws::notes_play_no_part;
 use weld_uses::accept;
 
 /// A program that no rule refuses, with the type of its value.

@@ -1,7 +1,7 @@
 ghost use Rattle.std.specs.Prelude.{◌≡◌, ◌<◌, IfOk, map};
 ghost use Rattle.std.specs.String.{string_bytes};
 ghost use Rattle.weld_data.specs.View.{view_val};
-ghost use Rattle.weld_fits.specs.HasValue.{HasValue};
+ghost use Rattle.weld_tree.specs.HasValue.{HasValue};
 ghost use Rattle.weld_front.specs.Concluding.{IsTold};
 ghost use Rattle.weld_front.specs.Texts.{refusal_text, script_refusal_text, unfit_text, value_text, report_text, ok_text, fault_text};
 
@@ -10,11 +10,11 @@ use crate::status::Status;
 use std::alloc::{AllocError, Global};
 use std::thread::Threads;
 use weld_data::{Text, Val};
-use weld_print_type::print_ty;
+use weld_print::types::print_ty;
 use weld_read_script::ScriptFault;
 use weld_share::RunNote;
+use weld_text_pieces::writing::write_value;
 use weld_tree::{Code, Refusal, Ty};
-use weld_write_pieces::write_value;
 
 /// What is written, and the status that the program ends with.
 #[derive(Debug, Drop)]

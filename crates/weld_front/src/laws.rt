@@ -6,17 +6,17 @@ ghost use Rattle.weld_front.specs.Asking.{Asks};
 ghost use Rattle.weld_front.specs.declared.status.Status.{Status};
 ghost use Rattle.weld_words.specs.declared.options.Options.{Options};
 
+use weld_check_types::unnoted::notes_play_no_part;
 use weld_meaning::laws::{meaning_looks_past_spelling, typed_programs_are_never_stuck};
 use weld_passes::laws::{
     chains_look_past_notes, each_accepted_program_can_be_optimised, each_program_has_a_normal_form,
 };
 use weld_script::laws::scripts_declare;
-use weld_script_laws::laws::{each_text_is_read, one_script, read_scripts_are_scripts};
+use weld_script::soak::laws::soak_is_a_script;
 use weld_session::laws::each_script_is_gathered;
-use weld_soak::laws::soak_is_a_script;
+use weld_text_laws::scripts::{each_text_is_read, one_script, read_scripts_are_scripts};
 use weld_tree::laws::same_programs_have_same_counts;
 use weld_types::laws::the_walk_is_typing;
-use weld_unnoted::laws::notes_play_no_part;
 
 /// Words ask for one thing at most.
 pub fn one_task()
@@ -34,7 +34,7 @@ pub fn one_answer()
         → HasOneText o → Answers o job s x → Answers o job t y → x ≡ y }
 {
     weld_parse::laws::one_answer();
-    weld_arguments::laws::one_answer();
+    weld_inputs::arguments::laws::one_answer();
     weld_inputs::laws::one_answer();
     one_script();
 }
@@ -48,8 +48,8 @@ pub fn each_job_has_an_answer()
     weld_parse::laws::parsed_or_refused();
     weld_parse::laws::parsed_programs();
     the_walk_is_typing();
-    weld_arguments::laws::each_job_fits_or_not();
-    weld_arguments::laws::arguments_have_their_types();
+    weld_inputs::arguments::laws::each_job_fits_or_not();
+    weld_inputs::arguments::laws::arguments_have_their_types();
     typed_programs_are_never_stuck();
     each_program_has_a_normal_form();
     notes_play_no_part();

@@ -4,7 +4,7 @@ ghost use Rattle.weld_tree.specs.Program.{loops};
 ghost use Rattle.weld_meaning.specs.Typing.{ProgramHas};
 ghost use Rattle.weld_meaning.specs.Meaning.{ArgumentsFit, meaning};
 ghost use Rattle.weld_check_types.specs.Notes.{ProgramIsNoted};
-ghost use Rattle.weld_eval_values.specs.Answers.{Answers};
+ghost use Rattle.weld_eval.specs.Answers.{Answers};
 ghost use Rattle.weld_front.specs.Concluding.{IsCounted};
 ghost use Rattle.weld_front.specs.Answer.{ProgramConcludes, ProgramAnswers, RunAnswers};
 
@@ -13,8 +13,9 @@ use crate::answer::{Answer, done, fault, refused, unfit};
 use crate::asked::Asked;
 use std::alloc::{AllocError, Global};
 use std::thread::Threads;
-use weld_arguments::{DataStop, read_arguments};
+use weld_check_types::unnoted::notes_play_no_part;
 use weld_data::{Stop, Val, Vals};
+use weld_inputs::arguments::{DataStop, read_arguments};
 use weld_job::Job;
 use weld_meaning::Accepted;
 use weld_meaning::laws::{meaning_looks_past_spelling, typed_programs_are_never_stuck};
@@ -25,7 +26,6 @@ use weld_ports::Gate;
 use weld_share::{RunNote, run_plan};
 use weld_tree::laws::same_programs_have_same_counts;
 use weld_tree::{Program, Ty};
-use weld_unnoted::laws::notes_play_no_part;
 
 /// The value of an accepted program on arguments of its parameters' types, or its fault. The optimised
 /// program is run in its place, by its plan; what is counted is that run, with tiles of the cut that is asked

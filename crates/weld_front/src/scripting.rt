@@ -2,8 +2,8 @@ ghost use Rattle.std.specs.Prelude.{◌≡◌, IfOk, MatchOption};
 ghost use Rattle.weld_data.specs.View.{view_val};
 ghost use Rattle.weld_meaning.specs.Meaning.{ArgumentsFit, meaning};
 ghost use Rattle.weld_check_types.specs.Notes.{ProgramIsNoted};
-ghost use Rattle.weld_unnoted.specs.Unnoted.{IsSameButNotes};
-ghost use Rattle.weld_eval_values.specs.Answers.{Answers};
+ghost use Rattle.weld_check_types.specs.Unnoted.{IsSameButNotes};
+ghost use Rattle.weld_eval.specs.Answers.{Answers};
 ghost use Rattle.weld_share.specs.Counts.{IsNote};
 ghost use Rattle.weld_script.specs.Script.{AreInputs, declared_of};
 ghost use Rattle.weld_session.specs.Answer.{IsGathered};
@@ -14,9 +14,10 @@ use crate::asked::Asked;
 use crate::running::{count_loops, run_program};
 use std::alloc::{AllocError, Global};
 use std::thread::Threads;
-use weld_arguments::DataStop;
 use weld_check_types::check_types;
+use weld_check_types::unnoted::notes_play_no_part;
 use weld_data::{Stop, Val, Vals};
+use weld_inputs::arguments::DataStop;
 use weld_inputs::read_inputs;
 use weld_job::Job;
 use weld_meaning::Accepted;
@@ -28,12 +29,11 @@ use weld_plan::make_plan;
 use weld_ports::Gate;
 use weld_read_script::read_script;
 use weld_script::Script;
+use weld_script::soak::{Soak, make_soak};
 use weld_session::{Gathered, gather};
 use weld_share::{RunNote, run_plan};
-use weld_soak::{Soak, make_soak};
 use weld_tree::Refusal;
 use weld_tree::laws::same_programs_have_same_counts;
-use weld_unnoted::laws::notes_play_no_part;
 
 /// The program with the types of its nodes noted, where these keep the sizes that texts are held to.
 fn note_types(alloc: Global, program: &Accepted) -> Result<Option<Accepted>, AllocError>

@@ -1,14 +1,15 @@
 ghost use Rattle.std.specs.Prelude.{◌≡◌, ℕ, List, IfOk};
 ghost use Rattle.weld_tree.specs.Program.{ProgramTree};
 ghost use Rattle.weld_check_types.specs.Notes.{ProgramIsNoted};
-ghost use Rattle.weld_reads_back.specs.Texts.{TextSpells};
-ghost use Rattle.weld_unnoted.specs.Unnoted.{IsSameButNotes};
+ghost use Rattle.weld_print.specs.Texts.{TextSpells};
+ghost use Rattle.weld_check_types.specs.Unnoted.{IsSameButNotes};
 ghost use Rattle.weld_front.specs.Answer.{IsShown, ShowAnswers};
 
 use crate::accepting::{Checked, accept_text};
 use crate::answer::{Answer, refused};
 use crate::status::Status;
 use std::alloc::{AllocError, Global};
+use weld_check_types::unnoted::notes_play_no_part;
 use weld_data::Text;
 use weld_job::Job;
 use weld_meaning::Accepted;
@@ -17,7 +18,6 @@ use weld_passes::laws::chains_look_past_notes;
 use weld_passes::optimise;
 use weld_print::print;
 use weld_tree::laws::same_programs_have_same_counts;
-use weld_unnoted::laws::notes_play_no_part;
 
 /// The text of the optimised program.
 fn shown_text(alloc: Global, program: Accepted) -> Result<Text, AllocError>

@@ -4,7 +4,8 @@
 //! case below cases/.
 #![tactic(auto)]
 
-#[cfg(test)]
 mod gates;
 #[cfg(test)]
 mod tests;
+#[cfg(test)]
+pub mod words;

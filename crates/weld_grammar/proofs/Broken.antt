@@ -2,7 +2,7 @@
 use Rattle.std.proofs.Common.{ℕ, zero, suc, ◌+◌, ◌<◌, ◌≤◌, IsTrue, ◌≡◌, refl, Option, Some, None, option_and_then, is_some, IsSome, List, [], ◌∷◌, ◌++◌, length, take, drop, ap, sym, ◌∙◌, subst, arith, inl, inr}
 use Rattle.std.proofs.lemmas.Bool.{true≢false, cases_order}
 use Rattle.std.proofs.lemmas.List.{append-nil, take-append-drop}
-use Rattle.weld_terminals.specs.declared.class.Class.{Class}
+use Rattle.weld_grammar.specs.declared.terminals.class.Class.{Class}
 use Rattle.weld_grammar.specs.declared.rule.Rule.{Rule}
 use Rattle.weld_grammar.specs.declared.item.Item.{Item}
 use Rattle.weld_grammar.specs.declared.item.Item.TheVariants.{Part as OfRule}

@@ -1,7 +1,7 @@
 -- From what is pending to trees: where all that is pending can be empty, there is a tree.
 use Rattle.std.proofs.Common.{ℕ, zero, suc, Bool, true, false, cond, ◌||◌, ◌≡◌, refl, Option, Some, None, option_and_then, List, [], ◌∷◌, ◌++◌, ap, sym, ◌∙◌, append_assoc, subst}
 use Rattle.std.proofs.lemmas.Bool.{and_parts, cond-true, cond-false, false≢true}
-use Rattle.weld_terminals.specs.declared.class.Class.{Class}
+use Rattle.weld_grammar.specs.declared.terminals.class.Class.{Class}
 use Rattle.weld_grammar.specs.declared.rule.Rule.{Rule}
 use Rattle.weld_grammar.specs.declared.item.Item.{Item}
 use Rattle.weld_grammar.specs.declared.item.Item.TheVariants.{One, Part as OfRule, Optional, Repeated}

@@ -2,7 +2,7 @@
 -- and a tree of it yields the rest.
 use Rattle.std.proofs.Common.{ℕ, zero, suc, true, false, ◌&&◌, ◌≡◌, refl, Some, option_and_then, List, [], ◌∷◌, ◌++◌, ap, sym, ◌∙◌, append_assoc, subst}
 use Rattle.std.proofs.lemmas.Bool.{and_parts, and_from, or_left, or_right, cond-true, cond-false, false≢true}
-use Rattle.weld_terminals.specs.declared.class.Class.{Class}
+use Rattle.weld_grammar.specs.declared.terminals.class.Class.{Class}
 use Rattle.weld_grammar.specs.declared.rule.Rule.{Rule}
 use Rattle.weld_grammar.specs.declared.item.Item.{Item}
 use Rattle.weld_grammar.specs.declared.item.Item.TheVariants.{One, Part as OfRule, Optional, Repeated}

@@ -1,11 +1,11 @@
 -- What may begin an item, and what can be empty (the Weld papers).
 use Rattle.std.specs.Prelude.{Bool, true, false, ◌||◌}
-use Rattle.weld_terminals.specs.declared.class.Class.{Class}
-use Rattle.weld_terminals.specs.declared.class.Class.TheVariants as classes
-use Rattle.weld_terminals.specs.declared.symbol.Symbol.{Symbol}
-use Rattle.weld_terminals.specs.declared.symbol.Symbol.TheVariants as s
-use Rattle.weld_terminals.specs.declared.reserved.Reserved.{Reserved}
-use Rattle.weld_terminals.specs.declared.reserved.Reserved.TheVariants as w
+use Rattle.weld_grammar.specs.declared.terminals.class.Class.{Class}
+use Rattle.weld_grammar.specs.declared.terminals.class.Class.TheVariants as classes
+use Rattle.weld_grammar.specs.declared.terminals.symbol.Symbol.{Symbol}
+use Rattle.weld_grammar.specs.declared.terminals.symbol.Symbol.TheVariants as s
+use Rattle.weld_grammar.specs.declared.terminals.reserved.Reserved.{Reserved}
+use Rattle.weld_grammar.specs.declared.terminals.reserved.Reserved.TheVariants as w
 use Rattle.weld_grammar.specs.declared.terminal.Terminal.TheVariants.{Sign, Fixed, Word}
 use Rattle.weld_grammar.specs.declared.rule.Rule.{Rule}
 use Rattle.weld_grammar.specs.declared.rule.Rule.TheVariants.{Program, WithoutParams, WithParams, NextParam, Param, Expr, Let, Note, Or, OrPart, And, AndPart, Equality, EqualityPart, EqualityOp, Relation, RelationPart, RelationOp, Sum, SumPart, SumOp, Product, ProductPart, ProductOp, Unary, Minus, Minused, Not, Post, FieldPart, Primary, Paren, MakeVec, MakeStruct, NextExpr, If, Select, LookUp, KeyExists, Len, Slice, Merge, Finish, For, Iterate, Cast, Rows, Zip, NextLeg, Leg, Iter, Bind, Build, ListBuild, TotalBuild, KeyedBuild, CellsBuild, GroupsBuild, Start, AnyType, VecType, StructType, NextType, DictType, ListType, TotalType, KeyedType, CellsType, GroupsType, ListWord, GroupsWord, MergeOp, Kind, IntKind}

@@ -1,7 +1,7 @@
 -- What the grammar sees of tokens.
 use Rattle.std.specs.Prelude.{List, map}
-use Rattle.weld_terminals.specs.declared.class.Class.{Class}
-use Rattle.weld_terminals.specs.declared.token.Token.{Token}
+use Rattle.weld_grammar.specs.declared.terminals.class.Class.{Class}
+use Rattle.weld_grammar.specs.declared.terminals.token.Token.{Token}
 
 -- the classes of tokens
 abbrev pub classes : List Token → List Class

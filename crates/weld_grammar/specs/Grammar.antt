@@ -1,14 +1,14 @@
 -- The grammar of Weld programs, as a table (the Weld papers): one line for each production, and for each
 -- alternative and each optional or repeated part of one.
 use Rattle.std.specs.Prelude.{Bool, true, false, List, [], ◌∷◌}
-use Rattle.weld_terminals.specs.declared.class.Class.{Class}
-use Rattle.weld_terminals.specs.declared.class.Class.TheVariants as classes
-use Rattle.weld_terminals.specs.declared.symbol.Symbol.{Symbol}
-use Rattle.weld_terminals.specs.declared.symbol.Symbol.TheVariants as s
-use Rattle.weld_terminals.specs.declared.reserved.Reserved.{Reserved}
-use Rattle.weld_terminals.specs.declared.reserved.Reserved.TheVariants as w
-use Rattle.weld_terminals.specs.Symbols.{same_symbol}
-use Rattle.weld_terminals.specs.ReservedWords.{same_reserved}
+use Rattle.weld_grammar.specs.declared.terminals.class.Class.{Class}
+use Rattle.weld_grammar.specs.declared.terminals.class.Class.TheVariants as classes
+use Rattle.weld_grammar.specs.declared.terminals.symbol.Symbol.{Symbol}
+use Rattle.weld_grammar.specs.declared.terminals.symbol.Symbol.TheVariants as s
+use Rattle.weld_grammar.specs.declared.terminals.reserved.Reserved.{Reserved}
+use Rattle.weld_grammar.specs.declared.terminals.reserved.Reserved.TheVariants as w
+use Rattle.weld_grammar.specs.Symbols.{same_symbol}
+use Rattle.weld_grammar.specs.ReservedWords.{same_reserved}
 use Rattle.weld_grammar.specs.declared.terminal.Terminal.{Terminal}
 use Rattle.weld_grammar.specs.declared.terminal.Terminal.TheVariants.{Sign, Fixed, Word, Name, Number, Field, Chars}
 use Rattle.weld_grammar.specs.declared.rule.Rule.{Rule}

@@ -1,3 +1,6 @@
+pub mod Symbols
+pub mod ReservedWords
+pub mod Words
 pub mod Grammar
 pub mod Classes
 pub mod Begins

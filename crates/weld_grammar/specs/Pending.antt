@@ -1,6 +1,6 @@
 -- What is still to be derived after some tokens (the Weld papers). It knows nothing of trees.
 use Rattle.std.specs.Prelude.{ℕ, suc, zero, Bool, true, ◌&&◌, if◌then◌else◌, Option, Some, None, option_and_then, List, [], ◌∷◌, ◌++◌}
-use Rattle.weld_terminals.specs.declared.class.Class.{Class}
+use Rattle.weld_grammar.specs.declared.terminals.class.Class.{Class}
 use Rattle.weld_grammar.specs.declared.terminal.Terminal.TheVariants.{Word}
 use Rattle.weld_grammar.specs.declared.rule.Rule.{Rule}
 use Rattle.weld_grammar.specs.declared.item.Item.{Item}

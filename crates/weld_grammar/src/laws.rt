@@ -1,6 +1,6 @@
 //! Laws of the grammar. Each function's contract is the law; its body does nothing.
 ghost use Rattle.std.specs.Prelude.{◌≡◌, ◌||◌, ◌∷◌, ◌++◌, ℕ, List, Some, IsSome, IsTrue};
-ghost use Rattle.weld_terminals.specs.declared.class.Class.{Class};
+ghost use Rattle.weld_grammar.specs.declared.terminals.class.Class.{Class};
 ghost use Rattle.weld_grammar.specs.declared.rule.Rule.{Rule};
 ghost use Rattle.weld_grammar.specs.declared.item.Item.{Item};
 ghost use Rattle.weld_grammar.specs.declared.item.Item.TheVariants.{One, Part as OfRule, Optional, Repeated};

@@ -6,6 +6,7 @@ pub mod item;
 pub mod laws;
 pub mod rule;
 pub mod terminal;
+pub mod terminals;
 
 pub use item::Item;
 pub use rule::Rule;

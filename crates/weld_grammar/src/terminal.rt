@@ -1,4 +1,4 @@
-use weld_terminals::{Reserved, Symbol};
+use crate::terminals::{Reserved, Symbol};
 
 /// A terminal of the grammar: what one token has to be.
 #[derive(Clone, Copy)]

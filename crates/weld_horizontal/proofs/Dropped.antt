@@ -3,7 +3,7 @@ use Rattle.std.proofs.Common.{◌≡◌, ◌<◌, Bool, true, false, ◌&&◌, S
 use borrow.Author.Tests.{ltb-true}
 use Rattle.weld_tree.specs.declared.binder.Binder.{Binder}
 use Rattle.weld_tree.specs.ExprTree.{At, ExprTree, loop, LegTree, LegTrees, pack_legs}
-use Rattle.weld_twice.specs.Twice.{Places, twice, once}
+use Rattle.weld_horizontal.specs.Twice.{Places, twice, once}
 use Rattle.weld_horizontal.specs.Doubles.{are_few, is_double, once_by, without_double}
 use Rattle.weld_horizontal.proofs.PlaceLemmas.{are_few_is}
 

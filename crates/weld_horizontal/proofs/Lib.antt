@@ -1,3 +1,11 @@
+pub mod Columns
+pub mod Legs
+pub mod RowItems
+pub mod RowHolds
+pub mod TwiceRule
+pub mod Cases
+pub mod PickRule
+pub mod PickedCases
 pub mod PlaceLemmas
 pub mod RowLemmas
 pub mod Weights

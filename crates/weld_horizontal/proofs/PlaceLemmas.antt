@@ -6,7 +6,7 @@ use Rattle.weld_tree.specs.ExprView.{view_leg}
 use Rattle.weld_tree.specs.declared.expr.Leg.{Leg}
 use Rattle.std.specs.Prelude.{nat_lt}
 use Rattle.weld_horizontal.specs.Doubles.{are_few}
-use Rattle.weld_twice.specs.Twice.{Places, leg_name, is_that, place_in, place_of, behind_one, or_behind, twice, items, count}
+use Rattle.weld_horizontal.specs.Twice.{Places, leg_name, is_that, place_in, place_of, behind_one, or_behind, twice, items, count}
 
 -- ---- one place
 

@@ -7,11 +7,11 @@ use Rattle.weld_tree.specs.TypeTree.{TypeTree, TypeTrees, struct, more_types, pa
 use Rattle.weld_tree.specs.ExprTree.{ExprTree, LegTree, leaf, one, name, field, pack_exprs, pack_legs, more_exprs, more_legs}
 use Rattle.weld_tree.specs.ExprView.{view_leg}
 use Rattle.weld_tree.specs.declared.expr.Leg.{Leg}
-use Rattle.weld_putting.specs.Redex.{is_plain}
-use Rattle.weld_picked.specs.Picked.{all_plain, has_nth, nth_or}
+use Rattle.weld_substitution.specs.Redex.{is_plain}
+use Rattle.weld_horizontal.specs.Picked.{all_plain, has_nth, nth_or}
 use Rattle.weld_horizontal.specs.declared.places.LegPlaces.{LegPlaces}
 use Rattle.weld_horizontal.specs.Doubles.{as_places}
-use Rattle.weld_twice.specs.Twice.{node_of, item_at, items_from, items, leg_item, without_leg, type_at, with_type, with_expr}
+use Rattle.weld_horizontal.specs.Twice.{node_of, item_at, items_from, items, leg_item, without_leg, type_at, with_type, with_expr}
 
 -- ---- the items of a row
 

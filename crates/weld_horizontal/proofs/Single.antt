@@ -3,14 +3,14 @@ use Rattle.std.proofs.Common.{◌≡◌, ℕ, zero, suc, ◌<◌, ◌≤◌, ◌
 use borrow.Author.Tests.{ltb-true}
 use Rattle.weld_tree.specs.declared.binder.Binder.{Binder}
 use Rattle.weld_tree.specs.ExprTree.{At, ExprTree, leaf, one, two, three, many, let_in, loop, iterate, LegTrees, no_legs, more_legs}
-use Rattle.weld_sweep.specs.Sweep.{RootRule, swept, swept_times}
-use Rattle.weld_replacing.specs.Tidy.{IsTidy}
-use Rattle.weld_replacing.specs.Within.{StaysWithin}
-use Rattle.weld_replacing.specs.Rewriting.{Rewrites}
-use Rattle.weld_rounds.specs.Weight.{weight}
-use Rattle.weld_rounds.specs.Rules.{IsSound}
-use Rattle.weld_picked.specs.Picked.{is_pick, picked}
-use Rattle.weld_twice.specs.Twice.{Places, leg_name, place_in, place_of, is_that, or_behind, behind_one, twice, items, count, without_leg, rebuilt, once, IsTwice}
+use Rattle.weld_rewriting.specs.Sweep.{RootRule, swept, swept_times}
+use Rattle.weld_rewriting.specs.Tidy.{IsTidy}
+use Rattle.weld_rewriting.specs.Within.{StaysWithin}
+use Rattle.weld_rewriting.specs.Rewriting.{Rewrites}
+use Rattle.weld_rewriting.specs.Weight.{weight}
+use Rattle.weld_rewriting.specs.Rules.{IsSound}
+use Rattle.weld_horizontal.specs.Picked.{is_pick, picked}
+use Rattle.weld_horizontal.specs.Twice.{Places, leg_name, place_in, place_of, is_that, or_behind, behind_one, twice, items, count, without_leg, rebuilt, once, IsTwice}
 use Rattle.weld_horizontal.specs.Doubles.{picks_rule, are_few, is_double, once_by, without_double, single}
 use Rattle.weld_horizontal.proofs.Weights.{weight_put, rebuilt_weight, without_weight, without_count, picked_weight, Keeps, swept_keeps}
 

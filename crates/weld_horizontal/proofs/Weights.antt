@@ -4,10 +4,10 @@ use Rattle.weld_tree.specs.declared.place.Place.{Place}
 use Rattle.weld_tree.specs.TypeTree.{TypeTree, TypeTrees, no_types, more_types}
 use Rattle.weld_tree.specs.ExprTree.{At, ExprTree, leaf, one, two, three, many, let_in, loop, iterate, ExprTrees, no_exprs, more_exprs, LegTree, whole, strided, LegTrees, no_legs, more_legs, Leaf, int, truth, chars, name, fresh, One, make_vec, make_struct}
 use Rattle.weld_meaning.specs.Names.{put_in_leaf, put, put_in_all, put_in_leg, put_in_legs}
-use Rattle.weld_sweep.specs.Sweep.{RootRule, or_same, settled, swept, all_swept, leg_swept, legs_swept}
-use Rattle.weld_rounds.specs.Weight.{weight, weight_in, weight_in_leg, weight_in_legs}
-use Rattle.weld_picked.specs.Picked.{field_number, made_of, all_plain, has_nth, nth_or, is_pick_from, is_pick, picked_from, picked}
-use Rattle.weld_twice.specs.Twice.{Places, item_at, items_from, with_expr, rebuilt, items, count, without_leg}
+use Rattle.weld_rewriting.specs.Sweep.{RootRule, or_same, settled, swept, all_swept, leg_swept, legs_swept}
+use Rattle.weld_rewriting.specs.Weight.{weight, weight_in, weight_in_leg, weight_in_legs}
+use Rattle.weld_horizontal.specs.Picked.{field_number, made_of, all_plain, has_nth, nth_or, is_pick_from, is_pick, picked_from, picked}
+use Rattle.weld_horizontal.specs.Twice.{Places, item_at, items_from, with_expr, rebuilt, items, count, without_leg}
 
 both : (a b : Bool) → (a && b) ≡ true → (a ≡ true) × (b ≡ true)
 both true b h = (refl, h)

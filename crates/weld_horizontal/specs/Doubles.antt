@@ -2,11 +2,11 @@
 use Rattle.std.specs.Prelude.{◌≡◌, ◌^◌, nat_lt, Bool, false, ◌&&◌, Option, Some, None, is_some, option_map}
 use Rattle.weld_tree.specs.declared.binder.Binder.{Binder}
 use Rattle.weld_tree.specs.ExprTree.{At, ExprTree, leaf, one, two, three, many, let_in, loop, iterate, LegTrees}
-use Rattle.weld_sweep.specs.Nodes.{EachNode}
-use Rattle.weld_sweep.specs.Sweep.{RootRule, swept}
-use Rattle.weld_pass.specs.Tested.{tested}
-use Rattle.weld_picked.specs.Picked.{is_pick, picked}
-use Rattle.weld_twice.specs.Twice.{Places, twice, items, count, once}
+use Rattle.weld_rewriting.specs.Nodes.{EachNode}
+use Rattle.weld_rewriting.specs.Sweep.{RootRule, swept}
+use Rattle.weld_rewriting.specs.Tested.{tested}
+use Rattle.weld_horizontal.specs.Picked.{is_pick, picked}
+use Rattle.weld_horizontal.specs.Twice.{Places, twice, items, count, once}
 use Rattle.weld_horizontal.specs.declared.places.LegPlaces.{LegPlaces}
 
 -- ---- fields of structs that are made there

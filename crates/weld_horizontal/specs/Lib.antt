@@ -1,1 +1,3 @@
+pub mod Twice
+pub mod Picked
 pub mod Doubles

@@ -3,7 +3,7 @@
 ghost use Rattle.std.specs.Prelude.{◌≡◌, ◌+◌, ◌<◌, ◌^◌, is_some, length, map, true, IfOk};
 ghost use Rattle.weld_tree.specs.ExprTree.{pack_legs};
 ghost use Rattle.weld_tree.specs.ExprView.{view_leg};
-ghost use Rattle.weld_twice.specs.Twice.{bare, items, rebuilt, twice, without_leg};
+ghost use Rattle.weld_horizontal.specs.Twice.{bare, items, rebuilt, twice, without_leg};
 ghost use Rattle.weld_horizontal.specs.Doubles.{are_few, is_double, of_places, without_double};
 
 use crate::picks::Picks;
@@ -11,8 +11,8 @@ use crate::places::{LegPlaces, twice};
 use crate::row::{items_of, rebuilt};
 use std::alloc::{AllocError, Global};
 use std::mem;
+use weld_rewriting::sweep::{Rule, sweep};
 use weld_substitution::put_in;
-use weld_sweep::{Rule, sweep};
 use weld_tree::{Binder, Expr, Form, Leg, Legs, Place, Sym};
 
 /// In a loop in which a leg is a name that stands twice, it stands once.

@@ -2,16 +2,16 @@
 
 ghost use Rattle.std.specs.Prelude.{◌≤◌};
 ghost use Rattle.weld_tree.specs.ExprTree.{ExprTree};
-ghost use Rattle.weld_rounds.specs.Rules.{Falls, IsSound};
-ghost use Rattle.weld_rounds.specs.Weight.{weight};
-ghost use Rattle.weld_sweep.specs.Sweep.{IsStill, swept};
+ghost use Rattle.weld_rewriting.specs.Rules.{Falls, IsSound};
+ghost use Rattle.weld_rewriting.specs.Weight.{weight};
+ghost use Rattle.weld_rewriting.specs.Sweep.{IsStill, swept};
 ghost use Rattle.weld_horizontal.specs.Doubles.{doubles_rule, picks_rule, HasNoDouble};
 
-use weld_pass::laws::rules_are_tests;
-use weld_picked::laws::fields_are_picked;
-use weld_replacing::laws::{rewriting_is_an_order, tidiness_is_kept};
-use weld_rounds::laws::rounds_rewrite;
-use weld_twice::laws::legs_stand_once;
+use crate::picked::fields_are_picked;
+use crate::twice::legs_stand_once;
+use weld_rewriting::pass::laws::rules_are_tests;
+use weld_rewriting::replacing::{rewriting_is_an_order, tidiness_is_kept};
+use weld_rewriting::rounds::laws::rounds_rewrite;
 
 /// What the rule of fields answers may take the field's place. A sweep with it makes nothing heavier
 /// (nor lighter: a struct that is made of plain expressions weighs nothing, as they do).

@@ -4,10 +4,12 @@
 mod doubles;
 pub mod laws;
 mod pass;
+pub mod picked;
 mod picks;
 mod places;
 mod plain;
 mod row;
+pub mod twice;
 
 pub use doubles::Doubles;
 pub use pass::join_legs;

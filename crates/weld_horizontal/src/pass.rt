@@ -2,14 +2,14 @@
 
 ghost use Rattle.std.specs.Prelude.{IfOk};
 ghost use Rattle.weld_check_types.specs.Notes.{ProgramIsNoted};
-ghost use Rattle.weld_pass.specs.Passed.{IsPassed};
+ghost use Rattle.weld_rewriting.specs.Passed.{IsPassed};
 ghost use Rattle.weld_horizontal.specs.Doubles.{HasNoDouble};
 
 use crate::doubles::Doubles;
 use crate::laws::legs_may_stand_once;
 use std::alloc::{AllocError, Global};
 use weld_meaning::Accepted;
-use weld_pass::run_pass;
+use weld_rewriting::pass::run_pass;
 
 /// The program with each leg once (the Weld papers): where a leg of a loop is a name that stands
 /// again, whole, in the same loop, the second goes; in the body a field of the row is the field of

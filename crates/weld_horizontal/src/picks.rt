@@ -2,12 +2,12 @@
 
 ghost use Rattle.std.specs.Prelude.{◌≡◌, true};
 ghost use Rattle.weld_tree.specs.ExprTree.{ExprTree, pack_exprs};
-ghost use Rattle.weld_picked.specs.Picked.{has_nth, is_pick, is_pick_from, made_of, nth_or, picked, picked_from};
+ghost use Rattle.weld_horizontal.specs.Picked.{has_nth, is_pick, is_pick_from, made_of, nth_or, picked, picked_from};
 
 use crate::plain::all_plain;
 use std::alloc::{AllocError, Global};
 use std::mem;
-use weld_sweep::Rule;
+use weld_rewriting::sweep::Rule;
 use weld_tree::{Expr, Exprs, Form, ManyForm, OneForm};
 
 /// A field of a struct that is made there of plain expressions is the expression of that field.

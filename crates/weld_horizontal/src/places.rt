@@ -3,7 +3,7 @@
 ghost use Rattle.std.specs.Prelude.{◌≡◌, ◌<◌, length, map, IfSome, option_map};
 ghost use Rattle.weld_tree.specs.ExprTree.{pack_legs};
 ghost use Rattle.weld_tree.specs.ExprView.{view_leg};
-ghost use Rattle.weld_twice.specs.Twice.{is_that, leg_name, name_of, place_in, place_of, twice};
+ghost use Rattle.weld_horizontal.specs.Twice.{is_that, leg_name, name_of, place_in, place_of, twice};
 ghost use Rattle.weld_horizontal.specs.Doubles.{as_places};
 
 use weld_tree::{Expr, Form, LeafForm, Leg, Sym};

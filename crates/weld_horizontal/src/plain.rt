@@ -1,8 +1,8 @@
 //! Plain values: names, names followed by field accesses, number and truth literals.
 
 ghost use Rattle.std.specs.Prelude.{◌≡◌};
-ghost use Rattle.weld_putting.specs.Redex.{is_chain, is_field, is_name_leaf, is_plain, is_plain_leaf};
-ghost use Rattle.weld_picked.specs.Picked.{all_plain};
+ghost use Rattle.weld_substitution.specs.Redex.{is_chain, is_field, is_name_leaf, is_plain, is_plain_leaf};
+ghost use Rattle.weld_horizontal.specs.Picked.{all_plain};
 ghost use Rattle.weld_tree.specs.ExprTree.{pack_exprs};
 ghost use Rattle.weld_tree.specs.ExprView.{view_leaf, view_one};
 

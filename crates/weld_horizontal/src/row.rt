@@ -4,7 +4,7 @@ ghost use Rattle.std.specs.Prelude.{◌≡◌, ◌<◌, ◌≤◌, ◌^◌, leng
 ghost use Rattle.weld_tree.specs.TypeTree.{pack, struct};
 ghost use Rattle.weld_tree.specs.ExprTree.{leaf, make_struct, many, name, pack_exprs, pack_legs};
 ghost use Rattle.weld_tree.specs.ExprView.{view_leg};
-ghost use Rattle.weld_twice.specs.Twice.{item_at, item_of, item_of_type, items, items_from, leg_item, node_of, rebuilt, type_at, with_expr, with_type};
+ghost use Rattle.weld_horizontal.specs.Twice.{item_at, item_of, item_of_type, items, items_from, leg_item, node_of, rebuilt, type_at, with_expr, with_type};
 ghost use Rattle.weld_horizontal.specs.Doubles.{of_places};
 
 use crate::places::LegPlaces;

@@ -3,9 +3,9 @@ use Rattle.std.proofs.Common.{◌≡◌, ℕ, ◌+◌, ◌*◌, ◌<◌, ◌==�
 use Rattle.weld_tree.specs.ExprTree.{At, ExprTree, leaf, one, two, three, many, let_in, loop, iterate, ExprTrees, no_exprs, more_exprs, LegTree, whole, strided, LegTrees, no_legs, more_legs, Leaf, int, truth, chars, name, fresh}
 use Rattle.weld_meaning.specs.Names.{put_in_leaf, put, put_in_all, put_in_leg, put_in_legs}
 use Rattle.weld_substitution.specs.Uses.{uses, uses_in, uses_in_leg, uses_in_legs}
-use Rattle.weld_rounds.specs.Weight.{weight, weight_in, weight_in_leg, weight_in_legs}
-use Rattle.weld_putting.specs.Redex.{is_field, is_chain, is_plain, is_used_well, stands, spot_of, is_redex}
-use Rattle.weld_putting.specs.declared.spot.Spot.TheVariants.{Other}
+use Rattle.weld_rewriting.specs.Weight.{weight, weight_in, weight_in_leg, weight_in_legs}
+use Rattle.weld_substitution.specs.Redex.{is_field, is_chain, is_plain, is_used_well, stands, spot_of, is_redex}
+use Rattle.weld_substitution.specs.declared.put_anywhere.spot.Spot.TheVariants.{Other}
 use Rattle.weld_inline.specs.Inlining.{opened}
 use Rattle.weld_inline.proofs.Once.{one_of}
 

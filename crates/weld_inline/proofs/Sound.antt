@@ -3,9 +3,9 @@ use Rattle.std.proofs.Common.{◌≡◌, true, ◌⊎◌, inl, inr}
 use Rattle.weld_tree.specs.declared.binder.Binder.{Binder}
 use Rattle.weld_tree.specs.ExprTree.{At, ExprTree, leaf, one, two, three, many, let_in, loop, iterate}
 use Rattle.weld_meaning.specs.Names.{put}
-use Rattle.weld_replacing.specs.Tidy.{IsTidy}
-use Rattle.weld_replacing.specs.Rewriting.{Rewrites}
-use Rattle.weld_putting.specs.Redex.{is_plain, is_used_well, is_redex}
+use Rattle.weld_rewriting.specs.Tidy.{IsTidy}
+use Rattle.weld_rewriting.specs.Rewriting.{Rewrites}
+use Rattle.weld_substitution.specs.Redex.{is_plain, is_used_well, is_redex}
 use Rattle.weld_inline.specs.Inlining.{opened}
 use Rattle.weld_inline.proofs.Falling.{why}
 

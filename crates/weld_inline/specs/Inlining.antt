@@ -2,10 +2,10 @@
 use Rattle.std.specs.Prelude.{◌≡◌, false}
 use Rattle.weld_tree.specs.ExprTree.{ExprTree, leaf, one, two, three, many, let_in, loop, iterate}
 use Rattle.weld_meaning.specs.Names.{put}
-use Rattle.weld_sweep.specs.Nodes.{EachNode}
-use Rattle.weld_sweep.specs.Sweep.{RootRule}
-use Rattle.weld_pass.specs.Tested.{tested}
-use Rattle.weld_putting.specs.Redex.{is_redex}
+use Rattle.weld_rewriting.specs.Nodes.{EachNode}
+use Rattle.weld_rewriting.specs.Sweep.{RootRule}
+use Rattle.weld_rewriting.specs.Tested.{tested}
+use Rattle.weld_substitution.specs.Redex.{is_redex}
 
 -- the body of a `let` with the value for each use of the name; what isn't a `let` stays
 abbrev pub opened : ExprTree → ExprTree

@@ -1,7 +1,7 @@
 //! Whether a loop stands in an expression.
 
 ghost use Rattle.std.specs.Prelude.{◌≡◌};
-ghost use Rattle.weld_putting.specs.Redex.{has_loop, some_has_loop};
+ghost use Rattle.weld_substitution.specs.Redex.{has_loop, some_has_loop};
 ghost use Rattle.weld_tree.specs.ExprTree.{pack_exprs};
 
 use weld_tree::{Expr, Exprs, Form};

@@ -2,14 +2,14 @@
 
 ghost use Rattle.std.specs.Prelude.{IfOk};
 ghost use Rattle.weld_check_types.specs.Notes.{ProgramIsNoted};
-ghost use Rattle.weld_pass.specs.Passed.{IsPassed};
+ghost use Rattle.weld_rewriting.specs.Passed.{IsPassed};
 ghost use Rattle.weld_inline.specs.Inlining.{HasNoSuchLet};
 
 use crate::laws::lets_may_be_rewritten;
 use crate::rule::Lets;
 use std::alloc::{AllocError, Global};
 use weld_meaning::Accepted;
-use weld_pass::run_pass;
+use weld_rewriting::pass::run_pass;
 
 /// The program with lets put in their place (the Weld papers): those of a plain value, which is a
 /// name, a name followed by field accesses, or a number or truth literal; and those whose name is

@@ -1,12 +1,12 @@
 //! The lets that are put in their place.
 
 ghost use Rattle.std.specs.Prelude.{◌≡◌};
-ghost use Rattle.weld_putting.specs.Redex.{is_known_value, is_redex, is_used_well, may_stand, stands};
+ghost use Rattle.weld_substitution.specs.Redex.{is_known_value, is_redex, is_used_well, may_stand, stands};
 
 use crate::loops_within::has_loop;
 use crate::plain::is_plain;
 use crate::spots::spot_of;
-use weld_putting::Spot;
+use weld_substitution::put_anywhere::Spot;
 use weld_substitution::uses_of;
 use weld_tree::{Expr, Form, Known, Sym};
 

@@ -6,8 +6,8 @@ ghost use Rattle.weld_inline.specs.Inlining.{lets_rule, opened};
 use crate::redex::is_redex;
 use std::alloc::{AllocError, Global};
 use std::mem;
+use weld_rewriting::sweep::Rule;
 use weld_substitution::put_in;
-use weld_sweep::Rule;
 use weld_tree::{Expr, Form, Known, LeafForm};
 
 /// A `let` of a plain value, or one whose name is used once where the value may stand, becomes its

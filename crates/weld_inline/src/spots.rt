@@ -1,12 +1,12 @@
 //! Where the one use of a name stands.
 
 ghost use Rattle.std.specs.Prelude.{◌≡◌};
-ghost use Rattle.weld_putting.specs.declared.spot.Spot.TheVariants.{Other};
-ghost use Rattle.weld_putting.specs.Redex.{only_where, or_else, spot_among, spot_below, spot_in_leg, spot_in_legs, spot_of, takes_all, takes_both};
+ghost use Rattle.weld_substitution.specs.declared.put_anywhere.spot.Spot.TheVariants.{Other};
+ghost use Rattle.weld_substitution.specs.Redex.{only_where, or_else, spot_among, spot_below, spot_in_leg, spot_in_legs, spot_of, takes_all, takes_both};
 ghost use Rattle.weld_tree.specs.ExprTree.{pack_exprs, pack_legs};
 ghost use Rattle.weld_tree.specs.ExprView.{view_leg, view_one, view_three, view_two};
 
-use weld_putting::Spot;
+use weld_substitution::put_anywhere::Spot;
 use weld_tree::{Expr, Exprs, Form, LeafForm, Leg, Legs, OneForm, Sym, ThreeForm, TwoForm};
 
 /// Where the first use of the name stands, if the way to it passes no lambda, no arm of an `if` and

@@ -8,9 +8,9 @@ use Rattle.weld_data.specs.Value.{Value}
 use Rattle.weld_tree.specs.declared.code.Code.{Code}
 use Rattle.weld_tree.specs.declared.code.Code.TheVariants as codes_of
 use Rattle.weld_job.specs.Job.{Block}
-use Rattle.weld_arguments.specs.declared.stop.DataStop.{DataStop}
-use Rattle.weld_arguments.specs.declared.stop.DataStop.TheVariants.{Unfit, Memory}
-use Rattle.weld_arguments.specs.Arguments.{Tells}
+use Rattle.weld_inputs.specs.declared.arguments.stop.DataStop.{DataStop}
+use Rattle.weld_inputs.specs.declared.arguments.stop.DataStop.TheVariants.{Unfit, Memory}
+use Rattle.weld_inputs.specs.Arguments.{Tells}
 use Rattle.weld_script.specs.declared.made.Declared.{Declared}
 use Rattle.weld_script.specs.declared.made.Made.{Made}
 use Rattle.weld_script.specs.declared.made.Made.TheVariants as makes

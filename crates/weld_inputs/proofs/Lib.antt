@@ -1,2 +1,4 @@
+pub mod ArgumentsBlocks
+pub mod ArgumentsOneAnswer
 mod Blocks
 mod OneAnswer

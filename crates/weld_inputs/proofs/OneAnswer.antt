@@ -9,7 +9,7 @@ use Rattle.weld_job.specs.Job.{Job}
 use Rattle.weld_job.specs.Job.{Block}
 use Rattle.weld_job.specs.declared.block.BlockForm.{BlockForm}
 use Rattle.weld_job.specs.declared.block.BlockForm.TheVariants as forms
-use Rattle.weld_fits.specs.HasValue.{HasValue}
+use Rattle.weld_tree.specs.HasValue.{HasValue}
 use Rattle.weld_values.specs.Reading.{ReadsAs, WhyNot}
 use Rattle.weld_values.specs.Judging.{IsReadable}
 use Rattle.weld_values.specs.declared.fault.DataFault.{DataFault}
@@ -19,7 +19,7 @@ use Rattle.weld_table.specs.declared.wanted.Wanted.TheVariants.{Named}
 use Rattle.weld_table.specs.declared.fault.TableFault.{TableFault}
 use Rattle.weld_table.specs.declared.fault.TableFault.TheVariants as tables
 use Rattle.weld_table.specs.Table.{TableReads, TableFails, AreCells, type_of_table}
-use Rattle.weld_arguments.specs.Arguments.{IsCode, IsTableCode}
+use Rattle.weld_inputs.specs.Arguments.{IsCode, IsTableCode}
 use Rattle.weld_script.specs.declared.made.Declared.{Declared}
 use Rattle.weld_script.specs.declared.made.Declared.TheVariants.{Input, Table}
 use Rattle.weld_script.specs.Script.{IsDeclared, AreDeclared, AreInputs, declared_type}

@@ -13,7 +13,7 @@ use Rattle.weld_values.specs.declared.fault.DataFault.{DataFault}
 use Rattle.weld_table.specs.declared.wanted.Wanted.TheVariants.{Named}
 use Rattle.weld_table.specs.declared.fault.TableFault.{TableFault}
 use Rattle.weld_table.specs.Table.{TableReads, TableFails}
-use Rattle.weld_arguments.specs.Arguments.{IsCode, IsTableCode}
+use Rattle.weld_inputs.specs.Arguments.{IsCode, IsTableCode}
 use Rattle.weld_script.specs.declared.made.Declared.{Declared}
 use Rattle.weld_script.specs.declared.made.Declared.TheVariants.{Input, Table}
 

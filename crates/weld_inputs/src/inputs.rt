@@ -2,15 +2,15 @@
 
 ghost use Rattle.std.specs.Prelude.{◌≡◌, ◌<◌, ◌++◌, ◌∷◌, [], ℕ, IfOk, IfErr, OnOk};
 ghost use Rattle.weld_data.specs.Value.{Value};
-ghost use Rattle.weld_arguments.specs.Arguments.{Tells};
+ghost use Rattle.weld_inputs.specs.Arguments.{Tells};
 ghost use Rattle.weld_script.specs.Script.{AreDeclared, AreInputs, IsDeclared, declared_of};
 ghost use Rattle.weld_inputs.specs.Inputs.{Gives, Fails, BlocksGive, BlocksFail, Inputs, IsUnfit};
 
+use crate::arguments::DataStop;
 use crate::block::read_block;
 use crate::laws::inputs_have_their_types;
 use std::alloc::Global;
 use std::thread::Threads;
-use weld_arguments::DataStop;
 use weld_data::Vals;
 use weld_job::{Block, Job};
 use weld_script::laws::scripts_declare;

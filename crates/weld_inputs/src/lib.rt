@@ -1,6 +1,7 @@
 //! The inputs of a script: read from the blocks of a job's data, one for each declaration.
 #![tactic(auto)]
 
+pub mod arguments;
 mod block;
 mod inputs;
 pub mod laws;

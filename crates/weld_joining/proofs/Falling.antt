@@ -2,11 +2,11 @@
 use Rattle.std.proofs.Common.{◌≡◌, ℕ, ◌+◌, ◌<◌, true, refl, sym, ap, subst}
 use Rattle.weld_tree.specs.TypeTree.{TypeTree}
 use Rattle.weld_tree.specs.ExprTree.{At, ExprTree, leaf, one, two, three, many, let_in, loop, iterate}
-use Rattle.weld_rounds.specs.Weight.{weight}
-use Rattle.weld_putting.proofs.Following.{and_true}
+use Rattle.weld_rewriting.specs.Weight.{weight}
+use Rattle.weld_substitution.proofs.Following.{and_true}
 use Rattle.weld_types.specs.Tests.{is_within_limits}
-use Rattle.weld_beside.specs.Beside.{Half, two_lets, side_by_side}
-use Rattle.weld_beside.specs.Between.{brought_up}
+use Rattle.weld_joining.specs.Beside.{Half, two_lets, side_by_side}
+use Rattle.weld_joining.specs.Between.{brought_up}
 use Rattle.weld_joining.specs.Joining.{is_pair, both_types, may_be_one, item_of, known_type, joined_neighbours, as_neighbours, joined_pair}
 use Rattle.weld_joining.proofs.TakenApart.{answer_is}
 use Rattle.weld_joining.proofs.Recognised.{pair_by}

@@ -5,11 +5,11 @@ use Rattle.weld_tree.specs.declared.known.Known.{Known}
 use Rattle.weld_tree.specs.declared.known.Known.TheVariants.{Is, Blank}
 use Rattle.weld_tree.specs.TypeTree.{TypeTree, scalar, vec, struct, dict, build}
 use Rattle.weld_tree.specs.ExprTree.{At, ExprTree, leaf, one, two, three, many, let_in, loop, iterate, whole, strided, LegTrees, no_legs, more_legs, Leaf, int, truth, chars, name, fresh, neg, not, cast, len, field, finish, started}
-use Rattle.weld_putting.specs.Redex.{noted}
+use Rattle.weld_substitution.specs.Redex.{noted}
 use Rattle.weld_substitution.specs.Uses.{uses}
-use Rattle.weld_putting.proofs.Following.{and_true}
-use Rattle.weld_beside.specs.Beside.{finish_at, Half, half_value, two_lets}
-use Rattle.weld_beside.specs.Between.{is_named_result, left_over, taken_out, may_come_up}
+use Rattle.weld_substitution.proofs.Following.{and_true}
+use Rattle.weld_joining.specs.Beside.{finish_at, Half, half_value, two_lets}
+use Rattle.weld_joining.specs.Between.{is_named_result, left_over, taken_out, may_come_up}
 use Rattle.weld_joining.specs.Joining.{name_in, name_of, only_name, is_known, loop_over, over, same_name, are_beside, is_followed, is_pair, known_type, as_neighbours}
 
 none_found : (t : ℕ) {C : Type 0} → ◌≡◌ {A = Option ℕ} None (Some t) → C

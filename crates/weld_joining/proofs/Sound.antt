@@ -3,17 +3,17 @@ use Rattle.std.proofs.Common.{◌≡◌, ℕ, Option, Some, None, true, refl, sy
 use Rattle.weld_tree.specs.TypeTree.{TypeTree}
 use Rattle.weld_tree.specs.ExprTree.{At, ExprTree, leaf, one, two, three, many, let_in, loop, iterate}
 use Rattle.weld_meaning.specs.Names.{IsFree, put}
-use Rattle.weld_replacing.specs.Shape.{IsCongruence}
-use Rattle.weld_replacing.specs.Tidy.{IsTidy}
-use Rattle.weld_replacing.specs.Rewriting.{Rewrites}
-use Rattle.weld_replacing.proofs.Rewriting.{rewrites_itself, rewrites_in_turn}
-use Rattle.weld_replacing.proofs.Tidying.{parts_tidy, within_tidy}
+use Rattle.weld_rewriting.specs.Shape.{IsCongruence}
+use Rattle.weld_rewriting.specs.Tidy.{IsTidy}
+use Rattle.weld_rewriting.specs.Rewriting.{Rewrites}
+use Rattle.weld_rewriting.proofs.Rewriting.{rewrites_itself, rewrites_in_turn}
+use Rattle.weld_rewriting.proofs.Tidying.{parts_tidy, within_tidy}
 use Rattle.weld_substitution.specs.Uses.{uses}
-use Rattle.weld_putting.proofs.Following.{and_true}
+use Rattle.weld_substitution.proofs.Following.{and_true}
 use Rattle.weld_types.specs.Tests.{is_within_limits}
-use Rattle.weld_beside.specs.Beside.{finish_at, Half, half_loop, half_value, two_lets, MayJoin, side_by_side}
-use Rattle.weld_beside.specs.Between.{brought_up, may_come_up}
-use Rattle.weld_beside.proofs.Rising.{not_free}
+use Rattle.weld_joining.specs.Beside.{finish_at, Half, half_loop, half_value, two_lets, MayJoin, side_by_side}
+use Rattle.weld_joining.specs.Between.{brought_up, may_come_up}
+use Rattle.weld_joining.proofs.Rising.{not_free}
 use Rattle.weld_joining.specs.Joining.{is_pair, both_types, may_be_one, item_of, known_type, joined_neighbours, as_neighbours, joined_pair}
 use Rattle.weld_joining.proofs.TakenApart.{answer_is}
 use Rattle.weld_joining.proofs.Recognised.{follows, pair_by}

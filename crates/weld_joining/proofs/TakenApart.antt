@@ -2,8 +2,8 @@
 use Rattle.std.proofs.Common.{◌≡◌, ℕ, false, Option, Some, None, is_some, refl, ◌∙◌}
 use Rattle.weld_tree.specs.declared.binder.Binder.{Binder}
 use Rattle.weld_tree.specs.ExprTree.{At, ExprTree, leaf, one, two, three, many, let_in, loop, iterate, LegTrees, whole, no_legs, more_legs, name, neg, not, cast, len, field, finish, started}
-use Rattle.weld_putting.specs.Redex.{noted}
-use Rattle.weld_beside.specs.Beside.{finish_at, Half, two_lets, side_by_side}
+use Rattle.weld_substitution.specs.Redex.{noted}
+use Rattle.weld_joining.specs.Beside.{finish_at, Half, two_lets, side_by_side}
 use Rattle.weld_joining.specs.Joining.{loop_over, over, item_of, known_type, result_of, loop_in, joined_loops, joined_neighbours}
 
 -- what is noted at the result of a loop, or that it is none

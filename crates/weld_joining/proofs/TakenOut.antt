@@ -2,8 +2,8 @@
 use Rattle.std.proofs.Common.{◌≡◌, true, false, ◌&&◌, if◌then◌else◌, sym, ap, subst, ◌∙◌}
 use Rattle.weld_tree.specs.declared.binder.Binder.{Binder}
 use Rattle.weld_tree.specs.ExprTree.{At, ExprTree, let_in}
-use Rattle.weld_putting.proofs.Following.{and_true}
-use Rattle.weld_beside.specs.Between.{is_named_result, left_over, taken_out, is_unused_next, may_come_up}
+use Rattle.weld_substitution.proofs.Following.{and_true}
+use Rattle.weld_joining.specs.Between.{is_named_result, left_over, taken_out, is_unused_next, may_come_up}
 use Rattle.weld_joining.specs.Joining.{are_beside, is_followed, joined_neighbours, joined_pair}
 use Rattle.weld_joining.specs.Parts.{at_of, IsNext, IsBehind}
 use Rattle.weld_joining.specs.declared.between.Next.{Next}

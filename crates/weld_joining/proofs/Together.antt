@@ -6,10 +6,10 @@ use Rattle.weld_tree.specs.TypeTree.{TypeTree, scalar}
 use Rattle.weld_tree.specs.Types.{pair_of}
 use Rattle.weld_tree.specs.ExprTree.{At, ExprTree, leaf, let_in, loop, whole, LegTrees, no_legs, more_legs, pack_legs, name}
 use Rattle.weld_meaning.specs.Names.{put}
-use Rattle.weld_putting.specs.Redex.{noted}
+use Rattle.weld_substitution.specs.Redex.{noted}
 use Rattle.weld_substitution.specs.Uses.{uses}
-use Rattle.weld_putting.proofs.Following.{and_true}
-use Rattle.weld_beside.specs.Beside.{finish_at, node_of, bare, builder_field}
+use Rattle.weld_substitution.proofs.Following.{and_true}
+use Rattle.weld_joining.specs.Beside.{finish_at, node_of, bare, builder_field}
 use Rattle.weld_joining.specs.Joining.{only_name, is_known, over, same_name, are_beside, known_type, joined_loops, joined_neighbours}
 use Rattle.weld_joining.specs.Parts.{loop_of, result_at, IsHalf, IsBoth, legs_item, pair_at, field_let, result_let, from_halves}
 use Rattle.weld_joining.specs.declared.both.Both.{Both}

@@ -7,14 +7,14 @@ use Rattle.weld_tree.specs.declared.known.Known.TheVariants.{Is, Blank}
 use Rattle.weld_tree.specs.TypeTree.{TypeTree, vec, struct, no_types}
 use Rattle.weld_tree.specs.Types.{pair_of}
 use Rattle.weld_tree.specs.ExprTree.{At, ExprTree, leaf, one, let_in, loop, LegTree, whole, LegTrees, no_legs, more_legs, Leaf, name, finish}
-use Rattle.weld_putting.specs.Redex.{noted}
+use Rattle.weld_substitution.specs.Redex.{noted}
 use Rattle.weld_types.specs.Tests.{is_within_limits}
-use Rattle.weld_sweep.specs.Nodes.{EachNode}
-use Rattle.weld_sweep.specs.Sweep.{RootRule}
-use Rattle.weld_pass.specs.Tested.{tested}
+use Rattle.weld_rewriting.specs.Nodes.{EachNode}
+use Rattle.weld_rewriting.specs.Sweep.{RootRule}
+use Rattle.weld_rewriting.specs.Tested.{tested}
 use Rattle.weld_substitution.specs.Uses.{uses}
-use Rattle.weld_beside.specs.Beside.{side_by_side}
-use Rattle.weld_beside.specs.Between.{is_named_result, brought_up, may_come_up}
+use Rattle.weld_joining.specs.Beside.{side_by_side}
+use Rattle.weld_joining.specs.Between.{is_named_result, brought_up, may_come_up}
 
 -- ---- a loop over one name, and its result
 

@@ -1,2 +1,4 @@
+pub mod Beside
+pub mod Between
 pub mod Joining
 pub mod Parts

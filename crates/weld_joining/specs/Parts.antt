@@ -7,9 +7,9 @@ use Rattle.weld_tree.specs.TypeTree.{TypeTree, scalar, struct, no_types}
 use Rattle.weld_tree.specs.Types.{pair_of}
 use Rattle.weld_tree.specs.ExprTree.{At, ExprTree, leaf, many, let_in, loop, no_exprs, more_exprs, LegTree, whole, LegTrees, no_legs, more_legs, pack_legs, name, make_struct}
 use Rattle.weld_meaning.specs.Names.{put}
-use Rattle.weld_putting.specs.Redex.{noted}
-use Rattle.weld_beside.specs.Beside.{finish_at, node_of, bare, builder_field}
-use Rattle.weld_beside.specs.Between.{left_over, taken_out}
+use Rattle.weld_substitution.specs.Redex.{noted}
+use Rattle.weld_joining.specs.Beside.{finish_at, node_of, bare, builder_field}
+use Rattle.weld_joining.specs.Between.{left_over, taken_out}
 use Rattle.weld_joining.specs.Joining.{known_type, item_of}
 use Rattle.weld_joining.specs.declared.between.Next.{Next}
 use Rattle.weld_joining.specs.declared.both.Both.{Both}

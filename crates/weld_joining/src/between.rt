@@ -1,7 +1,7 @@
 //! The second `let`, taken out from behind the lets of results of names.
 
 ghost use Rattle.std.specs.Prelude.{◌≡◌, true, IfOk};
-ghost use Rattle.weld_beside.specs.Between.{is_named_result, may_come_up};
+ghost use Rattle.weld_joining.specs.Between.{is_named_result, may_come_up};
 ghost use Rattle.weld_joining.specs.Parts.{IsBehind, IsNext};
 
 use crate::halves::Node;

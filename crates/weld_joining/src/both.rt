@@ -3,7 +3,7 @@
 ghost use Rattle.std.specs.Prelude.{◌≡◌, IfOk};
 ghost use Rattle.weld_tree.specs.ExprTree.{leaf, name as name_form};
 ghost use Rattle.weld_meaning.specs.Names.{put};
-ghost use Rattle.weld_beside.specs.Beside.{node_of};
+ghost use Rattle.weld_joining.specs.Beside.{node_of};
 ghost use Rattle.weld_joining.specs.Parts.{IsBoth, body_of_second, field_let, loop_of_both, pair_at};
 
 use crate::halves::Run;
@@ -77,8 +77,11 @@ pub(crate) fn loop_of_both(
     )?;
     let body = pair_at(alloc, place, &all, one, two)?;
     let start = both_starts(alloc, place, &all, first.start, second.start)?;
+    let pair = Box::new(alloc, pair)?;
+    let number = Box::new(alloc, first.number)?;
+    let row = Box::new(alloc, first.row)?;
     let made = Expr {
-        form: Form::For(first.legs, start, pair, first.number, first.row, body),
+        form: Form::For(first.legs, start, pair, number, row, body),
         place,
         ty: Known::Is(all),
     };

@@ -73,9 +73,9 @@ fn take_run(e: Box<Expr>) -> Run
     Run {
         legs,
         start,
-        builder,
-        number,
-        row,
+        builder: Box::into_inner(builder),
+        number: Box::into_inner(number),
+        row: Box::into_inner(row),
         body,
     }
 }

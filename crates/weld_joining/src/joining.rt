@@ -1,10 +1,10 @@
 //! The one loop in the place of both lets.
 
 ghost use Rattle.std.specs.Prelude.{◌≡◌, true, IfOk};
-ghost use Rattle.weld_beside.specs.Between.{may_come_up};
+ghost use Rattle.weld_joining.specs.Between.{may_come_up};
 ghost use Rattle.weld_joining.specs.Joining.{are_beside, is_followed, is_pair, joined_neighbours, joined_pair};
 ghost use Rattle.weld_tree.specs.ExprTree.{let_in};
-ghost use Rattle.weld_beside.specs.Beside.{builder_field};
+ghost use Rattle.weld_joining.specs.Beside.{builder_field};
 ghost use Rattle.weld_joining.specs.Parts.{at_of, from_halves, result_at, result_let};
 
 use crate::between::take_next;

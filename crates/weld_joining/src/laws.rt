@@ -1,13 +1,13 @@
 //! The law of the rule, the contract of a function that does nothing.
 
 ghost use Rattle.weld_tree.specs.ExprTree.{ExprTree};
-ghost use Rattle.weld_rounds.specs.Rules.{Falls, IsSound};
-ghost use Rattle.weld_sweep.specs.Sweep.{IsStill};
+ghost use Rattle.weld_rewriting.specs.Rules.{Falls, IsSound};
+ghost use Rattle.weld_rewriting.specs.Sweep.{IsStill};
 ghost use Rattle.weld_joining.specs.Joining.{beside_rule, HasNoPair};
 
-use weld_beside::laws::{lets_come_up, loops_may_run_side_by_side};
-use weld_pass::laws::rules_are_tests;
-use weld_replacing::laws::rewriting_goes_through_every_node;
+use crate::beside::{lets_come_up, loops_may_run_side_by_side};
+use weld_rewriting::pass::laws::rules_are_tests;
+use weld_rewriting::replacing::rewriting_goes_through_every_node;
 use weld_substitution::laws::uses_are_free;
 
 /// What the rule answers is lighter than two lets of loops over one name or of their results, with

@@ -1,6 +1,7 @@
 //! Two loops over one vector, side by side, as one loop.
 #![tactic(auto)]
 
+pub mod beside;
 mod between;
 mod both;
 mod halves;

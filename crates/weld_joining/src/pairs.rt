@@ -3,8 +3,8 @@
 ghost use Rattle.std.specs.Prelude.{◌≡◌, is_some, option_map};
 ghost use Rattle.weld_tree.specs.ExprTree.{pack_legs};
 ghost use Rattle.weld_tree.specs.ExprView.{view_leaf, view_leg, view_one};
-ghost use Rattle.weld_putting.specs.Redex.{is_chain, is_field, is_name_leaf, noted};
-ghost use Rattle.weld_beside.specs.Between.{is_named_result, is_unused_next, may_come_up};
+ghost use Rattle.weld_substitution.specs.Redex.{is_chain, is_field, is_name_leaf, noted};
+ghost use Rattle.weld_joining.specs.Between.{is_named_result, is_unused_next, may_come_up};
 ghost use Rattle.weld_joining.specs.Joining.{are_beside, is_followed, is_known, is_pair, leg_name, loop_over, name_in, name_of, only_name, over, result_of, same_name};
 
 use weld_substitution::uses_of;

@@ -6,9 +6,9 @@ ghost use Rattle.weld_tree.specs.TypeTree.{no_types, struct};
 ghost use Rattle.weld_tree.specs.Types.{pair_of};
 ghost use Rattle.weld_tree.specs.ExprView.{view_leg};
 ghost use Rattle.weld_types.specs.Tests.{is_within_limits};
-ghost use Rattle.weld_putting.specs.Redex.{noted};
-ghost use Rattle.weld_beside.specs.Beside.{bare, builder_field, finish_at, node_of};
-ghost use Rattle.weld_beside.specs.Between.{is_named_result};
+ghost use Rattle.weld_substitution.specs.Redex.{noted};
+ghost use Rattle.weld_joining.specs.Beside.{bare, builder_field, finish_at, node_of};
+ghost use Rattle.weld_joining.specs.Between.{is_named_result};
 ghost use Rattle.weld_joining.specs.Joining.{both_types, item_of, known_type, loop_type, start_type, types_after};
 ghost use Rattle.weld_joining.specs.Parts.{at_of, leg_item, legs_item, pair_at, result_at, result_let};
 

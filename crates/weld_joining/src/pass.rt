@@ -2,14 +2,14 @@
 
 ghost use Rattle.std.specs.Prelude.{IfOk};
 ghost use Rattle.weld_check_types.specs.Notes.{ProgramIsNoted};
-ghost use Rattle.weld_pass.specs.Passed.{IsPassed};
+ghost use Rattle.weld_rewriting.specs.Passed.{IsPassed};
 ghost use Rattle.weld_joining.specs.Joining.{HasNoPair};
 
 use crate::laws::loops_may_be_joined;
 use crate::rule::Beside;
 use std::alloc::{AllocError, Global};
 use weld_meaning::Accepted;
-use weld_pass::run_pass;
+use weld_rewriting::pass::run_pass;
 
 /// The program with loops side by side as one loop (the Weld papers): where two lets each bind a
 /// loop over one name or its `result`, between them stand none but lets of results of names with

@@ -4,7 +4,7 @@ use crate::joining::join;
 use crate::pairs::is_pair;
 use crate::parts::{both_types, is_within_limits};
 use std::alloc::{AllocError, Global};
-use weld_sweep::Rule;
+use weld_rewriting::sweep::Rule;
 use weld_tree::Expr;
 
 /// Two lets of loops over one name, or of their results, become one loop and lets of its fields or

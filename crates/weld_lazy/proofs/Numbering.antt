@@ -7,7 +7,7 @@ use Rattle.weld_data.specs.Value.{Value}
 use Rattle.weld_objects.specs.Objects as objects
 use Rattle.weld_objects.specs.Objects.{given, call, with_one}
 use Rattle.weld_objects.specs.Lowered.{new_binder, kept_values, params_of, value_numbers}
-use Rattle.weld_renaming.specs.Numbering.{number_in}
+use Rattle.weld_objects.specs.Numbering.{number_in}
 use Rattle.weld_lazy.specs.View.{view_object}
 use Rattle.weld_lazy.specs.Lowering.{numbered}
 use Rattle.weld_lazy.specs.declared.object.Object.{Object}

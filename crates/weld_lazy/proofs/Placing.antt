@@ -8,9 +8,9 @@ use Rattle.weld_tree.specs.ExprTree.{ExprTree}
 use Rattle.weld_tree.specs.Program.{ProgramTree, bound, IsProgram, IsOneOf, syms_of}
 use Rattle.weld_tree.specs.Blank.{distance}
 use Rattle.weld_meaning.specs.Environment.{Named, look_for}
-use Rattle.weld_renaming.specs.Renamed.{renamed, AgreeAt, ScopeAgrees}
-use Rattle.weld_renaming.specs.Numbering.{number_in}
-use Rattle.weld_renaming.proofs.Trees.{agreeing}
+use Rattle.weld_objects.specs.Renamed.{renamed, AgreeAt, ScopeAgrees}
+use Rattle.weld_objects.specs.Numbering.{number_in}
+use Rattle.weld_objects.proofs.Trees.{agreeing}
 use Rattle.weld_objects.specs.Lowered.{placed, placed_body}
 use Rattle.weld_objects.proofs.Lists.{binds_all}
 use Rattle.weld_lazy.specs.Lowering.{param_number, binder_number}

@@ -11,7 +11,7 @@ use Rattle.weld_meaning.specs.Environment.{Named}
 use Rattle.weld_meaning.specs.Typing.{ProgramHas}
 use Rattle.weld_meaning.specs.Meaning.{ArgumentsFit, meaning}
 use Rattle.weld_meaning.specs.Accepted.{IsAccepted}
-use Rattle.weld_renaming.specs.Numbering.{number_in}
+use Rattle.weld_objects.specs.Numbering.{number_in}
 use Rattle.weld_objects.specs.Objects as objects
 use Rattle.weld_objects.specs.Objects.{given, call, type_of, type_at, with_one, denote, all_done, DepsFit, AreObjectsFrom, AreObjects, AreBefore}
 use Rattle.weld_objects.specs.Reached.{IsReached, is_one_of, reached_from, reached}

@@ -13,10 +13,10 @@ use crate::graph::Graph;
 use crate::ids::{ObjectId, ids_of};
 use crate::object::{Fragment, Object};
 use std::alloc::{AllocError, Global};
-use weld_answer_type::answer_type;
 use weld_meaning::Accepted;
+use weld_objects::answer_type::answer_type;
 use weld_objects::laws::objects_grow;
-use weld_renaming::binders_of;
+use weld_objects::renaming::binders_of;
 use weld_tree::{Binder, Ty};
 
 impl Graph {

@@ -2,7 +2,7 @@
 ghost use Rattle.std.specs.Prelude.{◌≡◌, ◌+◌, ◌<◌, ◌≤◌, ◌++◌, ◌∷◌, suc, ℕ, List, [], length, map, OnOk, OnErr, IfOk};
 ghost use Rattle.weld_tree.specs.Program.{bound, IsProgram};
 ghost use Rattle.weld_meaning.specs.Environment.{look_for};
-ghost use Rattle.weld_renaming.specs.Numbering.{number_in};
+ghost use Rattle.weld_objects.specs.Numbering.{number_in};
 ghost use Rattle.weld_objects.specs.Objects.{Object as PlainObject, with_one};
 ghost use Rattle.weld_objects.specs.Lowered.{placed_body, lets};
 ghost use Rattle.weld_lazy.specs.View.{view_object, view_let};
@@ -14,7 +14,7 @@ use crate::object::Object;
 use std::alloc::{AllocError, Global};
 use std::marker::Model;
 use weld_meaning::Accepted;
-use weld_renaming::{Numbering, Syms, binders_of, renamed_copy};
+use weld_objects::renaming::{Numbering, Syms, binders_of, renamed_copy};
 use weld_tree::{Binder, Expr, Sym};
 
 /// A `let` of the program: the number that it binds, and its value.

@@ -1,7 +1,7 @@
 //! The lets of a program around the struct of what is shown.
 ghost use Rattle.std.specs.Prelude.{◌≡◌, ◌+◌, ◌<◌, ◌≤◌, ◌++◌, ◌∷◌, suc, ℕ, List, [], length, map, OnOk, IfOk};
 ghost use Rattle.weld_tree.specs.Program.{bound};
-ghost use Rattle.weld_renaming.specs.Numbering.{number_in};
+ghost use Rattle.weld_objects.specs.Numbering.{number_in};
 ghost use Rattle.weld_objects.specs.Objects.{Object as PlainObject, with_one};
 ghost use Rattle.weld_objects.specs.Lowered.{placed_body, lets, shown_struct};
 ghost use Rattle.weld_lazy.specs.View.{view_object};
@@ -14,7 +14,7 @@ use crate::object::Object;
 use crate::values::new_binder;
 use std::alloc::{AllocError, Global};
 use weld_meaning::Accepted;
-use weld_renaming::{Numbering, binders_of};
+use weld_objects::renaming::{Numbering, binders_of};
 use weld_tree::Sym;
 
 /// The lets so far, with the number of each object and the next number.

@@ -3,7 +3,7 @@ ghost use Rattle.std.specs.Prelude.{◌≡◌, ◌++◌, ◌∷◌, [], None, On
 ghost use Rattle.weld_tree.specs.Blank.{blank_at};
 ghost use Rattle.weld_tree.specs.ExprTree.{let_in, leaf, name as name_leaf};
 ghost use Rattle.weld_tree.specs.ExprView.{view_form};
-ghost use Rattle.weld_renaming.specs.Numbering.{number_in};
+ghost use Rattle.weld_objects.specs.Numbering.{number_in};
 ghost use Rattle.weld_objects.specs.Lowered.{new_binder as plain_binder, shown_struct};
 ghost use Rattle.weld_lazy.specs.Lowering.{chained};
 
@@ -11,7 +11,7 @@ use crate::calls::{LetPart, Lets};
 use crate::ids::Ids;
 use crate::values::new_binder;
 use std::alloc::{AllocError, Global};
-use weld_renaming::Numbering;
+use weld_objects::renaming::Numbering;
 use weld_tree::{Expr, Exprs, Form, Known, LeafForm, ManyForm, Place, Sym};
 
 /// An expression that stands in no text.

@@ -1,6 +1,6 @@
 //! The values that are reached, numbered as the parameters of a program.
 ghost use Rattle.std.specs.Prelude.{◌≡◌, ◌+◌, ◌<◌, ◌≤◌, ◌++◌, ◌∷◌, suc, ℕ, List, [], Some, length, map, OnOk, IfOk};
-ghost use Rattle.weld_renaming.specs.Numbering.{number_in};
+ghost use Rattle.weld_objects.specs.Numbering.{number_in};
 ghost use Rattle.weld_objects.specs.Objects.{Object as PlainObject, with_one};
 ghost use Rattle.weld_objects.specs.Lowered.{new_binder};
 ghost use Rattle.weld_lazy.specs.View.{view_object};
@@ -10,7 +10,7 @@ use crate::ids::{Ids, ObjectId};
 use crate::marks::Marks;
 use crate::object::Object;
 use std::alloc::{AllocError, Global};
-use weld_renaming::Numbering;
+use weld_objects::renaming::Numbering;
 use weld_tree::{Binder, Binders, Place, Sym, Ty};
 
 /// Which number each object has in the program, the program's parameters, and the values that are

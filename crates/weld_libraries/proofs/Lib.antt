@@ -1,3 +1,9 @@
+mod Parts
+mod Has
+mod Calls
+mod Whole
+mod Legs
+mod Arguments
 mod Places
 mod Values
 mod Adding

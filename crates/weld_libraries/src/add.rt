@@ -6,11 +6,11 @@ ghost use Rattle.weld_lazy.specs.declared.fault.LibFault.TheVariants as lib_faul
 ghost use Rattle.weld_libraries.specs.Answers.{Answers, IsMemory};
 
 use crate::fitting::{check_fit, types_of};
+use crate::fragments::fragment;
+use crate::fragments::laws::fragments_are_accepted;
 use std::alloc::Global;
 use weld_calls::Call;
 use weld_calls::laws::rows_are_short;
-use weld_fragments::fragment;
-use weld_fragments::laws::fragments_are_accepted;
 use weld_lazy::{Fragment, Graph, LazyFault, LibFault, ObjectId};
 use weld_meaning::laws::{types_are_unique, types_are_well_formed};
 use weld_objects::laws::a_call_has_one_answer;

@@ -3,5 +3,6 @@
 
 mod add;
 mod fitting;
+pub mod fragments;
 
 pub use add::add_library_call;

@@ -3,7 +3,8 @@
 //! They stand in a crate of their own, since a crate with tests is proved twice.
 #![tactic(auto)]
 
-#[cfg(test)]
 mod graphs;
+#[cfg(test)]
+pub mod lazy;
 #[cfg(test)]
 mod tests;

@@ -5,7 +5,7 @@ use Rattle.weld_data.specs.Kind.{InRange}
 use Rattle.weld_data.specs.Value.{Value, number, list, struct, dict, Values}
 use Rattle.weld_tree.specs.TypeTree.{TypeTree, TypeTrees, scalar, vec, struct as tuple, dict as mapping, build, no_types, more_types}
 use Rattle.weld_tree.specs.Types.{IsBuilderFree, AreBuilderFree, HasTypes}
-use Rattle.weld_fits.specs.HasValue.{HasValue, AllAre, IsListOf, IsStructOf}
+use Rattle.weld_tree.specs.HasValue.{HasValue, AllAre, IsListOf, IsStructOf}
 use Rattle.weld_builders.specs.Outcome.{Outcome, done, fault, stuck, and_then, map_out}
 use Rattle.weld_builders.specs.Part.{Part}
 use Rattle.weld_meaning.specs.Thing.{Thing, plain, building, several, Things, no_things, more_things, as_value}

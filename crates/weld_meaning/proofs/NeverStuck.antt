@@ -8,7 +8,7 @@ use Rattle.weld_tree.specs.declared.binder.Binder.{Binder}
 use Rattle.weld_tree.specs.TypeTree.{TypeTree, BuildTree, TypeTrees, scalar, vec, struct, dict, build, list as list_of, total, keyed, cells, groups, no_types, more_types}
 use Rattle.weld_tree.specs.Types.{IsBuilderFree, AreBuilderFree, IsBuilder, AreBuilders, HasTypes, IsWellFormed, IsWellFormedBuild, AreWellFormed, takes, gives}
 use Rattle.weld_tree.specs.ExprTree.{ExprTree, leaf, one, two, three, many, let_in, loop, iterate, ExprTrees, no_exprs, more_exprs, LegTree, whole, strided, LegTrees, no_legs, more_legs, Leaf, int, truth, chars, name, fresh, One, neg, not, cast, len, field, finish, started, Two, binary, and, or, look_up, key_exists, merge, Three, if_else, select, slice, Many, make_vec, make_struct}
-use Rattle.weld_fits.specs.HasValue.{HasValue, HaveValues, AllAre}
+use Rattle.weld_tree.specs.HasValue.{HasValue, HaveValues, AllAre}
 use Rattle.weld_builders.specs.Outcome.{Outcome, done, and_then, map_out}
 use Rattle.weld_builders.specs.ValueOrder.{value_cmp}
 use Rattle.weld_meaning.specs.Environment.{look_for}

@@ -19,7 +19,7 @@ use Rattle.weld_data.proofs.Operations.{InRange-combination}
 use Rattle.weld_tree.specs.TypeTree.{TypeTree, BuildTree, TypeTrees, scalar, vec, struct as tuple, dict as mapping, build, list as list_of, total, keyed, cells, groups, no_types, more_types}
 use Rattle.weld_tree.specs.Types.{HasTypes, IsScalarType, IsIntegerType, AreIntegerTypes, IsMergerType, IsKeyField, AreKeyFields, IsKey, IsWellFormedBuild, pair_of, takes, gives}
 use Rattle.weld_tree.specs.Program.{MayBeFresh}
-use Rattle.weld_fits.specs.HasValue.{HasValue, HaveValues, IsNumber, AllAre, AllEntriesAre}
+use Rattle.weld_tree.specs.HasValue.{HasValue, HaveValues, IsNumber, AllAre, AllEntriesAre}
 use Rattle.weld_builders.specs.Outcome.{or_fault, map_out}
 use Rattle.weld_builders.specs.ValueOrder.{value_cmp, ValueMap}
 use Rattle.weld_builders.specs.Range.{AllInRange}

@@ -5,7 +5,7 @@ use Rattle.weld_tree.specs.declared.binder.Binder.{Binder}
 use Rattle.weld_tree.specs.TypeTree.{TypeTree}
 use Rattle.weld_tree.specs.Types.{IsBuilderFree, IsWellFormed}
 use Rattle.weld_tree.specs.Program.{ProgramTree, loops}
-use Rattle.weld_fits.specs.HasValue.{HasValue}
+use Rattle.weld_tree.specs.HasValue.{HasValue}
 use Rattle.weld_meaning.specs.Environment.{look_for}
 use Rattle.weld_meaning.specs.Thing.{plain}
 use Rattle.weld_meaning.specs.Typing.{AreFormed, ParamFits, ParamsFit, noted_type, param_types, ProgramHas}

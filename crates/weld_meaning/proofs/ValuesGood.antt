@@ -14,7 +14,7 @@ use Rattle.weld_data.specs.Lookup.{same_kind, same_value, value_of_key}
 use Rattle.weld_data.specs.Value.{Value, number, list, struct, dict, Values, no_values, and_value, values, list_of_values, values-list_of_values, Entries, no_entries, and_entry, list_of_entries}
 use Rattle.weld_data.proofs.Wrapping.{IsWrapped-wrapped}
 use Rattle.weld_tree.specs.TypeTree.{TypeTree, TypeTrees, scalar, vec, struct as tuple, dict as mapping, no_types, more_types}
-use Rattle.weld_fits.specs.HasValue.{HasValue, HaveValues, AllAre, AllEntriesAre}
+use Rattle.weld_tree.specs.HasValue.{HasValue, HaveValues, AllAre, AllEntriesAre}
 use Rattle.weld_builders.specs.Outcome.{Outcome, done, fault, stuck, or_fault}
 use Rattle.weld_builders.specs.Part.{as_number}
 use Rattle.weld_meaning.specs.Thing.{value_at, value_field}

@@ -5,7 +5,7 @@ use Rattle.weld_tree.specs.TypeTree.{TypeTree, TypeTrees}
 use Rattle.weld_tree.specs.Types.{IsBuilder, IsBuilderFree}
 use Rattle.weld_tree.specs.ExprTree.{ExprTree, leaf, one, two, three, many, let_in, loop, iterate, ExprTrees, no_exprs, more_exprs, LegTree, whole, strided, LegTrees, no_legs, more_legs}
 use Rattle.weld_tree.specs.Program.{ProgramTree, loops, loops_in_leg, loops_in_legs}
-use Rattle.weld_fits.specs.HasValue.{HasValue}
+use Rattle.weld_tree.specs.HasValue.{HasValue}
 use Rattle.weld_builders.specs.Outcome.{Outcome, and_then, map_out}
 use Rattle.weld_meaning.specs.Thing.{Thing, plain, bare_thing, after_thing}
 use Rattle.weld_meaning.specs.Typing.{Types, HasType, LegsHave, RowHas, body_types, param_types}

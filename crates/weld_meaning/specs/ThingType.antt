@@ -5,7 +5,7 @@ use Rattle.weld_data.specs.Kind.{InRange}
 use Rattle.weld_data.specs.Value.{Value, values}
 use Rattle.weld_tree.specs.TypeTree.{TypeTree, BuildTree, TypeTrees, scalar, struct, build, list, total, keyed, cells, groups, no_types, more_types}
 use Rattle.weld_tree.specs.Types.{HasTypes, IsWellFormedBuild}
-use Rattle.weld_fits.specs.HasValue.{HasValue, AllAre}
+use Rattle.weld_tree.specs.HasValue.{HasValue, AllAre}
 use Rattle.weld_builders.specs.Part.{Part, Totals, list_part, total_part, totals_part, cells_part, keyed_part, groups_part}
 use Rattle.weld_builders.specs.Range.{AllInRange}
 use Rattle.weld_meaning.specs.Thing.{Thing, plain, building, several, Things, no_things, more_things}

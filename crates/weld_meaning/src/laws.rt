@@ -7,7 +7,7 @@ ghost use Rattle.weld_tree.specs.Types.{IsWellFormed};
 ghost use Rattle.weld_tree.specs.ExprTree.{ExprTree};
 ghost use Rattle.weld_tree.specs.Program.{ProgramTree, loops};
 ghost use Rattle.weld_tree.specs.Blank.{AreSame};
-ghost use Rattle.weld_fits.specs.HasValue.{HasValue};
+ghost use Rattle.weld_tree.specs.HasValue.{HasValue};
 ghost use Rattle.weld_builders.specs.Outcome.{Outcome, done, and_then};
 ghost use Rattle.weld_meaning.specs.Thing.{Thing};
 ghost use Rattle.weld_meaning.specs.Typing.{Types, AreFormed, HasType, ProgramHas};

@@ -6,7 +6,7 @@ use Rattle.weld_tree.specs.TypeTree.{TypeTree}
 use Rattle.weld_tree.specs.ExprTree.{ExprTree, leaf, name, pack_exprs, let_in}
 use Rattle.weld_tree.specs.Program.{loops, loops_in, bound, bound_in, syms_of}
 use Rattle.weld_tree.specs.Blank.{blank_at}
-use Rattle.weld_renaming.proofs.Trees.{loops_stay}
+use Rattle.weld_objects.proofs.Trees.{loops_stay}
 use Rattle.weld_objects.specs.Objects.{Object, given, call, with_one, AreObjectsFrom}
 use Rattle.weld_objects.specs.Lowered.{new_binder, kept_values, params_of, placed, placed_body, lets, kept_loops, names_of}
 use Rattle.weld_objects.proofs.Lists.{upward, upward-append}

@@ -1,3 +1,15 @@
+pub mod Numbers
+pub mod Meanings
+pub mod Types
+pub mod Trees
+pub mod Origins
+pub mod Taken
+pub mod Refusals
+pub mod Looked
+pub mod Changing
+pub mod BoundParts
+pub mod Answers
+pub mod Scopes
 pub mod Lists
 pub mod Placing
 pub mod State

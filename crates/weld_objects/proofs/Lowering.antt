@@ -4,7 +4,7 @@ use Rattle.weld_data.specs.Value.{Value, struct, values}
 use Rattle.weld_tree.specs.TypeTree.{TypeTree, struct as tuple, pack}
 use Rattle.weld_tree.specs.Types.{IsBuilderFree, AreBuilderFree}
 use Rattle.weld_tree.specs.Program.{bound, IsProgram, IsOneOf, AreDistinct, syms_of}
-use Rattle.weld_fits.specs.HasValue.{HasValue}
+use Rattle.weld_tree.specs.HasValue.{HasValue}
 use Rattle.weld_builders.specs.Outcome.{Outcome, done, fault, stuck, and_then, map_out}
 use Rattle.weld_meaning.specs.Thing.{plain}
 use Rattle.weld_meaning.specs.Typing.{noted_type, ProgramHas, HasType}

@@ -6,7 +6,7 @@ use Rattle.weld_tree.specs.TypeTree.{TypeTree}
 use Rattle.weld_tree.specs.ExprTree.{leaf, let_in, name, pack_exprs}
 use Rattle.weld_tree.specs.Program.{ProgramTree, bound}
 use Rattle.weld_tree.specs.Blank.{blank_at}
-use Rattle.weld_fits.specs.HasValue.{HasValue}
+use Rattle.weld_tree.specs.HasValue.{HasValue}
 use Rattle.weld_builders.specs.Outcome.{Outcome, done, fault, stuck, and_then, map_out}
 use Rattle.weld_meaning.specs.Environment.{look_for}
 use Rattle.weld_meaning.specs.Thing.{Thing, plain, Things, no_things, more_things, as_values, struct_of, struct_from}
@@ -15,7 +15,7 @@ use Rattle.weld_meaning.specs.ThingType.{HasThing}
 use Rattle.weld_meaning.specs.Evaluation.{Env, found, value_out, eval, eval_all}
 use Rattle.weld_meaning.specs.Meaning.{GivesOrFaults, ArgumentsFit, with_arguments, meaning}
 use Rattle.weld_meaning.proofs.Good.{free_value_type, value_of_thing}
-use Rattle.weld_renaming.proofs.Meanings.{means}
+use Rattle.weld_objects.proofs.Meanings.{means}
 use Rattle.weld_objects.specs.Objects.{Object, given, call, with_one, all_done, answer, DepsFit, AreObjectsFrom, AreBefore}
 use Rattle.weld_objects.specs.Lowered.{new_binder, placed, placed_body, shown_struct, lets}
 use Rattle.weld_objects.proofs.Placing.{paired, Stand, Below, under_of, placed_moves, body_alone}

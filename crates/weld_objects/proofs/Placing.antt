@@ -6,8 +6,8 @@ use Rattle.weld_tree.specs.Blank.{distance}
 use Rattle.weld_tree.proofs.SameLaws.{distance_is_one_name}
 use Rattle.weld_meaning.specs.Environment.{Named, look_for}
 use Rattle.weld_meaning.specs.Names.{Binds}
-use Rattle.weld_renaming.specs.Renamed.{IsAlone, HaveMoved}
-use Rattle.weld_renaming.proofs.Trees.{bound_move}
+use Rattle.weld_objects.specs.Renamed.{IsAlone, HaveMoved}
+use Rattle.weld_objects.proofs.Trees.{bound_move}
 use Rattle.weld_objects.specs.Lowered.{placed, placed_body}
 use Rattle.weld_objects.proofs.Lists.{apart, distinct_behind, binds_all, upward, counted}
 

@@ -18,12 +18,12 @@ use Rattle.weld_meaning.specs.Accepted.{IsAccepted}
 use Rattle.weld_meaning.proofs.WellFormed.{formed_bind, type_formed}
 use Rattle.weld_meaning.proofs.OriginTypes.{Forms, not_both, origin_forms}
 use Rattle.weld_meaning.proofs.Walk.{walk_of_linear}
-use Rattle.weld_renaming.specs.Renamed.{ScopeMoves}
-use Rattle.weld_renaming.specs.RenamedOrigins.{OriginsHaveMoved, renamed_origin}
-use Rattle.weld_renaming.proofs.Types.{types_after}
-use Rattle.weld_renaming.proofs.Origins.{origin_moves}
-use Rattle.weld_renaming.proofs.Refusals.{refused_alike}
-use Rattle.weld_renaming.proofs.Trees.{scoped_after, made_after}
+use Rattle.weld_objects.specs.Renamed.{ScopeMoves}
+use Rattle.weld_objects.specs.RenamedOrigins.{OriginsHaveMoved, renamed_origin}
+use Rattle.weld_objects.proofs.Types.{types_after}
+use Rattle.weld_objects.proofs.Origins.{origin_moves}
+use Rattle.weld_objects.proofs.Refusals.{refused_alike}
+use Rattle.weld_objects.proofs.Trees.{scoped_after, made_after}
 use Rattle.weld_objects.specs.Objects.{Object, given, call, type_of, with_one, DepsFit, AreObjectsFrom, AreBefore}
 use Rattle.weld_objects.specs.Lowered.{new_binder, placed, placed_body, shown_struct, lets}
 use Rattle.weld_objects.proofs.Placing.{paired, Stand, Below, under_of, placed_moves, body_alone}

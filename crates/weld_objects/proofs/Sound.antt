@@ -5,7 +5,7 @@ use Rattle.weld_tree.specs.declared.binder.Binder.{Binder}
 use Rattle.weld_tree.specs.TypeTree.{TypeTree}
 use Rattle.weld_tree.specs.ExprTree.{ExprTree}
 use Rattle.weld_tree.specs.Program.{ProgramTree}
-use Rattle.weld_fits.specs.HasValue.{HasValue}
+use Rattle.weld_tree.specs.HasValue.{HasValue}
 use Rattle.weld_builders.specs.Outcome.{Outcome, done, fault, stuck, and_then, map_out}
 use Rattle.weld_meaning.specs.Thing.{Thing, plain}
 use Rattle.weld_meaning.specs.Typing.{Types, AreFormed, ParamFits, ParamsFit, noted_type, param_types, ProgramHas, HasType}

@@ -8,7 +8,7 @@ use Rattle.weld_tree.specs.Program.{ProgramTree, bound, loops}
 use Rattle.weld_tree.specs.Blank.{blank_at, blank_place, distance}
 use Rattle.weld_builders.specs.Outcome.{Outcome, and_then, map_out}
 use Rattle.weld_meaning.specs.Typing.{noted_type}
-use Rattle.weld_renaming.specs.Renamed.{renamed}
+use Rattle.weld_objects.specs.Renamed.{renamed}
 use Rattle.weld_objects.specs.Objects.{Object, given, call, with_one, type_at, all_done, denote, AreObjects, AreBefore}
 
 -- a binder of the program, which stands in no text

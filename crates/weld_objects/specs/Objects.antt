@@ -5,7 +5,7 @@ use Rattle.weld_tree.specs.declared.binder.Binder.{Binder}
 use Rattle.weld_tree.specs.TypeTree.{TypeTree}
 use Rattle.weld_tree.specs.Types.{IsWellFormed, IsBuilderFree}
 use Rattle.weld_tree.specs.Program.{ProgramTree, IsProgram}
-use Rattle.weld_fits.specs.HasValue.{HasValue}
+use Rattle.weld_tree.specs.HasValue.{HasValue}
 use Rattle.weld_builders.specs.Outcome.{Outcome, done, stuck, and_then, map_out}
 use Rattle.weld_meaning.specs.Typing.{ProgramHas}
 use Rattle.weld_meaning.specs.Accepted.{IsAccepted}

@@ -4,7 +4,7 @@ ghost use Rattle.std.specs.Prelude.{◌≡◌, ◌↔◌, ◌++◌, ℕ, true, L
 ghost use Rattle.weld_data.specs.Value.{Value, struct as struct_value, values};
 ghost use Rattle.weld_tree.specs.TypeTree.{TypeTree};
 ghost use Rattle.weld_tree.specs.Program.{ProgramTree, IsProgram, loops};
-ghost use Rattle.weld_fits.specs.HasValue.{HasValue};
+ghost use Rattle.weld_tree.specs.HasValue.{HasValue};
 ghost use Rattle.weld_builders.specs.Outcome.{done, fault};
 ghost use Rattle.weld_meaning.specs.Typing.{ProgramHas};
 ghost use Rattle.weld_meaning.specs.Meaning.{GivesOrFaults, ArgumentsFit, meaning};

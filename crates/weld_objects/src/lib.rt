@@ -2,4 +2,6 @@
 //! the one program that they are lowered to.
 #![tactic(auto)]
 
+pub mod answer_type;
 pub mod laws;
+pub mod renaming;

@@ -9,8 +9,8 @@ use Rattle.weld_tree.specs.declared.refusal.Refusal.TheVariants.{At, Size, Memor
 use Rattle.weld_tree.specs.ExprTree.{ExprTree}
 use Rattle.weld_tree.specs.Program.{ProgramTree, IsProgram}
 use Rattle.weld_tree.specs.declared.binder.Binder.{Binder}
-use Rattle.weld_terminals.specs.declared.class.Class.{Class}
-use Rattle.weld_terminals.specs.declared.token.Token.{Token}
+use Rattle.weld_grammar.specs.declared.terminals.class.Class.{Class}
+use Rattle.weld_grammar.specs.declared.terminals.token.Token.{Token}
 use Rattle.weld_tokens.specs.declared.order.Findings.{Findings}
 use Rattle.weld_tokens.specs.Tokens.{AreTokens, end_of}
 use Rattle.weld_tokens.specs.Tokens.{IsRefused as RefusedTokens}
@@ -26,12 +26,12 @@ use Rattle.weld_grammar.specs.Classes.{classes}
 use Rattle.weld_spell.specs.Seen.{seen}
 use Rattle.weld_spell.specs.ProgramOf.{program_of}
 use Rattle.weld_spell.specs.Spells.{Spells}
-use Rattle.weld_programs.specs.Ranges.{number_out_of_range}
-use Rattle.weld_limits.specs.Depth.{first_deep_node}
-use Rattle.weld_limits.specs.Lets.{has_too_many_lets}
-use Rattle.weld_limits.specs.Lists.{first_type_too_large, first_parameter_too_many, first_field_too_many}
-use Rattle.weld_measures.specs.Measures.{type_too_large, parameter_too_many, field_too_many}
-use Rattle.weld_names.specs.Names.{first_misnamed}
+use Rattle.weld_spell.specs.Ranges.{number_out_of_range}
+use Rattle.weld_tokens.specs.Depth.{first_deep_node}
+use Rattle.weld_tokens.specs.Lets.{has_too_many_lets}
+use Rattle.weld_tokens.specs.Lists.{first_type_too_large, first_parameter_too_many, first_field_too_many}
+use Rattle.weld_spell.specs.Measures.{type_too_large, parameter_too_many, field_too_many}
+use Rattle.weld_spell.specs.Names.{first_misnamed}
 use Rattle.weld_accept.specs.declared.stop.Stop.{Stop}
 use Rattle.weld_accept.specs.declared.stop.Stop.TheVariants.{Break}
 use Rattle.weld_accept.specs.Stops.{StopsAt}

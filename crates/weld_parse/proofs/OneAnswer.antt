@@ -6,8 +6,8 @@ use Rattle.weld_tree.specs.declared.code.Code.TheVariants.{X1, M2}
 use Rattle.weld_tree.specs.declared.refusal.Refusal.{Refusal}
 use Rattle.weld_tree.specs.declared.refusal.Refusal.TheVariants.{At, Size}
 use Rattle.weld_tree.specs.Program.{ProgramTree, IsProgram}
-use Rattle.weld_terminals.specs.declared.class.Class.{Class}
-use Rattle.weld_terminals.specs.declared.token.Token.{Token}
+use Rattle.weld_grammar.specs.declared.terminals.class.Class.{Class}
+use Rattle.weld_grammar.specs.declared.terminals.token.Token.{Token}
 use Rattle.weld_tokens.specs.declared.order.Findings.{Findings}
 use Rattle.weld_tokens.specs.Tokens.{AreTokens, IsWrongAt, end_of}
 use Rattle.weld_tokens.specs.TokenLimits.{has_too_many_bytes}
@@ -24,8 +24,8 @@ use Rattle.weld_spell.specs.ProgramOf.{program_of}
 use Rattle.weld_spell.specs.Spells.{Spells}
 use Rattle.weld_parse.specs.Findings.{place_at, broken_at, IsTreeOf, found_in, Finds, broken, derived}
 use Rattle.weld_parse.specs.Parses.{Reads, Parses, IsRefused, too_long, no_token, by_rule}
-use Rattle.weld_programs.specs.Ranges.{number_out_of_range}
-use Rattle.weld_names.specs.Names.{first_misnamed}
+use Rattle.weld_spell.specs.Ranges.{number_out_of_range}
+use Rattle.weld_spell.specs.Names.{first_misnamed}
 use Rattle.weld_parse.proofs.Order.{broken_refused, clean, few_tokens}
 use Rattle.weld_parse.proofs.Answering.{SpellPrograms, AreDecided, AreSpelled, Found, at_break, at_tree, find}
 

@@ -6,7 +6,7 @@ use Rattle.weld_tree.specs.declared.code.Code.{Code}
 use Rattle.weld_tree.specs.declared.code.Code.TheVariants.{X2, X3, M3, M4, M5, M6, M7, M8, M9}
 use Rattle.weld_tree.specs.declared.refusal.Refusal.{Refusal}
 use Rattle.weld_tree.specs.declared.refusal.Refusal.TheVariants.{At, Size}
-use Rattle.weld_terminals.specs.declared.token.Token.{Token}
+use Rattle.weld_grammar.specs.declared.terminals.token.Token.{Token}
 use Rattle.weld_tokens.specs.declared.order.Findings.{Findings}
 use Rattle.weld_tokens.specs.TokenLimits.{has_too_many_tokens, nests_too_deep, first_long_name}
 use Rattle.weld_tokens.specs.Order.{or_else, at, whole, named, first_refusal}

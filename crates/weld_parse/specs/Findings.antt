@@ -1,7 +1,7 @@
 -- What the grammar finds in the tokens of a text (the Weld papers).
 use Rattle.std.specs.Prelude.{◌≡◌, ℕ, zero, suc, false, List, [], ◌∷◌, Some, None}
 use Rattle.weld_tree.specs.declared.place.Place.{Place}
-use Rattle.weld_terminals.specs.declared.token.Token.{Token}
+use Rattle.weld_grammar.specs.declared.terminals.token.Token.{Token}
 use Rattle.weld_tokens.specs.declared.order.Findings.{Findings}
 use Rattle.weld_tokens.specs.Tokens.{end_of}
 use Rattle.weld_grammar.specs.declared.rule.Rule.TheVariants.{Program}
@@ -12,11 +12,11 @@ use Rattle.weld_grammar.specs.Breaks.{BreaksAt}
 use Rattle.weld_grammar.specs.Classes.{classes}
 use Rattle.weld_spell.specs.Seen.{seen}
 use Rattle.weld_spell.specs.ProgramOf.{program_of}
-use Rattle.weld_programs.specs.Ranges.{number_out_of_range}
-use Rattle.weld_limits.specs.Depth.{first_deep_node}
-use Rattle.weld_limits.specs.Lets.{has_too_many_lets}
-use Rattle.weld_measures.specs.Measures.{type_too_large, parameter_too_many, field_too_many}
-use Rattle.weld_names.specs.Names.{first_misnamed}
+use Rattle.weld_spell.specs.Ranges.{number_out_of_range}
+use Rattle.weld_tokens.specs.Depth.{first_deep_node}
+use Rattle.weld_tokens.specs.Lets.{has_too_many_lets}
+use Rattle.weld_spell.specs.Measures.{type_too_large, parameter_too_many, field_too_many}
+use Rattle.weld_spell.specs.Names.{first_misnamed}
 
 -- the place of the token of this number, counted from 0; the end where there are no more tokens
 abbrev pub place_at : List Token → ℕ → Place → Place

@@ -5,7 +5,7 @@ use Rattle.weld_tree.specs.declared.code.Code.TheVariants.{X1, M2}
 use Rattle.weld_tree.specs.declared.refusal.Refusal.{Refusal}
 use Rattle.weld_tree.specs.declared.refusal.Refusal.TheVariants.{At, Size}
 use Rattle.weld_tree.specs.Program.{ProgramTree}
-use Rattle.weld_terminals.specs.declared.token.Token.{Token}
+use Rattle.weld_grammar.specs.declared.terminals.token.Token.{Token}
 use Rattle.weld_tokens.specs.declared.order.Findings.{Findings}
 use Rattle.weld_tokens.specs.Tokens.{AreTokens, IsWrongAt}
 use Rattle.weld_tokens.specs.TokenLimits.{has_too_many_bytes}

@@ -1,6 +1,6 @@
 -- Why tokens aren't read as a program.
 use Rattle.std.specs.Prelude.{◌≡◌, List, Some}
-use Rattle.weld_terminals.specs.declared.token.Token.{Token}
+use Rattle.weld_grammar.specs.declared.terminals.token.Token.{Token}
 use Rattle.weld_tokens.specs.Order.{first_number_out_of_range}
 use Rattle.weld_grammar.specs.declared.rule.Rule.TheVariants.{Program}
 use Rattle.weld_grammar.specs.Breaks.{Derives, BreaksAt}

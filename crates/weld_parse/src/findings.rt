@@ -2,17 +2,17 @@
 ghost use Rattle.std.specs.Prelude.{◌≡◌, None};
 ghost use Rattle.weld_parse.specs.Findings as findings;
 ghost use Rattle.weld_tokens.specs.Order as order;
-ghost use Rattle.weld_limits.specs.Depth as depth;
-ghost use Rattle.weld_limits.specs.Lets as lets;
-ghost use Rattle.weld_limits.specs.Lists as lists;
+ghost use Rattle.weld_tokens.specs.Depth as depth;
+ghost use Rattle.weld_tokens.specs.Lets as lets;
+ghost use Rattle.weld_tokens.specs.Lists as lists;
 
-use weld_limits::{
+use weld_grammar::terminals::Token;
+use weld_reduce::Read;
+use weld_tokens::Findings;
+use weld_tokens::text_limits::{
     first_deep_node, first_field_too_many, first_parameter_too_many, first_type_too_large,
     has_too_many_lets,
 };
-use weld_reduce::Read;
-use weld_terminals::Token;
-use weld_tokens::{Findings, first_number_out_of_range};
 use weld_tree::Place;
 
 /// The place of the token of this number, counted from 0; the end where there are no more tokens.
@@ -27,8 +27,10 @@ pub(crate) fn place_at(tokens: &[Token], number: usize, end: Place) -> Place
     }
 }
 
-/// What is found in the tokens of a program, by the tokens and by what is read of them.
+/// What is found in the tokens of a program, all of whose numbers are of their kinds, by the tokens and by what is read of
+/// them.
 pub(crate) fn found_in(tokens: &[Token], read: &Read) -> Findings
+    requires { order.first_number_out_of_range tokens.now ≡ None }
     ensures ungrammatical { result.ungrammatical ≡ None }
     ensures out_of_range { result.out_of_range ≡ order.first_number_out_of_range tokens.now }
     ensures too_deep { result.too_deep ≡ depth.first_deep_node read.now.body.value }
@@ -40,7 +42,7 @@ pub(crate) fn found_in(tokens: &[Token], read: &Read) -> Findings
 {
     Findings {
         ungrammatical: None,
-        out_of_range: first_number_out_of_range(tokens),
+        out_of_range: None,
         too_deep: first_deep_node(&read.body),
         too_many_lets: has_too_many_lets(&read.body),
         too_large_type: first_type_too_large(tokens),

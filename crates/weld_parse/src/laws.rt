@@ -5,8 +5,8 @@ ghost use Rattle.weld_tree.specs.Program.{IsProgram, ProgramTree};
 ghost use Rattle.weld_parse.specs.Parses.{Parses, IsRefused};
 
 use weld_grammar::laws::one_break;
-use weld_programs::laws::{derived_or_broken, spelled_programs};
 use weld_spell::laws::{one_program, one_tree_of_tokens, programs_are_derived};
+use weld_spell::programs::{derived_or_broken, spelled_programs};
 use weld_tokens::laws::{one_reading, some_reading};
 
 /// A text is a program, or a rule refuses it first.

@@ -1,14 +1,15 @@
 //! Programs from tokens.
-ghost use Rattle.std.specs.Prelude.{◌<◌, IfOk, IfErr, length};
+ghost use Rattle.std.specs.Prelude.{◌≡◌, ◌<◌, None, IfOk, IfErr, length};
+ghost use Rattle.weld_tokens.specs.Order.{first_number_out_of_range as first_out_of_range};
 ghost use Rattle.weld_reduce.specs.Programs.{AreOfTheirClasses, IsRead};
 ghost use Rattle.weld_parse.specs.Unread.{WhyUnread};
 
 use std::alloc::Global;
 use weld_accept::{Stop, derive};
 use weld_grammar::Rule;
+use weld_grammar::terminals::Token;
 use weld_reduce::laws::derivations_are_over_tokens;
 use weld_reduce::{Read, spell};
-use weld_terminals::Token;
 use weld_tokens::first_number_out_of_range;
 use weld_tree::Place;
 
@@ -29,6 +30,7 @@ pub fn read_program(alloc: Global, tokens: &[Token]) -> Result<Read, Unread>
     requires classes { AreOfTheirClasses tokens.now }
     requires few { length tokens.now < 4294967296 }
     ensures read { IfOk result (λ read. IsRead tokens.now read.params read.body.value read.misnamed) }
+    ensures ranged { IfOk result (λ _. first_out_of_range tokens.now ≡ None) }
     ensures unread { IfErr result (λ why. WhyUnread tokens.now why) }
 {
     derivations_are_over_tokens();

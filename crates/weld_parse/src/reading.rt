@@ -1,4 +1,5 @@
-ghost use Rattle.std.specs.Prelude.{◌≡◌, ◌≢◌, false, IfOk, IfErr};
+ghost use Rattle.std.specs.Prelude.{◌≡◌, ◌≢◌, false, None, IfOk, IfErr};
+ghost use Rattle.weld_tokens.specs.Order.{first_number_out_of_range};
 ghost use Rattle.weld_tokens.specs.Tokens.{AreTokens};
 ghost use Rattle.weld_tokens.specs.TokenLimits as limits;
 ghost use Rattle.weld_reduce.specs.Programs.{IsRead};
@@ -8,11 +9,11 @@ ghost use Rattle.weld_parse.specs.Judged.{IsAccepted, IsRefusedTree};
 use crate::findings::{found_in, place_at};
 use crate::program::{Unread, read_program};
 use std::alloc::Global;
-use weld_measures::laws::{fields_by_the_tree, parameters_by_the_tree, types_by_the_tree};
-use weld_programs::laws::{derived_or_broken, numbers_by_the_tree, spelled_programs};
+use weld_grammar::terminals::Token;
 use weld_reduce::Read;
 use weld_spell::laws::programs_are_derived;
-use weld_terminals::Token;
+use weld_spell::measures::{fields_by_the_tree, parameters_by_the_tree, types_by_the_tree};
+use weld_spell::programs::{derived_or_broken, numbers_by_the_tree, spelled_programs};
 use weld_tokens::laws::classes_of_tokens;
 use weld_tokens::{end_of, first_refusal, has_too_many_bytes, has_too_many_tokens, read_tokens};
 use weld_tree::{Code, Program, Refusal};
@@ -57,9 +58,10 @@ fn parse_tokens(alloc: Global, text: &[u8], tokens: &[Token]) -> Result<Program,
     }
 }
 
-/// The program that is read of tokens, or the first rule that refuses it.
+/// The program that is read of tokens, whose numbers are of their kinds, or the first rule that refuses it.
 fn judge(tokens: &[Token], read: Read) -> Result<Program, Refusal>
-    requires { IsRead tokens.now read.params read.body.value read.misnamed }
+    requires ranged { first_number_out_of_range tokens.now ≡ None }
+    requires read { IsRead tokens.now read.params read.body.value read.misnamed }
     ensures program { IfOk result (λ program. IsAccepted tokens.now program) }
     ensures refused { IfErr result (λ refusal. IsRefusedTree tokens.now refusal) }
 {

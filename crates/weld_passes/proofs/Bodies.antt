@@ -3,10 +3,10 @@ use Rattle.std.proofs.Common.{◌≡◌, ℕ, ◌+◌, ◌≤◌, List, refl, ap
 use Rattle.weld_tree.specs.declared.binder.Binder.{Binder}
 use Rattle.weld_tree.specs.ExprTree.{ExprTree}
 use Rattle.weld_tree.specs.Program.{ProgramTree, IsProgram, loops}
-use Rattle.weld_sweep.specs.Sweep.{swept_times}
-use Rattle.weld_replacing.specs.Within.{StaysWithin}
-use Rattle.weld_replacing.specs.Tidy.{IsTidy}
-use Rattle.weld_replacing.specs.Rewriting.{Rewrites, RewritesProgram}
+use Rattle.weld_rewriting.specs.Sweep.{swept_times}
+use Rattle.weld_rewriting.specs.Within.{StaysWithin}
+use Rattle.weld_rewriting.specs.Tidy.{IsTidy}
+use Rattle.weld_rewriting.specs.Rewriting.{Rewrites, RewritesProgram}
 use Rattle.weld_vertical.specs.Chains.{IsChainProgram, chain_fused}
 use Rattle.weld_passes.specs.Normal.{all_rules, optimised_body}
 

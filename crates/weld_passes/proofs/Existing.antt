@@ -8,16 +8,16 @@ use Rattle.weld_meaning.specs.Available.{Splits}
 use Rattle.weld_meaning.specs.Linear.{Keeps}
 use Rattle.weld_meaning.specs.LinearWalk.{linear_refusal}
 use Rattle.weld_types.specs.Walk.{found, program_type}
-use Rattle.weld_type_walk.specs.Noted.{typed_program}
+use Rattle.weld_check_types.specs.Noted.{typed_program}
 use Rattle.weld_check_types.specs.Notes.{ProgramIsNoted}
 use Rattle.weld_check_types.specs.Typed.{IsTyped}
 use Rattle.weld_check_types.proofs.Found.{WalkIsTyping, ProgramWalkIsTyping, TypesAreUnique, program_made, same_program, typed_if_found}
-use Rattle.weld_unnoted.specs.Unnoted.{IsSameButNotes}
-use Rattle.weld_reads_back.specs.Texts.{TextSpells}
-use Rattle.weld_sweep.specs.Sweep.{RootRule, swept, swept_times, moves, IsStill}
-use Rattle.weld_replacing.specs.Rewriting.{RewritesProgram, SameMeaning}
-use Rattle.weld_rounds.specs.Weight.{weight}
-use Rattle.weld_pass.proofs.Spelled.{TextLaws, spelled_by}
+use Rattle.weld_check_types.specs.Unnoted.{IsSameButNotes}
+use Rattle.weld_print.specs.Texts.{TextSpells}
+use Rattle.weld_rewriting.specs.Sweep.{RootRule, swept, swept_times, moves, IsStill}
+use Rattle.weld_rewriting.specs.Rewriting.{RewritesProgram, SameMeaning}
+use Rattle.weld_rewriting.specs.Weight.{weight}
+use Rattle.weld_rewriting.proofs.Spelled.{TextLaws, spelled_by}
 use Rattle.weld_vertical.specs.Chains.{chain_fused}
 use Rattle.weld_passes.specs.Normal.{all_rules, optimised_body, IsNormal, IsOptimised, HasNormalForm, CanBeOptimised}
 use Rattle.weld_passes.proofs.Bodies.{BodyLaws, Rewritten, rewritten_body}

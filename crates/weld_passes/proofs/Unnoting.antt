@@ -3,8 +3,8 @@ use Rattle.std.proofs.Common.{◌≡◌, ℕ, zero, suc, ◌+◌, ◌==◌, true
 use Rattle.weld_tree.specs.ExprTree.{ExprTree, leaf, one, two, three, many, let_in, loop, iterate, ExprTrees, no_exprs, more_exprs, LegTree, whole, strided, LegTrees, no_legs, more_legs}
 use Rattle.weld_tree.specs.Program.{ProgramTree}
 use Rattle.weld_substitution.specs.Uses.{uses, uses_in, uses_in_leg, uses_in_legs, is_use}
-use Rattle.weld_unnoted.specs.Unnoted.{unnoted, all_unnoted, leg_unnoted, legs_unnoted, IsSameButNotes}
-use Rattle.weld_sinking.specs.Sinking.{is_merge, is_if, is_finish, starts_list, ends_in_merge, is_spine, merges, is_producer, is_filter, is_made, is_produced, is_produced_leg, is_only_leg, is_consumer}
+use Rattle.weld_check_types.specs.Unnoted.{unnoted, all_unnoted, leg_unnoted, legs_unnoted, IsSameButNotes}
+use Rattle.weld_vertical.specs.Sinking.{is_merge, is_if, is_finish, starts_list, ends_in_merge, is_spine, merges, is_producer, is_filter, is_made, is_produced, is_produced_leg, is_only_leg, is_consumer}
 use Rattle.weld_vertical.specs.Chains.{is_unnumbered, loop_before, IsChain, IsChainProgram}
 
 mutual

@@ -3,14 +3,14 @@ use Rattle.std.specs.Prelude.{◌≡◌, ◌+◌, ◌≤◌, ℕ}
 use Rattle.weld_tree.specs.Blank.{AreSame}
 use Rattle.weld_tree.specs.ExprTree.{ExprTree}
 use Rattle.weld_tree.specs.Program.{ProgramTree, loops}
-use Rattle.weld_unnoted.specs.Unnoted.{IsSameButNotes}
+use Rattle.weld_check_types.specs.Unnoted.{IsSameButNotes}
 use Rattle.weld_print.specs.PrintText.{program_text}
-use Rattle.weld_reads_back.specs.Texts.{TextSpellsSoundly}
-use Rattle.weld_sweep.specs.Sweep.{RootRule, swept_times}
-use Rattle.weld_pass.specs.Either.{either}
-use Rattle.weld_pass.specs.Followed.{followed}
+use Rattle.weld_print.specs.Texts.{TextSpellsSoundly}
+use Rattle.weld_rewriting.specs.Sweep.{RootRule, swept_times}
+use Rattle.weld_rewriting.specs.Either.{either}
+use Rattle.weld_rewriting.specs.Followed.{followed}
 use Rattle.weld_meaning.specs.Accepted.{IsAccepted}
-use Rattle.weld_replacing.specs.Rewriting.{SameMeaning}
+use Rattle.weld_rewriting.specs.Rewriting.{SameMeaning}
 use Rattle.weld_inline.specs.Inlining.{HasNoSuchLet, lets_rule}
 use Rattle.weld_predicate.specs.Predicating.{HasNoGuard, guards_rule}
 use Rattle.weld_vertical.specs.Chains.{IsChainProgram, chain_fused}

@@ -3,12 +3,12 @@
 ghost use Rattle.std.specs.Prelude.{◌≡◌, ◌≤◌, ℕ, List, IfOk};
 ghost use Rattle.weld_tree.specs.Blank.{AreSame};
 ghost use Rattle.weld_tree.specs.Program.{ProgramTree};
-ghost use Rattle.weld_unnoted.specs.Unnoted.{IsSameButNotes};
+ghost use Rattle.weld_check_types.specs.Unnoted.{IsSameButNotes};
 ghost use Rattle.weld_check_types.specs.Notes.{ProgramIsNoted};
 ghost use Rattle.weld_print.specs.PrintText.{program_text};
-ghost use Rattle.weld_reads_back.specs.Texts.{TextSpells, TextSpellsSoundly};
-ghost use Rattle.weld_replacing.specs.Within.{legs};
-ghost use Rattle.weld_sweep.specs.Sweep.{IsStill};
+ghost use Rattle.weld_print.specs.Texts.{TextSpells, TextSpellsSoundly};
+ghost use Rattle.weld_rewriting.specs.Within.{legs};
+ghost use Rattle.weld_rewriting.specs.Sweep.{IsStill};
 ghost use Rattle.weld_passes.specs.Normal.{all_rules, optimised_body, IsOptimised};
 
 use crate::laws::{all_rules_may_be_tried, bodies_are_rewritten};
@@ -19,11 +19,11 @@ use weld_horizontal::Doubles;
 use weld_inline::Lets;
 use weld_joining::Beside;
 use weld_meaning::Accepted;
-use weld_pass::Either;
 use weld_predicate::Guards;
-use weld_reads_back::laws::{printed_programs_read_back, texts_spell_the_spellable};
-use weld_replacing::laws::{rewritten_programs, tidiness_is_kept};
-use weld_rounds::sweep_until_still;
+use weld_print::reads_back::{printed_programs_read_back, texts_spell_the_spellable};
+use weld_rewriting::pass::Either;
+use weld_rewriting::replacing::{rewritten_programs, tidiness_is_kept};
+use weld_rewriting::rounds::sweep_until_still;
 use weld_tree::{Expr, Program};
 use weld_vertical::{Loops, fuse_chain};
 

@@ -2,8 +2,8 @@
 
 use std::alloc::{AllocError, Global};
 use weld_horizontal::Doubles;
-use weld_pass::Followed;
-use weld_sweep::Rule;
+use weld_rewriting::pass::Followed;
+use weld_rewriting::sweep::Rule;
 use weld_tree::Expr;
 use weld_vertical_zip::Zips;
 

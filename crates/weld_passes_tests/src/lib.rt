@@ -3,6 +3,9 @@
 //! They stand in a crate of their own, since a crate with tests is proved twice.
 #![tactic(auto)]
 
+pub mod inline;
 pub mod passing;
 #[cfg(test)]
 mod programs;
+pub mod safe;
+pub mod substitution;

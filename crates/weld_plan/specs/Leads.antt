@@ -5,7 +5,7 @@ use Rattle.weld_tree.specs.ExprTree.{ExprTree, loop, LegTrees, no_legs, more_leg
 use Rattle.weld_builders.specs.Outcome.{Outcome, done, fault, stuck}
 use Rattle.weld_meaning.specs.Thing.{Thing, plain, Things, no_things, more_things, first_of, rest_of}
 use Rattle.weld_meaning.specs.Evaluation.{Env, truth_of, truth_value, turn_limit, eval, eval_leg, eval_legs, one_thing, two_thing, three_thing, many_thing}
-use Rattle.weld_eval_values.specs.Fits.{IsTruth}
+use Rattle.weld_eval.specs.Fits.{IsTruth}
 use Rattle.weld_eval.specs.Fit.{IsFit}
 use Rattle.weld_eval.specs.Takes.{OneTakes, TwoTakes, ThreeTakes, IsStrict, IsPlain}
 use Rattle.weld_eval_forms.specs.FormTakes.{AreAllEvaluated, ManyTakes}

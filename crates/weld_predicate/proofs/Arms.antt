@@ -3,8 +3,8 @@ use Rattle.std.proofs.Common.{◌≡◌, Bool, true, false, ◌&&◌, ◌||◌, 
 use Rattle.weld_tree.specs.ExprTree.{At, ExprTree, leaf, one, two, three, many, let_in, loop, iterate, Two, binary, and, or, look_up, key_exists, merge, Three, if_else, select, slice}
 use Rattle.weld_safe.specs.Test.{is_safe}
 use Rattle.weld_meaning.specs.Available.{chain_of}
-use Rattle.weld_putting.specs.Redex.{noted}
-use Rattle.weld_guarded.specs.Guard.{Merger, merger_of, same_chain, is_merge, is_some_merger, is_guarded, is_guard}
+use Rattle.weld_substitution.specs.Redex.{noted}
+use Rattle.weld_predicate.specs.Guard.{Merger, merger_of, same_chain, is_merge, is_some_merger, is_guarded, is_guard}
 use Rattle.weld_predicate.specs.Predicating.{MergesIntoMerger}
 
 both : (a b : Bool) → (a && b) ≡ true → (a ≡ true) × (b ≡ true)

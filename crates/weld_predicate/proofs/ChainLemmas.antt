@@ -3,7 +3,7 @@ use Rattle.std.proofs.Common.{◌≡◌, ℕ, ◌==◌, ◌&&◌, Bool, true, fa
 use Rattle.weld_tree.specs.ExprTree.{At, ExprTree, leaf, one, Leaf, int, truth, chars, name, fresh, field}
 use Rattle.weld_meaning.specs.Origin.{Path}
 use Rattle.weld_meaning.specs.Available.{same_path, chain_of, chain_of_one, chain_of_leaf}
-use Rattle.weld_guarded.specs.Guard.{same_chain}
+use Rattle.weld_predicate.specs.Guard.{same_chain}
 
 -- ---- names
 

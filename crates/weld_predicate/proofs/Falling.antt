@@ -8,10 +8,10 @@ use Rattle.weld_tree.specs.TypeTree.{TypeTree, TypeTrees, scalar, vec, struct, d
 use Rattle.weld_tree.specs.ExprTree.{At, ExprTree, leaf, one, two, three, many, let_in, loop, iterate, if_else, select, slice}
 use Rattle.weld_safe.specs.Test.{is_safe}
 use Rattle.weld_meaning.specs.Available.{chain_of}
-use Rattle.weld_putting.specs.Redex.{noted}
-use Rattle.weld_rounds.specs.Weight.{weight, weight_in}
-use Rattle.weld_guarded.specs.Neutral.{neutral, neutrals, neutral_number}
-use Rattle.weld_guarded.specs.Guard.{Merger, merger_of, same_chain, is_merge, is_some_merger, is_guarded, is_guard, chosen_value, always_merged, unguarded}
+use Rattle.weld_substitution.specs.Redex.{noted}
+use Rattle.weld_rewriting.specs.Weight.{weight, weight_in}
+use Rattle.weld_predicate.specs.Neutral.{neutral, neutrals, neutral_number}
+use Rattle.weld_predicate.specs.Guard.{Merger, merger_of, same_chain, is_merge, is_some_merger, is_guarded, is_guard, chosen_value, always_merged, unguarded}
 
 both : (a b : Bool) → (a && b) ≡ true → (a ≡ true) × (b ≡ true)
 both true b h = (refl, h)

@@ -5,7 +5,7 @@ use Rattle.weld_data.specs.declared.op.MergeOp.{MergeOp}
 use Rattle.weld_tree.specs.declared.place.Place.{Place}
 use Rattle.weld_tree.specs.TypeTree.{TypeTree, pack}
 use Rattle.weld_tree.specs.ExprTree.{pack_exprs, more_exprs}
-use Rattle.weld_guarded.specs.Neutral.{neutral, neutrals}
+use Rattle.weld_predicate.specs.Neutral.{neutral, neutrals}
 
 each_neutral : (place : Place) (op : MergeOp) (ts : List TypeTree) → pack_exprs (map (neutral place op) ts) ≡ neutrals place op (pack ts)
 each_neutral place op [] = refl

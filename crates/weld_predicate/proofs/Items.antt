@@ -7,8 +7,8 @@ use Rattle.weld_data.specs.Kind.{IsInteger}
 use Rattle.weld_tree.specs.TypeTree.{TypeTree, TypeTrees, scalar, vec, struct, dict, build, no_types, more_types}
 use Rattle.weld_tree.specs.Types.{IsIntegerType, AreIntegerTypes, IsMergerType}
 use Rattle.weld_types.specs.Tests.{is_integer_kind, is_integer, are_integers, is_mergeable}
-use Rattle.weld_guarded.specs.Guard.{Merger, of_item}
-use Rattle.weld_guarded.proofs.Same.{merger_type}
+use Rattle.weld_predicate.specs.Guard.{Merger, of_item}
+use Rattle.weld_predicate.proofs.Same.{merger_type}
 
 integer_kind : (k : Kind) → IsInteger k → is_integer_kind k ≡ true
 integer_kind kinds.Bool h = absurd h

@@ -1,3 +1,8 @@
+pub mod Neutrals
+pub mod Same
+pub mod Merging
+pub mod GuardRule
+pub mod Cases
 pub mod Arms
 pub mod ChainLemmas
 pub mod Falling

@@ -1,1 +1,3 @@
+pub mod Neutral
+pub mod Guard
 pub mod Predicating

@@ -1,11 +1,11 @@
 -- Guarded merges, merged always: the rule of the pass, and what its answer has none of.
 use Rattle.std.specs.Prelude.{◌≡◌, false, Some}
 use Rattle.weld_tree.specs.ExprTree.{ExprTree, two, merge}
-use Rattle.weld_sweep.specs.Nodes.{EachNode}
-use Rattle.weld_sweep.specs.Sweep.{RootRule}
-use Rattle.weld_pass.specs.Tested.{tested}
-use Rattle.weld_putting.specs.Redex.{noted}
-use Rattle.weld_guarded.specs.Guard.{Merger, merger_of, is_guard, unguarded}
+use Rattle.weld_rewriting.specs.Nodes.{EachNode}
+use Rattle.weld_rewriting.specs.Sweep.{RootRule}
+use Rattle.weld_rewriting.specs.Tested.{tested}
+use Rattle.weld_substitution.specs.Redex.{noted}
+use Rattle.weld_predicate.specs.Guard.{Merger, merger_of, is_guard, unguarded}
 
 -- the rule: a guarded merge is merged always
 abbrev pub guards_rule : RootRule

@@ -3,7 +3,7 @@
 ghost use Rattle.std.specs.Prelude.{◌≡◌, Some, []};
 ghost use Rattle.weld_tree.specs.ExprTree.{field as field_form};
 ghost use Rattle.weld_meaning.specs.Available.{chain_of, chain_of_one};
-ghost use Rattle.weld_guarded.specs.Guard.{same_chain};
+ghost use Rattle.weld_predicate.specs.Guard.{same_chain};
 
 use weld_tree::{Expr, Form, LeafForm, OneForm, Sym};
 

@@ -1,7 +1,7 @@
 //! Guarded merges.
 
 ghost use Rattle.std.specs.Prelude.{◌≡◌};
-ghost use Rattle.weld_guarded.specs.Guard.{is_guard, is_guarded};
+ghost use Rattle.weld_predicate.specs.Guard.{is_guard, is_guarded};
 
 use crate::chains::same_chain;
 use crate::mergers::merger_of;

@@ -1,12 +1,12 @@
 //! The law of the rule, the contract of a function that does nothing.
 
 ghost use Rattle.weld_tree.specs.ExprTree.{ExprTree};
-ghost use Rattle.weld_rounds.specs.Rules.{Falls, IsSound};
-ghost use Rattle.weld_sweep.specs.Sweep.{IsStill};
+ghost use Rattle.weld_rewriting.specs.Rules.{Falls, IsSound};
+ghost use Rattle.weld_rewriting.specs.Sweep.{IsStill};
 ghost use Rattle.weld_predicate.specs.Predicating.{guards_rule, HasNoGuard};
 
-use weld_guarded::laws::guarded_merges_may_always_merge;
-use weld_pass::laws::rules_are_tests;
+use crate::guarded::guarded_merges_may_always_merge;
+use weld_rewriting::pass::laws::rules_are_tests;
 
 /// What the rule answers is lighter than a guarded merge and may take its place; and where the rule is
 /// still, none stands.

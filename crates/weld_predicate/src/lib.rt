@@ -2,6 +2,7 @@
 #![tactic(auto)]
 
 mod chains;
+pub mod guarded;
 mod guards;
 pub mod laws;
 mod mergers;

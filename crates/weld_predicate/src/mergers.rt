@@ -3,7 +3,7 @@
 ghost use Rattle.std.specs.Prelude.{◌≡◌, Some, None, IfSome, MatchOption};
 ghost use Rattle.weld_tree.specs.Types.{IsMergerType};
 ghost use Rattle.weld_tree.specs.TypeView.{view_build};
-ghost use Rattle.weld_guarded.specs.Guard.{merger_of, of_builder, of_item};
+ghost use Rattle.weld_predicate.specs.Guard.{merger_of, of_builder, of_item};
 
 use weld_data::MergeOp;
 use weld_tree::{BuildTy, Known, Ty, TyForm};

@@ -6,8 +6,8 @@ ghost use Rattle.weld_tree.specs.TypeTree.{scalar, pack};
 ghost use Rattle.weld_tree.specs.Types.{IsIntegerType, IsMergerType};
 ghost use Rattle.weld_tree.specs.ExprTree.{leaf, int, pack_exprs};
 ghost use Rattle.weld_tree.specs.declared.known.Known.TheVariants.{Is};
-ghost use Rattle.weld_guarded.specs.Neutral.{neutral, neutrals, neutral_number, node_of};
-ghost use Rattle.weld_guarded.specs.Neutral.{literal_for as literal_of};
+ghost use Rattle.weld_predicate.specs.Neutral.{neutral, neutrals, neutral_number, node_of};
+ghost use Rattle.weld_predicate.specs.Neutral.{literal_for as literal_of};
 
 use std::alloc::{AllocError, Global};
 use weld_data::{Kind, MergeOp, neutral};

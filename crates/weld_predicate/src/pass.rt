@@ -2,14 +2,14 @@
 
 ghost use Rattle.std.specs.Prelude.{IfOk};
 ghost use Rattle.weld_check_types.specs.Notes.{ProgramIsNoted};
-ghost use Rattle.weld_pass.specs.Passed.{IsPassed};
+ghost use Rattle.weld_rewriting.specs.Passed.{IsPassed};
 ghost use Rattle.weld_predicate.specs.Predicating.{HasNoGuard};
 
 use crate::laws::guards_may_be_rewritten;
 use crate::rule::Guards;
 use std::alloc::{AllocError, Global};
 use weld_meaning::Accepted;
-use weld_pass::run_pass;
+use weld_rewriting::pass::run_pass;
 
 /// The program with its guarded merges merged always (the Weld papers): where one arm of an `if`
 /// merges a value into a path of a `merger`, and the other is that path, the `if` becomes the merge

@@ -4,8 +4,8 @@ ghost use Rattle.std.specs.Prelude.{◌≡◌, true, Some, IfOk};
 ghost use Rattle.weld_tree.specs.Types.{IsMergerType};
 ghost use Rattle.weld_tree.specs.ExprTree.{At, three, select};
 ghost use Rattle.weld_tree.specs.ExprView.{view_form};
-ghost use Rattle.weld_guarded.specs.Guard.{always_merged, chosen_value, is_guard, unguarded};
-ghost use Rattle.weld_guarded.specs.Neutral.{node_of};
+ghost use Rattle.weld_predicate.specs.Guard.{always_merged, chosen_value, is_guard, unguarded};
+ghost use Rattle.weld_predicate.specs.Neutral.{node_of};
 ghost use Rattle.weld_predicate.specs.Predicating.{MergesIntoMerger};
 
 use crate::guards::{is_guard, is_guarded};
@@ -14,7 +14,7 @@ use crate::neutral::neutral_of;
 use std::alloc::{AllocError, Global};
 use std::mem;
 use weld_data::MergeOp;
-use weld_sweep::Rule;
+use weld_rewriting::sweep::Rule;
 use weld_tree::{Expr, Form, Known, LeafForm, Place, ThreeForm, Ty};
 
 /// A guarded merge becomes the merge of what its condition chooses.

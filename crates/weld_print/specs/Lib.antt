@@ -1,2 +1,5 @@
+pub mod TypeText
+pub mod Spellable
+pub mod Texts
 pub mod Operands
 pub mod PrintText

@@ -11,7 +11,7 @@ use Rattle.weld_tree.specs.ExprTree.{ExprTree, leaf, one, two, three, many, let_
 use Rattle.weld_tree.specs.Program.{ProgramTree, syms_of, bound}
 use Rattle.weld_tree.specs.Blank.{distance}
 use Rattle.weld_write_value.specs.Showing.{shown_byte}
-use Rattle.weld_print_type.specs.TypeText.{kind_text, type_text, build_text}
+use Rattle.weld_print.specs.TypeText.{kind_text, type_text, build_text}
 use Rattle.weld_print.specs.Operands.{part_in_parens, side_in_parens, value_in_parens}
 
 -- the name of a binder: `x` and how many binders stand before its own in the text, where these are all of them in

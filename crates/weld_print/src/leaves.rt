@@ -6,10 +6,10 @@ ghost use Rattle.weld_tree.specs.ExprView.{view_leaf, view_one, view_two, view_t
 ghost use Rattle.weld_print.specs.PrintText.{name_text, binder_text, kind_end, items_text, leaf_text, one_front, one_back, op_between, two_front, two_between, two_back, three_front};
 
 use crate::names::Names;
+use crate::types::{kind_word, write_build, write_type};
 use itoa::Buffer;
 use std::alloc::AllocError;
 use weld_data::{BinOp, Kind, Text};
-use weld_print_type::{kind_word, write_build, write_type};
 use weld_tree::{Binder, LeafForm, OneForm, Sym, ThreeForm, TwoForm};
 use weld_write_value::write_byte;
 

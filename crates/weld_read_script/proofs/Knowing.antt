@@ -2,15 +2,15 @@
 use Rattle.std.proofs.Common.{◌≡◌, ◌<◌, ℕ, List, length, Result, Ok, Err, OnOk, refl, subst, arith}
 use Rattle.weld_tree.specs.declared.code.Code.{Code}
 use Rattle.weld_tree.specs.declared.code.Code.TheVariants.{S1}
-use Rattle.weld_statements.specs.declared.statement.Statement.{Statement}
-use Rattle.weld_statements.specs.declared.statement.Saying.{Saying}
-use Rattle.weld_statements.specs.declared.statement.Saying.TheVariants.{Nothing, NoForm, States}
-use Rattle.weld_statements.specs.Statements.{LineSays}
-use Rattle.weld_statements.specs.Sound.{IsStatement}
-use Rattle.weld_steps.specs.declared.known.LineFault.{LineFault}
-use Rattle.weld_steps.specs.declared.known.Known.{Known}
-use Rattle.weld_steps.specs.Steps.{nothing_known, after, Steps}
-use Rattle.weld_steps.specs.Keeping.{IsKnown}
+use Rattle.weld_read_script.specs.declared.statements.statement.Statement.{Statement}
+use Rattle.weld_read_script.specs.declared.statements.statement.Saying.{Saying}
+use Rattle.weld_read_script.specs.declared.statements.statement.Saying.TheVariants.{Nothing, NoForm, States}
+use Rattle.weld_read_script.specs.Statements.{LineSays}
+use Rattle.weld_read_script.specs.Sound.{IsStatement}
+use Rattle.weld_read_script.specs.declared.steps.known.LineFault.{LineFault}
+use Rattle.weld_read_script.specs.declared.steps.known.Known.{Known}
+use Rattle.weld_read_script.specs.Steps.{nothing_known, after, Steps}
+use Rattle.weld_read_script.specs.Keeping.{IsKnown}
 use Rattle.weld_script.specs.Script.{IsScript}
 use Rattle.weld_read_script.specs.Reading.{after_saying}
 

@@ -1,2 +1,15 @@
+pub mod Reading
+pub mod Closing
+pub mod Types
+pub mod Joining
+pub mod Sound
+pub mod RequestsReading
+pub mod Places
+pub mod RequestsSound
+pub mod Keeping
+pub mod Lists
+pub mod Few
+pub mod Placing
+pub mod Calling
 pub mod Lines
 pub mod Knowing

@@ -4,12 +4,12 @@ use Rattle.std.proofs.lemmas.List.{drop_more, drop_all, length-map}
 use Rattle.std.proofs.lemmas.List.Elements.{All-from_recursion}
 use Rattle.std.specs.List.{slice_split, onto_first, All, AllByRecursion}
 use Rattle.weld_tree.specs.declared.code.Code.{Code}
-use Rattle.weld_statements.specs.declared.statement.Saying.{Saying}
-use Rattle.weld_statements.specs.Statements.{LineSays}
-use Rattle.weld_steps.specs.declared.known.Known.{Known}
-use Rattle.weld_steps.specs.declared.known.LineFault.{LineFault}
-use Rattle.weld_steps.specs.declared.known.LineFault.TheVariants as lines_end
-use Rattle.weld_steps.specs.Steps.{nothing_known}
+use Rattle.weld_read_script.specs.declared.statements.statement.Saying.{Saying}
+use Rattle.weld_read_script.specs.Statements.{LineSays}
+use Rattle.weld_read_script.specs.declared.steps.known.Known.{Known}
+use Rattle.weld_read_script.specs.declared.steps.known.LineFault.{LineFault}
+use Rattle.weld_read_script.specs.declared.steps.known.LineFault.TheVariants as lines_end
+use Rattle.weld_read_script.specs.Steps.{nothing_known}
 use Rattle.weld_script.specs.Script.{PlainScript}
 use Rattle.weld_read_script.specs.declared.read.ScriptFault.{ScriptFault}
 use Rattle.weld_read_script.specs.declared.read.ScriptFault.TheVariants as faults

@@ -1,1 +1,12 @@
+pub mod Parts
+pub mod Arguments
+pub mod Columns
+pub mod Statements
+pub mod Sound
+pub mod Callees
+pub mod Names
+pub mod Requests
+pub mod RequestsSound
+pub mod Steps
+pub mod Keeping
 pub mod Reading

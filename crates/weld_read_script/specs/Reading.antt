@@ -4,16 +4,16 @@ use Rattle.std.specs.List.{slice_split}
 use Rattle.weld_tree.specs.declared.code.Code.{Code}
 use Rattle.weld_tree.specs.declared.code.Code.TheVariants.{S1, S7, M2}
 use Rattle.weld_tokens.specs.TokenLimits.{has_too_many_bytes}
-use Rattle.weld_statements.specs.declared.statement.Saying.{Saying}
-use Rattle.weld_statements.specs.declared.statement.Saying.TheVariants.{Nothing, NoForm, States}
-use Rattle.weld_statements.specs.Statements.{LineSays}
+use Rattle.weld_read_script.specs.declared.statements.statement.Saying.{Saying}
+use Rattle.weld_read_script.specs.declared.statements.statement.Saying.TheVariants.{Nothing, NoForm, States}
+use Rattle.weld_read_script.specs.Statements.{LineSays}
 use Rattle.weld_script.specs.Script.{PlainScript}
-use Rattle.weld_steps.specs.declared.known.Known.{Known}
-use Rattle.weld_steps.specs.declared.known.LineFault.{LineFault}
-use Rattle.weld_steps.specs.declared.known.LineFault.TheVariants as lines_end
+use Rattle.weld_read_script.specs.declared.steps.known.Known.{Known}
+use Rattle.weld_read_script.specs.declared.steps.known.LineFault.{LineFault}
+use Rattle.weld_read_script.specs.declared.steps.known.LineFault.TheVariants as lines_end
 use Rattle.weld_read_script.specs.declared.read.ScriptFault.{ScriptFault}
 use Rattle.weld_read_script.specs.declared.read.ScriptFault.TheVariants as faults
-use Rattle.weld_steps.specs.Steps.{after, nothing_known, Steps}
+use Rattle.weld_read_script.specs.Steps.{after, nothing_known, Steps}
 
 -- the lines of a text: what stands between its LFs; a CR before an LF is a blank
 abbrev pub lines : List ℕ → List (List ℕ)

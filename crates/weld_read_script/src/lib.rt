@@ -3,5 +3,8 @@
 
 mod line;
 pub mod read;
+pub mod requests;
+pub mod statements;
+pub mod steps;
 
 pub use read::{ScriptFault, read_script};

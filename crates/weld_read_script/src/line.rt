@@ -1,14 +1,14 @@
 //! Lines.
 ghost use Rattle.std.specs.Prelude.{◌≡◌, ◌≤◌, length, OnOk};
-ghost use Rattle.weld_steps.specs.Keeping.{IsKnown};
-ghost use Rattle.weld_steps.specs.Steps.{Steps};
+ghost use Rattle.weld_read_script.specs.Keeping.{IsKnown};
+ghost use Rattle.weld_read_script.specs.Steps.{Steps};
 ghost use Rattle.weld_read_script.specs.Reading.{LineSteps, after_saying};
 
+use crate::statements::laws::statements_are_sound;
+use crate::statements::{Saying, read_line};
+use crate::steps::laws::statements_keep;
+use crate::steps::{Known, LineFault};
 use std::alloc::Global;
-use weld_statements::laws::statements_are_sound;
-use weld_statements::{Saying, read_line};
-use weld_steps::laws::statements_keep;
-use weld_steps::{Known, LineFault};
 use weld_tree::Code;
 
 /// Takes what a line says.

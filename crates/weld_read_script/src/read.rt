@@ -1,12 +1,12 @@
 //! The reader.
 ghost use Rattle.std.specs.Prelude.{◌≡◌, ◌≤◌, length, map, All, IfOk};
-ghost use Rattle.weld_steps.specs.Keeping.{IsKnown};
+ghost use Rattle.weld_read_script.specs.Keeping.{IsKnown};
 ghost use Rattle.weld_read_script.specs.Reading as plain;
 
 use crate::line::take_line;
+use crate::steps::{Known, LineFault};
 use std::alloc::{AllocError, Global};
 use weld_script::Script;
-use weld_steps::{Known, LineFault};
 use weld_tokens::has_too_many_bytes;
 use weld_tree::Code;
 

@@ -1,8 +1,8 @@
 -- The machine names binders, and opens and closes them.
 use Rattle.std.proofs.Common.{◌≡◌, refl, ℕ, ◌+◌, false, Option, Some, None, List, ◌∷◌, ap, sym}
-use Rattle.weld_terminals.specs.declared.symbol.Symbol.TheVariants as s
-use Rattle.weld_terminals.specs.declared.reserved.Reserved.TheVariants as w
-use Rattle.weld_terminals.specs.declared.token.Token.{Token}
+use Rattle.weld_grammar.specs.declared.terminals.symbol.Symbol.TheVariants as s
+use Rattle.weld_grammar.specs.declared.terminals.reserved.Reserved.TheVariants as w
+use Rattle.weld_grammar.specs.declared.terminals.token.Token.{Token}
 use Rattle.weld_tree.specs.ExprTree.{let_in}
 use Rattle.weld_grammar.specs.declared.terminal.Terminal.TheVariants.{Sign, Word}
 use Rattle.weld_grammar.specs.declared.rule.Rule.TheVariants as r
@@ -10,7 +10,7 @@ use Rattle.weld_grammar.specs.declared.item.Item.TheVariants.{One, Part as OfRul
 use Rattle.weld_grammar.specs.Grammar.{item}
 use Rattle.weld_grammar.specs.Derivation.{Tree, leaf, node, empty, pair, here}
 use Rattle.weld_spell.specs.ProgramOf.{word_of, binder_of, bound_as, expr_of, or_of}
-use Rattle.weld_names.specs.Names.{Refused, or_else, reserved, misnamed, none}
+use Rattle.weld_spell.specs.Names.{Refused, or_else, reserved, misnamed, none}
 use Rattle.weld_reduce.specs.Values.{token, expr}
 use Rattle.weld_reduce.specs.Forms.{at}
 use Rattle.weld_reduce.specs.States.{Named, State, reduce, push, names_of}

@@ -1,8 +1,8 @@
 -- The machine spells builders, some from a starting value.
 use Rattle.std.proofs.Common.{refl, false, Some, ap}
-use Rattle.weld_terminals.specs.declared.symbol.Symbol.TheVariants as s
-use Rattle.weld_terminals.specs.declared.reserved.Reserved.TheVariants as w
-use Rattle.weld_terminals.specs.declared.token.Token.{Token}
+use Rattle.weld_grammar.specs.declared.terminals.symbol.Symbol.TheVariants as s
+use Rattle.weld_grammar.specs.declared.terminals.reserved.Reserved.TheVariants as w
+use Rattle.weld_grammar.specs.declared.terminals.token.Token.{Token}
 use Rattle.weld_tree.specs.TypeTree.{list, total, keyed, cells, groups}
 use Rattle.weld_tree.specs.ExprTree.{leaf as leaf_at, one, fresh, started}
 use Rattle.weld_grammar.specs.declared.rule.Rule.TheVariants as r

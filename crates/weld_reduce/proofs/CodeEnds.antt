@@ -2,7 +2,7 @@
 use Rattle.std.proofs.Common.{◌≡◌, ◌↔◌, ℕ, Bool, false, IsTrue, List, [], Some, None, ap, sym, subst, ◌∙◌}
 use Rattle.std.proofs.lemmas.Bool.{false≢true}
 use Rattle.weld_tree.specs.Types.{IsWithinLimits}
-use Rattle.weld_terminals.specs.declared.token.Token.{Token}
+use Rattle.weld_grammar.specs.declared.terminals.token.Token.{Token}
 use Rattle.weld_tree.specs.declared.place.Place.{Place}
 use Rattle.weld_tree.specs.TypeTree.{TypeTree}
 use Rattle.weld_tree.specs.ExprTree.{ExprTree}
@@ -13,12 +13,12 @@ use Rattle.weld_grammar.specs.declared.rule.Rule.TheVariants.{Program, AnyType}
 use Rattle.weld_grammar.specs.declared.item.Item.TheVariants.{Part as OfRule}
 use Rattle.weld_grammar.specs.Grammar.{item}
 use Rattle.weld_grammar.specs.Derivation.{Tree, yield, IsOf}
-use Rattle.weld_names.specs.Names.{first_misnamed}
+use Rattle.weld_spell.specs.Names.{first_misnamed}
 use Rattle.weld_spell.specs.Seen.{seen}
 use Rattle.weld_spell.specs.ProgramOf.{program_of, first_of}
 use Rattle.weld_spell.specs.TypeOf.{type_of}
 use Rattle.weld_spell.specs.Types.{SpellsType, IsNoType, broken, too_large}
-use Rattle.weld_programs.specs.Ranges.{number_out_of_range}
+use Rattle.weld_spell.specs.Ranges.{number_out_of_range}
 use Rattle.weld_grammar.specs.Classes.{classes}
 use Rattle.weld_accept.specs.declared.stop.Stop.{Stop}
 use Rattle.weld_accept.specs.declared.stop.Stop.TheVariants.{Break}

@@ -1,8 +1,8 @@
 -- The number of the next binder behind a step.
 use Rattle.std.proofs.Common.{◌≡◌, refl, ℕ, ◌+◌, Option, Some, None, option_and_then, IfSome, [], ◌∷◌, subst, arith}
-use Rattle.weld_terminals.specs.declared.symbol.Symbol.TheVariants as s
-use Rattle.weld_terminals.specs.declared.reserved.Reserved.TheVariants as w
-use Rattle.weld_terminals.specs.declared.token.Token.{Token}
+use Rattle.weld_grammar.specs.declared.terminals.symbol.Symbol.TheVariants as s
+use Rattle.weld_grammar.specs.declared.terminals.reserved.Reserved.TheVariants as w
+use Rattle.weld_grammar.specs.declared.terminals.token.Token.{Token}
 use Rattle.weld_tree.specs.declared.binder.Binder.{Binder}
 use Rattle.weld_grammar.specs.declared.terminal.Terminal.{Terminal}
 use Rattle.weld_grammar.specs.declared.terminal.Terminal.TheVariants.{Sign, Fixed}

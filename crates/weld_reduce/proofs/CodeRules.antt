@@ -1,11 +1,11 @@
 -- The rules that bind no names.
 use Rattle.std.proofs.Common.{◌≡◌, refl, ℕ, Bool, true, false, List, Option, Some, None, option_and_then, ap}
-use Rattle.weld_terminals.specs.declared.class.Class.{Class}
-use Rattle.weld_terminals.specs.declared.class.Class.TheVariants as classes
+use Rattle.weld_grammar.specs.declared.terminals.class.Class.{Class}
+use Rattle.weld_grammar.specs.declared.terminals.class.Class.TheVariants as classes
 use Rattle.weld_tokens.specs.Words.{class_of}
 use Rattle.weld_grammar.specs.declared.rule.Rule.{Rule}
 use Rattle.weld_grammar.specs.declared.rule.Rule.TheVariants as r
-use Rattle.weld_names.specs.Names.{Refused, or_else}
+use Rattle.weld_spell.specs.Names.{Refused, or_else}
 use Rattle.weld_reduce.specs.Forms.{reduced, is_field}
 use Rattle.weld_reduce.specs.States.{State, reduce, refuse, with_values}
 

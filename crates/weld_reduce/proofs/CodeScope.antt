@@ -2,7 +2,7 @@
 use Rattle.std.proofs.Common.{◌≡◌, refl, ℕ, Bool, true, false, ◌||◌, if◌then◌else◌, Option, Some, None, IfSome, IfNone, IsSome, List, [], ◌∷◌, ◌++◌, map, reverse, ap, sym, ◌∙◌, bytes_eq, HashMap, Bor}
 use Rattle.std.proofs.lemmas.List.{reverse-append}
 use Rattle.std.proofs.lemmas.Slice.Eq.{bytes_eq-Decides}
-use Rattle.weld_names.specs.Names.{bears}
+use Rattle.weld_spell.specs.Names.{bears}
 use Rattle.weld_spell.specs.ProgramOf.{Bound, number_in}
 use Rattle.weld_reduce.specs.Views.{view_seen}
 use Rattle.weld_reduce.specs.States.{names_of}

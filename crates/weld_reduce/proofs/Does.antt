@@ -1,6 +1,6 @@
 -- What the machine does along a tree: the state behind it, and the first name refused on the way.
 use Rattle.std.proofs.Common.{◌≡◌, refl, Option, Some, None, option_and_then, List, [], ◌∷◌, ◌++◌, ap, sym, ◌∙◌, append_assoc}
-use Rattle.weld_terminals.specs.declared.token.Token.{Token}
+use Rattle.weld_grammar.specs.declared.terminals.token.Token.{Token}
 use Rattle.weld_grammar.specs.declared.terminal.Terminal.{Terminal}
 use Rattle.weld_grammar.specs.declared.rule.Rule.{Rule}
 use Rattle.weld_grammar.specs.declared.item.Item.{Item}
@@ -10,7 +10,7 @@ use Rattle.weld_grammar.specs.Derivation.{Tree, leaf, node, empty, pair, here, t
 use Rattle.weld_accept.specs.declared.step.Step.{Step}
 use Rattle.weld_accept.specs.declared.step.Step.TheVariants.{Reduce}
 use Rattle.weld_accept.specs.Derived.{steps}
-use Rattle.weld_names.specs.Names.{Refused, or_else}
+use Rattle.weld_spell.specs.Names.{Refused, or_else}
 use Rattle.weld_reduce.specs.States.{State, shift, reduce}
 use Rattle.weld_reduce.specs.Runs.{run}
 

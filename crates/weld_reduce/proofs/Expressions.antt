@@ -1,13 +1,13 @@
 -- The machine spells each expression.
 use Rattle.std.proofs.Common.{refl, true, false, List, [], ◌∷◌, ◌++◌}
-use Rattle.weld_terminals.specs.declared.token.Token.{Token}
+use Rattle.weld_grammar.specs.declared.terminals.token.Token.{Token}
 use Rattle.weld_tree.specs.ExprTree.{ExprTree, LegTree, two, binary, and, or}
 use Rattle.weld_grammar.specs.declared.rule.Rule.TheVariants as r
 use Rattle.weld_grammar.specs.declared.item.Item.TheVariants.{Part as OfRule, Repeated}
 use Rattle.weld_grammar.specs.Grammar.{item}
 use Rattle.weld_grammar.specs.Derivation.{Tree, leaf, node, empty, pair, here, there}
 use Rattle.weld_spell.specs.ProgramOf.{node_at, equality_op_of, relation_op_of, sum_op_of, product_op_of, expr_of, or_of, or_parts_of, and_of, and_parts_of, equality_of, equality_parts_of, relation_of, relation_parts_of, sum_of, sum_parts_of, product_of, product_parts_of, unary_of, primary_of, builder_of, leg_of}
-use Rattle.weld_names.specs.Names.{misnamed, none}
+use Rattle.weld_spell.specs.Names.{misnamed, none}
 use Rattle.weld_reduce.specs.Values.{Value, expr, exprs}
 use Rattle.weld_reduce.specs.States.{State, push, names_of}
 use Rattle.weld_reduce.proofs.Does.{Does, kept, first, later, row, no_more, one_more}

@@ -1,9 +1,9 @@
 -- The machine spells the forms that stand by themselves and bind no names.
 use Rattle.std.proofs.Common.{◌≡◌, refl, false, Some, None, option_and_then, List, [], ◌∷◌, ◌++◌, cond, ap, sym, ◌∙◌, append_assoc}
 use Rattle.std.proofs.lemmas.List.{append-nil}
-use Rattle.weld_terminals.specs.declared.symbol.Symbol.TheVariants as s
-use Rattle.weld_terminals.specs.declared.reserved.Reserved.TheVariants as w
-use Rattle.weld_terminals.specs.declared.token.Token.{Token}
+use Rattle.weld_grammar.specs.declared.terminals.symbol.Symbol.TheVariants as s
+use Rattle.weld_grammar.specs.declared.terminals.reserved.Reserved.TheVariants as w
+use Rattle.weld_grammar.specs.declared.terminals.token.Token.{Token}
 use Rattle.weld_tokens.specs.Literals.{literal_value}
 use Rattle.weld_tree.specs.ExprTree.{ExprTree, ExprTrees, leaf as leaf_at, one, two, three, many, int, cast, len, finish, look_up, key_exists, merge, if_else, select, slice, make_vec, make_struct, no_exprs, more_exprs, pack_exprs, unpack_exprs}
 use Rattle.weld_grammar.specs.declared.terminal.Terminal.TheVariants.{Number}
@@ -12,7 +12,7 @@ use Rattle.weld_grammar.specs.declared.item.Item.TheVariants.{One, Part as OfRul
 use Rattle.weld_grammar.specs.Grammar.{item}
 use Rattle.weld_grammar.specs.Derivation.{Tree, leaf, node, empty, pair, here, there}
 use Rattle.weld_spell.specs.ProgramOf.{first_of, node_at, kind_of_class, expr_of, primary_of, next_exprs_of}
-use Rattle.weld_names.specs.Names.{misnamed, none}
+use Rattle.weld_spell.specs.Names.{misnamed, none}
 use Rattle.weld_reduce.specs.Values.{Value, token, expr, exprs, top_token, top_exprs}
 use Rattle.weld_reduce.specs.Forms.{at}
 use Rattle.weld_reduce.specs.States.{State, push, with_values, names_of}

@@ -1,9 +1,9 @@
 -- Trees of a part whose numbers are all in their ranges, and whose fields are fields.
 use Rattle.std.proofs.Common.{◌≡◌, refl, ap, ◌∙◌, ◌++◌, ℕ, IsTrue, Bool, true, false, cond, Option, Some, None, List, [], ◌∷◌}
 use Rattle.weld_tree.specs.declared.place.Place.{Place}
-use Rattle.weld_terminals.specs.declared.class.Class.{Class}
-use Rattle.weld_terminals.specs.declared.class.Class.TheVariants as classes
-use Rattle.weld_terminals.specs.declared.token.Token.{Token}
+use Rattle.weld_grammar.specs.declared.terminals.class.Class.{Class}
+use Rattle.weld_grammar.specs.declared.terminals.class.Class.TheVariants as classes
+use Rattle.weld_grammar.specs.declared.terminals.token.Token.{Token}
 use Rattle.weld_grammar.specs.declared.terminal.Terminal.{Terminal}
 use Rattle.weld_grammar.specs.declared.terminal.Terminal.TheVariants.{Sign, Fixed, Field}
 use Rattle.weld_grammar.specs.declared.item.Item.TheVariants.{One, Part as OfRule, Optional, Repeated}
@@ -12,7 +12,7 @@ use Rattle.weld_grammar.specs.Derivation.{Tree, leaf, node, empty, pair, here, t
 use Rattle.weld_tokens.specs.Order.{out_of_range}
 use Rattle.weld_tokens.specs.Words.{class_of}
 use Rattle.weld_spell.specs.Seen.{seen}
-use Rattle.weld_programs.specs.Ranges.{or_else, is_minused, out_of_range_in}
+use Rattle.weld_spell.specs.Ranges.{or_else, is_minused, out_of_range_in}
 use Rattle.weld_reduce.specs.Forms.{is_field}
 use Rattle.weld_reduce.specs.Programs.{AreOfTheirClasses}
 use Rattle.weld_reduce.proofs.Nameless.{nameless_terminal, nameless_item, nameless_items, nameless_part, table, both_left, both_right}

@@ -1,9 +1,9 @@
 -- The machine spells the operators of one line, signs before an operand, and fields behind one.
 use Rattle.std.proofs.Common.{◌≡◌, refl, ℕ, Bool, true, false, not, Some, None, option_and_then, List, ◌∷◌, IsTrue, cond, ap, ◌∙◌}
-use Rattle.weld_terminals.specs.declared.class.Class.{Class}
-use Rattle.weld_terminals.specs.declared.class.Class.TheVariants as classes
-use Rattle.weld_terminals.specs.declared.symbol.Symbol.TheVariants as s
-use Rattle.weld_terminals.specs.declared.token.Token.{Token}
+use Rattle.weld_grammar.specs.declared.terminals.class.Class.{Class}
+use Rattle.weld_grammar.specs.declared.terminals.class.Class.TheVariants as classes
+use Rattle.weld_grammar.specs.declared.terminals.symbol.Symbol.TheVariants as s
+use Rattle.weld_grammar.specs.declared.terminals.token.Token.{Token}
 use Rattle.weld_tokens.specs.Literals.{is_in_range, literal_value, field_value}
 use Rattle.weld_tokens.specs.Order.{out_of_range}
 use Rattle.weld_tree.specs.ExprTree.{ExprTree, leaf as leaf_at, one, two, int, neg, not as not_form, field as field_form, binary, and, or}
@@ -14,7 +14,7 @@ use Rattle.weld_grammar.specs.declared.item.Item.TheVariants.{Part as OfRule, Re
 use Rattle.weld_grammar.specs.Grammar.{item, is_of}
 use Rattle.weld_grammar.specs.Derivation.{Tree, leaf, node, empty, pair, here, there}
 use Rattle.weld_spell.specs.ProgramOf.{Bound, Spelled, first_of, node_at, kind_of_class, equality_op_of, relation_op_of, sum_op_of, product_op_of, fields_of, and_of, equality_of, relation_of, sum_of, product_of, unary_of}
-use Rattle.weld_names.specs.Names.{misnamed, none}
+use Rattle.weld_spell.specs.Names.{misnamed, none}
 use Rattle.weld_reduce.specs.Values.{token, expr}
 use Rattle.weld_reduce.specs.Forms.{at, equality_op, relation_op, sum_op, product_op}
 use Rattle.weld_reduce.specs.States.{State, push, with_values, names_of}

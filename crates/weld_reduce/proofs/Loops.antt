@@ -1,9 +1,9 @@
 -- The machine spells the legs of a loop, loops and iterations.
 use Rattle.std.proofs.Common.{◌≡◌, refl, ℕ, ◌+◌, false, Some, None, List, [], ◌∷◌, ◌++◌, ap, sym, ◌∙◌, append_assoc, arith}
 use Rattle.std.proofs.lemmas.List.{append-nil}
-use Rattle.weld_terminals.specs.declared.symbol.Symbol.TheVariants as s
-use Rattle.weld_terminals.specs.declared.reserved.Reserved.TheVariants as w
-use Rattle.weld_terminals.specs.declared.token.Token.{Token}
+use Rattle.weld_grammar.specs.declared.terminals.symbol.Symbol.TheVariants as s
+use Rattle.weld_grammar.specs.declared.terminals.reserved.Reserved.TheVariants as w
+use Rattle.weld_grammar.specs.declared.terminals.token.Token.{Token}
 use Rattle.weld_tree.specs.ExprTree.{LegTree, LegTrees, loop, iterate, strided, no_legs, more_legs, pack_legs, unpack_legs}
 use Rattle.weld_grammar.specs.declared.terminal.Terminal.TheVariants.{Fixed}
 use Rattle.weld_grammar.specs.declared.rule.Rule.TheVariants as r
@@ -11,7 +11,7 @@ use Rattle.weld_grammar.specs.declared.item.Item.TheVariants.{One, Part as OfRul
 use Rattle.weld_grammar.specs.Grammar.{item}
 use Rattle.weld_grammar.specs.Derivation.{Tree, leaf, node, empty, pair, here, there}
 use Rattle.weld_spell.specs.ProgramOf.{SpelledLeg, node_at, binder_of, bound_as, expr_of, rows_of, next_legs_of, leg_of, primary_of}
-use Rattle.weld_names.specs.Names.{or_else, misnamed, none}
+use Rattle.weld_spell.specs.Names.{or_else, misnamed, none}
 use Rattle.weld_reduce.specs.Values.{token, expr, leg, legs}
 use Rattle.weld_reduce.specs.Forms.{at, open_legs}
 use Rattle.weld_reduce.specs.States.{State, push, with_values, names_of}

@@ -1,7 +1,7 @@
 -- The steps of a derivation make no more binders than it has tokens, and those of a type's make none.
 use Rattle.std.proofs.Common.{◌≡◌, refl, ℕ, ◌+◌, ◌≤◌, true, List, [], ◌∷◌, ◌++◌, length, ap, sym, ◌∙◌, arith, length-append}
-use Rattle.weld_terminals.specs.declared.symbol.Symbol.TheVariants.{Equals}
-use Rattle.weld_terminals.specs.declared.token.Token.{Token}
+use Rattle.weld_grammar.specs.declared.terminals.symbol.Symbol.TheVariants.{Equals}
+use Rattle.weld_grammar.specs.declared.terminals.token.Token.{Token}
 use Rattle.weld_grammar.specs.declared.terminal.Terminal.{Terminal}
 use Rattle.weld_grammar.specs.declared.terminal.Terminal.TheVariants.{Sign, Word}
 use Rattle.weld_grammar.specs.declared.rule.Rule.{Rule}

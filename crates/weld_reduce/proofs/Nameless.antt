@@ -1,7 +1,7 @@
 -- Types, kinds and the operators of builders have no names, no numbers and no `=` in them.
 use Rattle.std.proofs.Common.{◌≡◌, refl, ℕ, Bool, true, false, ◌&&◌, List, [], ◌∷◌, ap, ◌∙◌, Option, None}
-use Rattle.weld_terminals.specs.declared.symbol.Symbol.TheVariants.{Equals}
-use Rattle.weld_terminals.specs.declared.token.Token.{Token}
+use Rattle.weld_grammar.specs.declared.terminals.symbol.Symbol.TheVariants.{Equals}
+use Rattle.weld_grammar.specs.declared.terminals.token.Token.{Token}
 use Rattle.weld_grammar.specs.declared.terminal.Terminal.{Terminal}
 use Rattle.weld_grammar.specs.declared.terminal.Terminal.TheVariants.{Sign, Fixed}
 use Rattle.weld_grammar.specs.declared.rule.Rule.{Rule}
@@ -10,7 +10,7 @@ use Rattle.weld_grammar.specs.declared.item.Item.{Item}
 use Rattle.weld_grammar.specs.declared.item.Item.TheVariants.{One, Part as OfRule, Optional, Repeated}
 use Rattle.weld_grammar.specs.Grammar.{Part, item, all_of, one_of, body}
 use Rattle.weld_grammar.specs.Derivation.{Tree, leaf, node, pair, here, there}
-use Rattle.weld_names.specs.Names.{Refused, or_else, misnamed, misnamed_token, none, binding_of}
+use Rattle.weld_spell.specs.Names.{Refused, or_else, misnamed, misnamed_token, none, binding_of}
 
 abbrev pub is_nameless : Rule → Bool
 is_nameless r.Note = true

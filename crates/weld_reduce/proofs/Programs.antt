@@ -1,8 +1,8 @@
 -- The machine spells each program, and each type that stands alone.
 use Rattle.std.proofs.Common.{◌≡◌, refl, ℕ, ◌+◌, false, Option, Some, None, List, [], ◌∷◌, ◌++◌, ap, sym, ◌∙◌, append_assoc}
 use Rattle.std.proofs.lemmas.List.{append-nil}
-use Rattle.weld_terminals.specs.declared.symbol.Symbol.TheVariants as s
-use Rattle.weld_terminals.specs.declared.token.Token.{Token}
+use Rattle.weld_grammar.specs.declared.terminals.symbol.Symbol.TheVariants as s
+use Rattle.weld_grammar.specs.declared.terminals.token.Token.{Token}
 use Rattle.weld_grammar.specs.declared.terminal.Terminal.TheVariants.{Sign}
 use Rattle.weld_grammar.specs.declared.rule.Rule.TheVariants as r
 use Rattle.weld_grammar.specs.declared.item.Item.TheVariants.{One, Part as OfRule, Repeated}
@@ -12,8 +12,8 @@ use Rattle.weld_accept.specs.Derived.{steps}
 use Rattle.weld_spell.specs.Seen.{seen}
 use Rattle.weld_spell.specs.TypeOf.{type_of}
 use Rattle.weld_spell.specs.ProgramOf.{Bound, first_of, expr_of, param_of, param_bound, next_params_of, params_scope, params_behind, program_of}
-use Rattle.weld_names.specs.Names.{Refused, or_else, reserved, misnamed, none, with_params, first_misnamed}
-use Rattle.weld_programs.specs.Ranges.{number_out_of_range}
+use Rattle.weld_spell.specs.Names.{Refused, or_else, reserved, misnamed, none, with_params, first_misnamed}
+use Rattle.weld_spell.specs.Ranges.{number_out_of_range}
 use Rattle.weld_reduce.specs.Values.{token, expr}
 use Rattle.weld_reduce.specs.States.{State, push, start, names_of}
 use Rattle.weld_reduce.specs.Programs.{AreOfTheirClasses}

@@ -1,17 +1,17 @@
 -- What the machine does at a token: it's pushed, or passed over.
 use Rattle.std.proofs.Common.{◌≡◌, refl, ℕ, true, false, Option, Some, None, List, [], ◌∷◌, ◌++◌, ap}
-use Rattle.weld_terminals.specs.declared.class.Class.{Class}
-use Rattle.weld_terminals.specs.declared.class.Class.TheVariants as classes
-use Rattle.weld_terminals.specs.declared.symbol.Symbol.{Symbol}
-use Rattle.weld_terminals.specs.declared.reserved.Reserved.{Reserved}
-use Rattle.weld_terminals.specs.declared.token.Token.{Token}
+use Rattle.weld_grammar.specs.declared.terminals.class.Class.{Class}
+use Rattle.weld_grammar.specs.declared.terminals.class.Class.TheVariants as classes
+use Rattle.weld_grammar.specs.declared.terminals.symbol.Symbol.{Symbol}
+use Rattle.weld_grammar.specs.declared.terminals.reserved.Reserved.{Reserved}
+use Rattle.weld_grammar.specs.declared.terminals.token.Token.{Token}
 use Rattle.weld_grammar.specs.declared.terminal.Terminal.TheVariants.{Sign, Fixed}
 use Rattle.weld_grammar.specs.declared.item.Item.{Item}
 use Rattle.weld_grammar.specs.declared.item.Item.TheVariants.{One}
 use Rattle.weld_grammar.specs.Grammar.{Part, item, all_of, one_of}
 use Rattle.weld_grammar.specs.Derivation.{Tree, leaf, empty, pair, here, there, yield}
 use Rattle.weld_spell.specs.ProgramOf.{first_of}
-use Rattle.weld_names.specs.Names.{Refused, misnamed, none}
+use Rattle.weld_spell.specs.Names.{Refused, misnamed, none}
 use Rattle.weld_reduce.specs.Values.{token}
 use Rattle.weld_reduce.specs.States.{State, shift, push, names_of}
 use Rattle.weld_reduce.proofs.Does.{Does, since, plain, over, first, later, refuses}

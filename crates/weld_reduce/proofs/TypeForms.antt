@@ -1,10 +1,10 @@
 -- The machine spells the types that stand in a tree.
 use Rattle.std.proofs.Common.{◌≡◌, refl, false, Some, option_and_then, List, [], ◌∷◌, ◌++◌, ap, sym, ◌∙◌, append_assoc}
 use Rattle.std.proofs.lemmas.List.{append-nil}
-use Rattle.weld_terminals.specs.declared.class.Class.{Class}
-use Rattle.weld_terminals.specs.declared.symbol.Symbol.TheVariants as s
-use Rattle.weld_terminals.specs.declared.reserved.Reserved.TheVariants as w
-use Rattle.weld_terminals.specs.declared.token.Token.{Token}
+use Rattle.weld_grammar.specs.declared.terminals.class.Class.{Class}
+use Rattle.weld_grammar.specs.declared.terminals.symbol.Symbol.TheVariants as s
+use Rattle.weld_grammar.specs.declared.terminals.reserved.Reserved.TheVariants as w
+use Rattle.weld_grammar.specs.declared.terminals.token.Token.{Token}
 use Rattle.weld_tree.specs.TypeTree.{TypeTree, scalar, vec, struct, dict, build, list, total, keyed, cells, groups, more_types, pack, unpack, pack-unpack}
 use Rattle.weld_grammar.specs.declared.rule.Rule.TheVariants as r
 use Rattle.weld_grammar.specs.declared.item.Item.TheVariants.{Part as OfRule, Repeated}
@@ -12,7 +12,7 @@ use Rattle.weld_grammar.specs.Grammar.{item}
 use Rattle.weld_grammar.specs.Derivation.{Tree, node, empty, pair, here, there, yield}
 use Rattle.weld_spell.specs.ProgramOf.{first_of}
 use Rattle.weld_spell.specs.TypeOf.{type_of, next_types_of, kind_of, int_kind_of, merge_op_of}
-use Rattle.weld_names.specs.Names.{misnamed, none}
+use Rattle.weld_spell.specs.Names.{misnamed, none}
 use Rattle.weld_reduce.specs.Values.{Value, token, ty, types, op, top_token, top_types}
 use Rattle.weld_reduce.specs.Forms.{kind_of_word, merge_op}
 use Rattle.weld_reduce.specs.States.{State, push, with_values, names_of}

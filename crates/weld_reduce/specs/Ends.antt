@@ -1,6 +1,6 @@
 -- What is left when a derivation has run through.
 use Rattle.std.specs.Prelude.{◌≡◌, List, [], ◌∷◌}
-use Rattle.weld_terminals.specs.declared.token.Token.{Token}
+use Rattle.weld_grammar.specs.declared.terminals.token.Token.{Token}
 use Rattle.weld_grammar.specs.declared.rule.Rule.TheVariants.{Program, AnyType}
 use Rattle.weld_grammar.specs.declared.item.Item.TheVariants.{Part as OfRule}
 use Rattle.weld_grammar.specs.Grammar.{item}
@@ -9,7 +9,7 @@ use Rattle.weld_tree.specs.declared.place.Place.{Place}
 use Rattle.weld_spell.specs.Seen.{seen}
 use Rattle.weld_spell.specs.ProgramOf.{program_of}
 use Rattle.weld_spell.specs.TypeOf.{type_of}
-use Rattle.weld_names.specs.Names.{first_misnamed}
+use Rattle.weld_spell.specs.Names.{first_misnamed}
 use Rattle.weld_reduce.specs.Values.{expr, ty}
 use Rattle.weld_reduce.specs.States.{State}
 

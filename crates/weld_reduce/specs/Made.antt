@@ -1,6 +1,6 @@
 -- How many binders the steps of a derivation make.
 use Rattle.std.specs.Prelude.{ℕ, ◌+◌, List, [], ◌∷◌}
-use Rattle.weld_terminals.specs.declared.symbol.Symbol.TheVariants.{Equals}
+use Rattle.weld_grammar.specs.declared.terminals.symbol.Symbol.TheVariants.{Equals}
 use Rattle.weld_grammar.specs.declared.terminal.Terminal.{Terminal}
 use Rattle.weld_grammar.specs.declared.terminal.Terminal.TheVariants.{Sign}
 use Rattle.weld_grammar.specs.declared.rule.Rule.{Rule}

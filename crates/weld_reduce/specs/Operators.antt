@@ -1,6 +1,6 @@
 -- What a rule makes of expressions, by the token that it goes by.
 use Rattle.std.specs.Prelude.{List}
-use Rattle.weld_terminals.specs.declared.token.Token.{Token}
+use Rattle.weld_grammar.specs.declared.terminals.token.Token.{Token}
 use Rattle.weld_tree.specs.ExprTree.{One, neg, not, cast, len, finish, Two, binary, and, or}
 use Rattle.weld_grammar.specs.declared.rule.Rule.{Rule}
 use Rattle.weld_grammar.specs.declared.rule.Rule.TheVariants as r

@@ -1,7 +1,7 @@
 -- Derivations over tokens, and what is read of those of a program.
 use Rattle.std.specs.Prelude.{◌≡◌, List, Option, Some}
 use Rattle.std.specs.List.{AllByRecursion}
-use Rattle.weld_terminals.specs.declared.token.Token.{Token}
+use Rattle.weld_grammar.specs.declared.terminals.token.Token.{Token}
 use Rattle.weld_tokens.specs.Words.{class_of}
 use Rattle.weld_tree.specs.ExprTree.{ExprTree}
 use Rattle.weld_tree.specs.declared.binder.Binder.{Binder}
@@ -12,7 +12,7 @@ use Rattle.weld_grammar.specs.Grammar.{item}
 use Rattle.weld_grammar.specs.Derivation.{Tree, yield, IsOf}
 use Rattle.weld_spell.specs.Seen.{seen}
 use Rattle.weld_spell.specs.ProgramOf.{program_of}
-use Rattle.weld_names.specs.Names.{Refused, first_misnamed}
+use Rattle.weld_spell.specs.Names.{Refused, first_misnamed}
 use Rattle.weld_accept.specs.declared.step.Step.{Step}
 use Rattle.weld_accept.specs.Derived.{steps}
 

@@ -1,12 +1,12 @@
 -- What the steps of a derivation come to over its tokens.
 use Rattle.std.specs.Prelude.{◌≡◌, Option, Some, None, option_and_then, List, [], ◌∷◌}
-use Rattle.weld_terminals.specs.declared.token.Token.{Token}
+use Rattle.weld_grammar.specs.declared.terminals.token.Token.{Token}
 use Rattle.weld_accept.specs.declared.step.Step.{Step}
 use Rattle.weld_accept.specs.declared.step.Step.TheVariants.{Shift, Reduce}
 use Rattle.weld_tree.specs.declared.place.Place.{Place}
 use Rattle.weld_tree.specs.TypeTree.{TypeTree}
 use Rattle.weld_tree.specs.Program.{ProgramTree}
-use Rattle.weld_names.specs.Names.{Refused}
+use Rattle.weld_spell.specs.Names.{Refused}
 use Rattle.weld_reduce.specs.Values.{expr, ty}
 use Rattle.weld_reduce.specs.States.{State, shift, reduce}
 

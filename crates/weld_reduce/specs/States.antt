@@ -1,9 +1,9 @@
 -- The machine that spells a program: a stack of values, the binders that are open, the names in scope, the number of the next
 -- binder, the first name refused, and the parameters (the Weld papers).
 use Rattle.std.specs.Prelude.{ℕ, ◌+◌, true, false, Option, Some, None, option_and_then, List, [], ◌∷◌, ◌++◌}
-use Rattle.weld_terminals.specs.declared.symbol.Symbol.TheVariants as s
-use Rattle.weld_terminals.specs.declared.reserved.Reserved.TheVariants as w
-use Rattle.weld_terminals.specs.declared.token.Token.{Token}
+use Rattle.weld_grammar.specs.declared.terminals.symbol.Symbol.TheVariants as s
+use Rattle.weld_grammar.specs.declared.terminals.reserved.Reserved.TheVariants as w
+use Rattle.weld_grammar.specs.declared.terminals.token.Token.{Token}
 use Rattle.weld_tokens.specs.Literals.{string_value}
 use Rattle.weld_tree.specs.declared.place.Place.{Place}
 use Rattle.weld_tree.specs.declared.binder.Binder.{Binder}
@@ -13,7 +13,7 @@ use Rattle.weld_grammar.specs.declared.terminal.Terminal.{Terminal}
 use Rattle.weld_grammar.specs.declared.terminal.Terminal.TheVariants.{Sign, Fixed, Word, Name, Number, Field, Chars}
 use Rattle.weld_grammar.specs.declared.rule.Rule.{Rule}
 use Rattle.weld_grammar.specs.declared.rule.Rule.TheVariants as r
-use Rattle.weld_names.specs.Names.{Refused, or_else, unbound, reserved}
+use Rattle.weld_spell.specs.Names.{Refused, or_else, unbound, reserved}
 use Rattle.weld_spell.specs.ProgramOf.{Bound, number_in}
 use Rattle.weld_reduce.specs.Values.{Value, token, expr, legs, ty, Top, top_token, top_expr, top_legs}
 use Rattle.weld_reduce.specs.Forms.{at, reduced}

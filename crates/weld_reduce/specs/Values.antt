@@ -1,7 +1,7 @@
 -- What lies on the stack of a machine that spells a program: tokens, and what the rules behind are reduced to.
 use Rattle.std.specs.Prelude.{Option, Some, None, List, [], ◌∷◌}
 use Rattle.weld_data.specs.declared.op.MergeOp.{MergeOp}
-use Rattle.weld_terminals.specs.declared.token.Token.{Token}
+use Rattle.weld_grammar.specs.declared.terminals.token.Token.{Token}
 use Rattle.weld_tree.specs.declared.place.Place.{Place}
 use Rattle.weld_tree.specs.TypeTree.{TypeTree}
 use Rattle.weld_tree.specs.ExprTree.{ExprTree, LegTree, whole}

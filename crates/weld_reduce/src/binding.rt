@@ -72,6 +72,9 @@ fn loop_over(
         number,
         row,
     } = binders;
+    let first = Box::new(alloc, first)?;
+    let number = Box::new(alloc, number)?;
+    let row = Box::new(alloc, row)?;
     Ok(Box::new(
         alloc,
         Expr {

@@ -12,7 +12,7 @@ use crate::values::Values;
 use std::alloc::Global;
 use weld_data::Kind;
 use weld_grammar::Rule;
-use weld_terminals::{Class, Reserved, Token};
+use weld_grammar::terminals::{Class, Reserved, Token};
 use weld_tree::{ManyForm, OneForm, ThreeForm, TwoForm};
 
 /// The kind that a word names.

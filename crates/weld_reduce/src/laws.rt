@@ -1,6 +1,6 @@
 //! Laws of derivations. Each function's contract is the law.
 ghost use Rattle.std.specs.Prelude.{◌≡◌, ◌≤◌, None, List, length};
-ghost use Rattle.weld_terminals.specs.declared.token.Token.{Token};
+ghost use Rattle.weld_grammar.specs.declared.terminals.token.Token.{Token};
 ghost use Rattle.weld_grammar.specs.declared.rule.Rule.{Rule};
 ghost use Rattle.weld_grammar.specs.declared.rule.Rule.TheVariants.{Program, AnyType};
 ghost use Rattle.weld_grammar.specs.declared.item.Item.TheVariants.{Part as OfRule};
@@ -12,8 +12,8 @@ ghost use Rattle.weld_accept.specs.Derived.{steps, IsDerivation};
 ghost use Rattle.weld_spell.specs.Seen.{seen};
 ghost use Rattle.weld_spell.specs.TypeOf.{type_of};
 ghost use Rattle.weld_spell.specs.ProgramOf.{first_of, program_of};
-ghost use Rattle.weld_names.specs.Names.{first_misnamed};
-ghost use Rattle.weld_programs.specs.Ranges.{number_out_of_range};
+ghost use Rattle.weld_spell.specs.Names.{first_misnamed};
+ghost use Rattle.weld_spell.specs.Ranges.{number_out_of_range};
 ghost use Rattle.weld_reduce.specs.States.{start};
 ghost use Rattle.weld_reduce.specs.Runs.{run, Comes, ComesToType};
 ghost use Rattle.weld_reduce.specs.Made.{binders_made};

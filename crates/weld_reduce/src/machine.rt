@@ -12,7 +12,7 @@ use crate::state::State;
 use crate::stop::Stop;
 use std::alloc::Global;
 use weld_accept::Step;
-use weld_terminals::Token;
+use weld_grammar::terminals::Token;
 
 /// One step. It gives the number of the next token.
 #[tactic(auto, using(crate::proofs::CodeNumbers::behind_shift))]

@@ -12,7 +12,7 @@ use crate::values::Values;
 use std::alloc::Global;
 use weld_data::Kind;
 use weld_grammar::Rule;
-use weld_terminals::{Class, Token};
+use weld_grammar::terminals::{Class, Token};
 use weld_tokens::{class_of, field_of, literal_of};
 use weld_tree::{Expr, LeafForm, OneForm, Place};
 

@@ -12,7 +12,7 @@ use crate::values::Values;
 use std::alloc::Global;
 use weld_data::BinOp;
 use weld_grammar::Rule;
-use weld_terminals::{Class, Symbol, Token};
+use weld_grammar::terminals::{Class, Symbol, Token};
 use weld_tree::TwoForm;
 
 /// The operator of an equality's token.

@@ -1,6 +1,6 @@
 //! The binders that are open, and the names in scope.
 ghost use Rattle.std.specs.Prelude.{◌≡◌, ◌∷◌, [], Some, None, true, false, if◌then◌else◌, MatchOption, OnOk, IfSome, IfNone, IsSome, ℕ, List, bytes_eq};
-ghost use Rattle.weld_names.specs.Names.{bears};
+ghost use Rattle.weld_spell.specs.Names.{bears};
 ghost use Rattle.weld_spell.specs.ProgramOf.{number_in};
 ghost use Rattle.weld_reduce.specs.Views.{view_named, view_seen};
 ghost use Rattle.weld_reduce.specs.States.{names_of};
@@ -10,7 +10,7 @@ ghost use Rattle.weld_reduce.specs.Hiding.{number_at};
 use std::alloc::{AllocError, Global};
 use std::collections::HashMap;
 use std::marker::Model;
-use weld_terminals::Token;
+use weld_grammar::terminals::Token;
 use weld_tree::Binder;
 
 /// A binder with its word.

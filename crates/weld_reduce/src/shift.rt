@@ -3,7 +3,7 @@ ghost use Rattle.std.specs.Prelude.{◌≡◌, ◌∷◌, ◌+◌, ◌<◌, Some
 ghost use Rattle.weld_tree.specs.ExprTree.{leaf as leaf_at};
 ghost use Rattle.weld_tree.specs.ExprView.{view_leaf};
 ghost use Rattle.weld_grammar.specs.declared.terminal.Terminal.TheVariants as terminals;
-ghost use Rattle.weld_names.specs.Names.{unbound};
+ghost use Rattle.weld_spell.specs.Names.{unbound};
 ghost use Rattle.weld_spell.specs.ProgramOf.{number_in};
 ghost use Rattle.weld_reduce.specs.declared.stop.Stop.TheVariants.{Broken};
 ghost use Rattle.weld_reduce.specs.Values.{token as token_value, expr};
@@ -19,7 +19,7 @@ use crate::stop::Stop;
 use crate::value::Value;
 use std::alloc::{AllocError, Global};
 use weld_grammar::Terminal;
-use weld_terminals::{Class, Reserved, Symbol, Token};
+use weld_grammar::terminals::{Class, Reserved, Symbol, Token};
 use weld_tokens::chars_of;
 use weld_tree::{Code, LeafForm, Legs, Place, Sym};
 

@@ -12,8 +12,8 @@ use crate::state::State;
 use crate::stop::Stop;
 use std::alloc::{AllocError, Global};
 use weld_accept::Step;
-use weld_programs::laws::numbers_by_the_tree;
-use weld_terminals::Token;
+use weld_grammar::terminals::Token;
+use weld_spell::programs::numbers_by_the_tree;
 use weld_tree::{Binders, Code, Expr, Place};
 
 /// A program as its tokens spell it: its parameters, its body, and the first of its names that is refused: with N1

@@ -11,7 +11,7 @@ use crate::value::Value;
 use crate::values::Values;
 use std::alloc::{AllocError, Global};
 use weld_data::{Kind, MergeOp};
-use weld_terminals::{Class, Reserved, Symbol};
+use weld_grammar::terminals::{Class, Reserved, Symbol};
 use weld_tree::{Ty, TyForm, Tys};
 
 /// The operator of a builder that a token names.

@@ -1,6 +1,6 @@
 //! What lies on the machine's stack.
 use weld_data::MergeOp;
-use weld_terminals::Token;
+use weld_grammar::terminals::Token;
 use weld_tree::{Expr, Exprs, Leg, Legs, Place, Ty, Tys};
 
 /// A token; an expression; two or more of a list; a leg; legs; a type with the place of its first token; two or more of

@@ -11,7 +11,7 @@ use crate::value::Value;
 use std::alloc::{AllocError, Global};
 use std::marker::Model;
 use weld_data::MergeOp;
-use weld_terminals::Token;
+use weld_grammar::terminals::Token;
 use weld_tree::{Expr, Exprs, Leg, Legs, Place, Ty, Tys};
 
 /// The values. Contracts see them as plain data, the newest first.

@@ -14,7 +14,7 @@ use crate::stop::Stop;
 use std::alloc::{AllocError, Global};
 use weld_accept::{Step, derive};
 use weld_grammar::Rule;
-use weld_terminals::Token;
+use weld_grammar::terminals::Token;
 use weld_tree::Ty;
 
 /// The type that all these tokens derive. None where they derive no type, or one over the limits on

@@ -13,7 +13,7 @@ use Rattle.weld_meaning.specs.Typing.{Types, HaveTypes}
 use Rattle.weld_meaning.specs.Evaluation.{Env, eval, many_thing, merged, truth_of, eval_legs, rows_of}
 use Rattle.weld_meaning.specs.Meaning.{GivesOrFaults}
 use Rattle.weld_meaning.proofs.NeverStuck.{never_stuck}
-use Rattle.weld_eval_values.specs.Fits.{IsTruth}
+use Rattle.weld_eval.specs.Fits.{IsTruth}
 use Rattle.weld_eval.specs.declared.thing.Owned.{Owned}
 use Rattle.weld_eval.specs.declared.thing.Owned as owned
 use Rattle.weld_eval.specs.declared.thing.Fields.{Fields}
@@ -38,7 +38,7 @@ use Rattle.weld_eval_plain.proofs.Nodes.{let_value_fits}
 use Rattle.weld_eval_plain.proofs.Rows.{legs_there}
 use Rattle.weld_eval_forms.specs.Legs.{leg_lists}
 use Rattle.weld_eval.specs.declared.thing.Held.{Held}
-use Rattle.weld_eval_values.specs.Answers.{Answers}
+use Rattle.weld_eval.specs.Answers.{Answers}
 use Rattle.weld_rows.specs.Numbers.{TriesNumber, ReadsNumber}
 use Rattle.weld_blocks.specs.Puts.{PutFits, IsWrittenPair}
 use Rattle.weld_blocks.proofs.Merges.{put_fault, as_pair, key_is, item_is}

@@ -7,7 +7,7 @@ use Rattle.weld_meaning.specs.Thing.{plain}
 use Rattle.weld_meaning.specs.ThingType.{HasThing}
 use Rattle.weld_meaning.specs.Typing.{truth_type}
 use Rattle.weld_meaning.specs.Evaluation.{Env, eval, three_thing, truth_of}
-use Rattle.weld_eval_values.specs.Fits.{IsTruth}
+use Rattle.weld_eval.specs.Fits.{IsTruth}
 use Rattle.weld_eval.specs.Fit.{IsFit}
 use Rattle.weld_eval.specs.Takes.{IsScalar}
 use Rattle.weld_eval.proofs.Children.{gives}

@@ -6,7 +6,7 @@ use Rattle.weld_data.specs.Kind.{IsInteger}
 use Rattle.weld_tree.specs.ExprTree.{neg, not as not_of, cast}
 use Rattle.weld_builders.specs.Outcome.{done, map_out, Outcome}
 use Rattle.weld_meaning.specs.Thing.{plain}
-use Rattle.weld_eval_values.specs.Fits.{IsIntegerNumber, IsTruth}
+use Rattle.weld_eval.specs.Fits.{IsIntegerNumber, IsTruth}
 use Rattle.weld_eval.specs.Takes.{OneTakes}
 use Rattle.weld_eval_forms.proofs.Shapes.{neg_number, not_truth as is_truth, cast_kind}
 use Rattle.std.proofs.Common.{List, refl, sym, ◌∙◌}

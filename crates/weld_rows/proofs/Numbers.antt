@@ -15,8 +15,8 @@ use Rattle.weld_meaning.specs.Thing.{Thing, plain, building, several}
 use Rattle.weld_meaning.specs.ThingType.{HasThing}
 use Rattle.weld_meaning.specs.Typing.{Types, HasType, truth_type}
 use Rattle.weld_meaning.specs.Evaluation.{Env, eval, operated, one_thing, two_thing, three_thing, truth_of, truth_value, chosen}
-use Rattle.weld_eval_values.specs.Answers.{Answers}
-use Rattle.weld_eval_values.specs.Fits.{AreOperands, IsTruth}
+use Rattle.weld_eval.specs.Answers.{Answers}
+use Rattle.weld_eval.specs.Fits.{AreOperands, IsTruth}
 use Rattle.weld_eval.specs.Fit.{IsFit}
 use Rattle.weld_eval.specs.ShortView.{view_short}
 use Rattle.weld_eval.specs.declared.short.Short.{Short}

@@ -10,7 +10,7 @@ use Rattle.weld_meaning.specs.Evaluation.{Env, eval, eval_leg, eval_legs, rows_o
 use Rattle.weld_eval.specs.Fit.{IsFit, LegsAreFit}
 use Rattle.weld_eval.specs.Takes.{OneTakes, row_of}
 use Rattle.weld_data.specs.declared.stop.Stop.{Stop}
-use Rattle.weld_eval_values.specs.Answers.{Answers}
+use Rattle.weld_eval.specs.Answers.{Answers}
 use Rattle.weld_eval_forms.specs.Legs.{leg_lists, elements_in, RowsAnswer}
 use Rattle.weld_eval_forms.specs.Legs.{rows_in as forms_rows}
 use Rattle.weld_eval.specs.declared.thing.Held.{Held}

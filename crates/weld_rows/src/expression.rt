@@ -8,7 +8,7 @@ ghost use Rattle.weld_eval.specs.FrameView.{env_of};
 ghost use Rattle.weld_eval.specs.ThingView.{held_of};
 ghost use Rattle.weld_eval_plain.specs.Nodes.{IsIterate};
 ghost use Rattle.weld_eval_plain.specs.Turns.{HoldsState, turns_from};
-ghost use Rattle.weld_eval_values.specs.Answers.{Answers};
+ghost use Rattle.weld_eval.specs.Answers.{Answers};
 
 use crate::walk::{run_turns, value};
 use std::alloc::Global;

@@ -13,7 +13,7 @@ ghost use Rattle.weld_eval.specs.ThingView.{held_of, thing_of};
 ghost use Rattle.weld_data.specs.View.{view_column};
 ghost use Rattle.weld_eval_forms.specs.Legs.{elements_in, IsVector};
 ghost use Rattle.weld_eval_plain.specs.Nodes.{decided};
-ghost use Rattle.weld_eval_values.specs.Answers.{Answers};
+ghost use Rattle.weld_eval.specs.Answers.{Answers};
 ghost use Rattle.weld_blocks.specs.Puts.{IsWrittenPair};
 ghost use Rattle.weld_tree.specs.ExprTree.{binary};
 ghost use Rattle.weld_rows.specs.Numbers.{IsBinaryForm, number_thing, numeric, numeric_leaf, numeric_one, numeric_two, IsOnNumber, IsNumberThing};

@@ -15,7 +15,7 @@ use weld_data::Num;
 use weld_eval::frame::{Frame, Slot, read};
 use weld_eval::number::{number_of, pair_of};
 use weld_eval::short::Short;
-use weld_eval_values::field_of;
+use weld_eval::values::field_of;
 use weld_tree::{Expr, Form, LeafForm, OneForm, Sym};
 
 /// The number that an expression is, where it is a literal, a name or a field of a name and a number.

@@ -4,7 +4,7 @@ use Rattle.weld_data.specs.Value.{Value, number, list, struct, dict, values, lis
 use Rattle.weld_tree.specs.declared.known.Known.TheVariants.{Is}
 use Rattle.weld_tree.specs.TypeTree.{TypeTree, TypeTrees, vec, build, no_types, more_types}
 use Rattle.weld_tree.specs.ExprTree.{At, ExprTree, leaf, one, two, three, many, let_in, loop, iterate, ExprTrees, no_exprs, more_exprs, no_legs, more_legs, whole, strided, Two, binary, and, or, look_up, key_exists, merge}
-use Rattle.weld_fits.specs.HasValue.{HasValue, AllAre}
+use Rattle.weld_tree.specs.HasValue.{HasValue, AllAre}
 use Rattle.weld_builders.specs.Outcome.{Outcome, done, fault, stuck, and_then, map_out}
 use Rattle.weld_meaning.specs.Thing.{Thing, plain, building, several, more_things}
 use Rattle.weld_meaning.specs.Typing.{Types, AreFormed, HasType, HaveTypes, LegsHave, RowHas, body_types}

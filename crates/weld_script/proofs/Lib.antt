@@ -1,3 +1,5 @@
+mod Fixed
+mod Rows
 mod Growing
 mod ValueTypes
 mod Columns

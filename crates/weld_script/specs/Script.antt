@@ -4,7 +4,7 @@ use Rattle.std.specs.List.{All}
 use Rattle.weld_data.specs.Kind.{InRange}
 use Rattle.weld_data.specs.Value.{Value}
 use Rattle.weld_tree.specs.TypeTree.{TypeTree, scalar}
-use Rattle.weld_fits.specs.HasValue.{HasValue}
+use Rattle.weld_tree.specs.HasValue.{HasValue}
 use Rattle.weld_calls.specs.declared.call.Call.{Call}
 use Rattle.weld_calls.specs.CallTypes.{HasItsOperator, FitsCall, IsValueType, argument, answer_of}
 use Rattle.weld_table.specs.declared.wanted.Wanted.TheVariants.{Named}

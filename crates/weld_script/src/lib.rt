@@ -4,6 +4,7 @@
 pub mod laws;
 pub mod made;
 pub mod script;
+pub mod soak;
 mod types;
 
 pub use made::{Declared, Ids, Made, MadeList};

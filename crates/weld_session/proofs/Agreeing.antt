@@ -9,7 +9,7 @@ use Rattle.weld_objects.proofs.State.{one_here, one_else, below_is_else}
 use Rattle.weld_calls.specs.declared.call.Call.{Call}
 use Rattle.weld_calls.specs.CallTypes.{HasItsOperator, FitsCall, answer_of}
 use Rattle.weld_calls.specs.CallPrograms.{fragment}
-use Rattle.weld_lists.specs.CallMeaning.{call_meaning}
+use Rattle.weld_calls.specs.CallMeaning.{call_meaning}
 use Rattle.weld_script.specs.declared.made.Made.{Made}
 use Rattle.weld_script.specs.declared.made.Made.TheVariants as makes
 use Rattle.weld_script.specs.Script.{AreBelow, AreMade, IsMade, AreInputs, types_at, declared_of, declared_type, made_type}

@@ -1,3 +1,4 @@
+pub mod Denoting
 mod Places
 mod Adding
 mod Building

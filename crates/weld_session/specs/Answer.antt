@@ -10,7 +10,7 @@ use Rattle.weld_meaning.specs.Meaning.{ArgumentsFit, meaning}
 use Rattle.weld_objects.specs.Objects.{with_one, all_done}
 use Rattle.weld_objects.specs.Reached.{is_one_of}
 use Rattle.weld_calls.specs.CallPrograms.{loops_of}
-use Rattle.weld_lists.specs.CallMeaning.{call_meaning}
+use Rattle.weld_calls.specs.CallMeaning.{call_meaning}
 use Rattle.weld_script.specs.declared.made.Made.{Made}
 use Rattle.weld_script.specs.declared.made.Made.TheVariants as makes
 use Rattle.weld_script.specs.Script.{types_at, made_type, made_types}

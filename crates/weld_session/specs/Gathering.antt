@@ -4,7 +4,7 @@ use Rattle.weld_data.specs.Value.{Value, number, struct, no_values}
 use Rattle.weld_data.specs.View.{view_val}
 use Rattle.weld_data.specs.declared.value.Val.{Val}
 use Rattle.weld_tree.specs.TypeTree.{TypeTree, scalar}
-use Rattle.weld_fits.specs.HasValue.{HasValue}
+use Rattle.weld_tree.specs.HasValue.{HasValue}
 use Rattle.weld_objects.specs.Objects.{Object, given, call, type_of}
 use Rattle.weld_calls.specs.CallTypes.{answer_of}
 use Rattle.weld_calls.specs.CallPrograms.{fragment}

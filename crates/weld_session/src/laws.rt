@@ -6,10 +6,10 @@ ghost use Rattle.weld_script.specs.declared.made.Made.{Made};
 ghost use Rattle.weld_script.specs.Script.{AreMade, AreInputs, IsScript, declared_of};
 ghost use Rattle.weld_session.specs.Answer.{IsReached, MayBeGathered, reached};
 
-use weld_call_objects::laws::library_objects_mean_their_lists;
+use crate::call_objects::library_objects_mean_their_lists;
 use weld_calls::laws::rows_are_short;
-use weld_fragments::laws::{fragments_are_accepted, fragments_are_small};
 use weld_lazy::laws::inputs_are_given_up;
+use weld_libraries::fragments::laws::{fragments_are_accepted, fragments_are_small};
 use weld_meaning::laws::types_are_well_formed;
 use weld_objects::laws::{objects_make_one_program, one_program_means_the_objects};
 use weld_script::laws::declarations_have_types_of_values;

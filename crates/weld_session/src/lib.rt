@@ -2,6 +2,7 @@
 #![tactic(auto)]
 
 mod add;
+pub mod call_objects;
 mod graph;
 pub mod laws;
 mod lower;

@@ -4,15 +4,15 @@ ghost use Rattle.weld_script.specs.Script.{AreInputs, declared_of};
 ghost use Rattle.weld_session.specs.Answer.{IsGathered};
 
 use crate::add::object_ids;
+use crate::call_objects::library_objects_mean_their_lists;
 use crate::graph::graph_of;
 use crate::lower::{lower_shown, type_of_shown};
 use std::alloc::{AllocError, Global};
-use weld_call_objects::laws::library_objects_mean_their_lists;
 use weld_calls::laws::rows_are_short;
 use weld_data::Vals;
-use weld_fragments::laws::fragments_are_small;
 use weld_lazy::Lowered;
 use weld_lazy::laws::inputs_are_given_up;
+use weld_libraries::fragments::laws::fragments_are_small;
 use weld_meaning::Accepted;
 use weld_script::Script;
 use weld_tree::Ty;

@@ -13,8 +13,8 @@ use Rattle.weld_plan.specs.declared.plan.Plan.{Plan}
 use Rattle.weld_exec.specs.Run.{evaluation_of, rows_at, program_meaning, AtLoop}
 use Rattle.weld_exec.specs.declared.env.Env.{Env as State}
 use Rattle.weld_exec.proofs.Tiling.{bare_ready, tile_means}
-use Rattle.weld_workers.specs.declared.span.Span.{Span}
-use Rattle.weld_workers.specs.Spans.{AreSpans, OnFault}
+use Rattle.weld_board.specs.declared.workers.span.Span.{Span}
+use Rattle.weld_board.specs.Spans.{AreSpans, OnFault}
 use Rattle.weld_share.specs.declared.stretch.Stretch.{Stretch}
 use Rattle.weld_share.specs.Stretches.{IsStretch, AreStretches}
 use Rattle.weld_share.specs.Shared.{first_row, row_from, row_of, AreShared, HasMade}

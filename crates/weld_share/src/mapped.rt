@@ -4,7 +4,7 @@ ghost use Rattle.std.specs.Prelude.{◌≡◌, ◌≤◌, ◌<◌, ◌^◌, leng
 ghost use Rattle.weld_tree.specs.Program.{loops};
 ghost use Rattle.weld_data.specs.View.{view_val};
 ghost use Rattle.weld_meaning.specs.Meaning.{ArgumentsFit, meaning};
-ghost use Rattle.weld_eval_values.specs.Answers.{Answers};
+ghost use Rattle.weld_eval.specs.Answers.{Answers};
 ghost use Rattle.weld_plan.specs.PlanView.{IsPlan};
 ghost use Rattle.weld_sizes.specs.Lanes.{lane_marks};
 ghost use Rattle.weld_sizes.specs.Marks.{set_among};

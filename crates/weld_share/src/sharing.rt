@@ -2,11 +2,11 @@
 
 ghost use Rattle.std.specs.Prelude.{◌≡◌, ◌≤◌, ◌<◌, ◌++◌, ℕ, length, IfOk, OnOk};
 ghost use Rattle.weld_builders.specs.Outcome.{fault};
-ghost use Rattle.weld_eval_values.specs.Answers.{OnFault};
+ghost use Rattle.weld_eval.specs.Answers.{OnFault};
 ghost use Rattle.weld_eval.specs.ThingView.{thing_of};
 ghost use Rattle.weld_tile_parts.specs.Parts.{joined_evaluation, IsWhole};
 ghost use Rattle.weld_exec.specs.Run.{program_meaning, evaluation_of, rows_at, AtLoop};
-ghost use Rattle.weld_workers.specs.Spans.{AreSpans, IsMade};
+ghost use Rattle.weld_board.specs.Spans.{AreSpans, IsMade};
 ghost use Rattle.weld_share.specs.Stretches.{AreStretches};
 ghost use Rattle.weld_share.specs.Shared.{AreShared, HasMade, row_of};
 
@@ -16,13 +16,13 @@ use crate::told::run_told;
 use crate::way::Way;
 use std::alloc::Global;
 use std::thread::Threads;
+use weld_board::workers::{Jobs, Span, share_jobs};
 use weld_data::Stop;
 use weld_eval::thing::Owned;
 use weld_exec::{bare_part, part_of};
 use weld_ports::Gate;
 use weld_tile_parts::Joined;
 use weld_tiles::Tile;
-use weld_workers::{Jobs, Span, share_jobs};
 
 /// Stretches of a loop that follow one another, as jobs.
 #[derive(Drop)]

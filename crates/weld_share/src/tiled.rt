@@ -2,7 +2,7 @@
 
 ghost use Rattle.std.specs.Prelude.{◌≡◌, ◌∷◌, ◌≤◌, ◌<◌, ◌+◌, ◌^◌, ◌++◌, ℕ, IfOk, OnOk, All};
 ghost use Rattle.weld_builders.specs.Outcome.{fault};
-ghost use Rattle.weld_eval_values.specs.Answers.{OnFault};
+ghost use Rattle.weld_eval.specs.Answers.{OnFault};
 ghost use Rattle.weld_tiles.specs.Tiling.{Follows, IsTiling};
 ghost use Rattle.weld_tiles.specs.declared.tile.Tile.{Tile};
 ghost use Rattle.weld_tile_parts.specs.Parts.{joined_evaluation, IsWhole};

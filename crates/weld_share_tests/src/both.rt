@@ -3,7 +3,7 @@
 
 ghost use Rattle.std.specs.Prelude.{◌≡◌, ◌≤◌, IfOk};
 ghost use Rattle.weld_data.specs.View.{view_val};
-ghost use Rattle.weld_fits.specs.HasValue.{HasValue};
+ghost use Rattle.weld_tree.specs.HasValue.{HasValue};
 ghost use Rattle.weld_meaning.specs.Typing.{ProgramHas};
 ghost use Rattle.weld_meaning.specs.Meaning.{ArgumentsFit};
 ghost use Rattle.weld_plan.specs.PlanView.{IsPlan};
@@ -19,9 +19,9 @@ use weld_exec_tests::programs::{
 use weld_meaning::laws::typed_programs_are_never_stuck;
 use weld_plan::{Plan, make_plan};
 use weld_ports::NoGate;
+use weld_script::soak::{Soak, make_soak};
 use weld_session::{Gathered, gather};
 use weld_share::{RunNote, run_mapped, run_plan};
-use weld_soak::{Soak, make_soak};
 use weld_tree::Ty;
 
 /// The numbers of workers, each with a cut.

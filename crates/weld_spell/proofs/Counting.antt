@@ -1,6 +1,6 @@
 -- Binders are numbered in the order of the text.
 use Rattle.std.proofs.Common.{◌≡◌, refl, ℕ, zero, suc, ◌+◌, ◌<◌, List, [], ◌∷◌, ◌++◌, ap, sym, ◌∙◌, subst, arith, add-one, inl, inr}
-use Rattle.weld_terminals.specs.declared.token.Token.{Token}
+use Rattle.weld_grammar.specs.declared.terminals.token.Token.{Token}
 use Rattle.weld_tree.specs.ExprTree.{ExprTree, one}
 use Rattle.weld_tree.specs.Program.{ProgramTree, bound, bound_in, bound_in_leg, bound_in_legs, syms_of, IsOneOf, AreDistinct}
 use Rattle.weld_grammar.specs.Derivation.{Tree, node, pair, here, there}

@@ -1,2 +1,16 @@
+pub mod Standing
+pub mod Broken
+pub mod Modes
+pub mod Flows
+pub mod Fine
+pub mod Sound
+pub mod Terminals
+pub mod Passing
+pub mod Parameters
+pub mod Scans
+pub mod Fields
+pub mod Sizes
+pub mod Types
+pub mod Written
 pub mod Trees
 pub mod Counting

@@ -1,8 +1,8 @@
 -- Trees over tokens and over their classes.
 use Rattle.std.proofs.Common.{◌≡◌, refl, List, [], ◌∷◌, ◌++◌, ap, sym, ◌∙◌, append_assoc, subst}
 use Rattle.std.proofs.lemmas.List.{append-nil}
-use Rattle.weld_terminals.specs.declared.class.Class.{Class}
-use Rattle.weld_terminals.specs.declared.token.Token.{Token}
+use Rattle.weld_grammar.specs.declared.terminals.class.Class.{Class}
+use Rattle.weld_grammar.specs.declared.terminals.token.Token.{Token}
 use Rattle.weld_tree.specs.Program.{ProgramTree}
 use Rattle.weld_grammar.specs.declared.rule.Rule.{Rule}
 use Rattle.weld_grammar.specs.declared.rule.Rule.TheVariants.{Program}

@@ -1,3 +1,6 @@
+pub mod Names
+pub mod Ranges
+pub mod Measures
 pub mod Seen
 pub mod TypeOf
 pub mod Types

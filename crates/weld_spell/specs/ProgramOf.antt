@@ -5,9 +5,9 @@ use Rattle.weld_data.specs.declared.kind.Kind.{Kind}
 use Rattle.weld_data.specs.declared.kind.Kind.TheVariants as kinds
 use Rattle.weld_data.specs.declared.op.BinOp.{BinOp}
 use Rattle.weld_data.specs.declared.op.BinOp.TheVariants as ops
-use Rattle.weld_terminals.specs.declared.class.Class.{Class}
-use Rattle.weld_terminals.specs.declared.class.Class.TheVariants as classes
-use Rattle.weld_terminals.specs.declared.token.Token.{Token}
+use Rattle.weld_grammar.specs.declared.terminals.class.Class.{Class}
+use Rattle.weld_grammar.specs.declared.terminals.class.Class.TheVariants as classes
+use Rattle.weld_grammar.specs.declared.terminals.token.Token.{Token}
 use Rattle.weld_tokens.specs.Literals.{literal_value, field_value, string_value}
 use Rattle.weld_tree.specs.TypeTree.{TypeTree, BuildTree, list, total, keyed, cells, groups}
 use Rattle.weld_tree.specs.ExprTree.{ExprTree, ExprTrees, LegTree, LegTrees, At, leaf as leaf_at, one, two, three, many, let_in, loop, iterate, no_exprs, more_exprs, no_legs, more_legs, whole, strided, int, truth, chars, name, fresh, neg, not, cast, len, field, finish, started, binary, and, or, look_up, key_exists, merge, if_else, select, slice, make_vec, make_struct}

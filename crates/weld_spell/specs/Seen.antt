@@ -1,6 +1,6 @@
 -- Trees over tokens, as the grammar sees them.
-use Rattle.weld_terminals.specs.declared.class.Class.{Class}
-use Rattle.weld_terminals.specs.declared.token.Token.{Token}
+use Rattle.weld_grammar.specs.declared.terminals.class.Class.{Class}
+use Rattle.weld_grammar.specs.declared.terminals.token.Token.{Token}
 use Rattle.weld_grammar.specs.Derivation.{Tree, leaf, node, empty, pair, here, there}
 
 -- what the grammar sees of a tree of tokens

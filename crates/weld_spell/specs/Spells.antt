@@ -1,6 +1,6 @@
 -- Which program tokens spell (the Weld papers).
 use Rattle.std.specs.Prelude.{◌≡◌, List}
-use Rattle.weld_terminals.specs.declared.token.Token.{Token}
+use Rattle.weld_grammar.specs.declared.terminals.token.Token.{Token}
 use Rattle.weld_tree.specs.Program.{ProgramTree}
 use Rattle.weld_grammar.specs.declared.rule.Rule.TheVariants.{Program}
 use Rattle.weld_grammar.specs.declared.item.Item.TheVariants.{Part as OfRule}

@@ -1,6 +1,6 @@
 -- Which type tokens spell (the Weld papers, with the limits of this project's profile).
 use Rattle.std.specs.Prelude.{◌≡◌, ℕ, List}
-use Rattle.weld_terminals.specs.declared.token.Token.{Token}
+use Rattle.weld_grammar.specs.declared.terminals.token.Token.{Token}
 use Rattle.weld_tree.specs.TypeTree.{TypeTree}
 use Rattle.weld_tree.specs.Types.{IsWithinLimits}
 use Rattle.weld_grammar.specs.declared.rule.Rule.TheVariants.{AnyType}

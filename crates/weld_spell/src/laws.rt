@@ -1,6 +1,6 @@
 //! Laws of spelling. Each function's contract is the law.
 ghost use Rattle.std.specs.Prelude.{◌≡◌, ℕ, List, ◌++◌};
-ghost use Rattle.weld_terminals.specs.declared.token.Token.{Token};
+ghost use Rattle.weld_grammar.specs.declared.terminals.token.Token.{Token};
 ghost use Rattle.weld_tree.specs.Program.{ProgramTree, bound, syms_of, AreDistinct};
 ghost use Rattle.weld_grammar.specs.declared.rule.Rule.TheVariants.{Program};
 ghost use Rattle.weld_grammar.specs.Breaks.{Derives};

@@ -2,3 +2,6 @@
 #![tactic(auto)]
 
 pub mod laws;
+pub mod measures;
+pub mod names;
+pub mod programs;

@@ -2,7 +2,7 @@
 use Rattle.std.proofs.Common.{◌≡◌, ℕ, ◌==◌, if◌then◌else◌, Bool, true, false, Some, None, refl}
 use Rattle.weld_tree.specs.ExprTree.{At, ExprTree, leaf, one, two, three, many, let_in, loop, iterate, ExprTrees, no_exprs, more_exprs, LegTree, whole, strided, LegTrees, no_legs, more_legs, Leaf, int, truth, chars, name, fresh}
 use Rattle.weld_meaning.specs.Names.{put_in_leaf, put, put_in_all, put_in_leg, put_in_legs}
-use Rattle.weld_sweep.specs.Sweep.{or_same, settled, swept, all_swept, leg_swept, legs_swept}
+use Rattle.weld_rewriting.specs.Sweep.{or_same, settled, swept, all_swept, leg_swept, legs_swept}
 use Rattle.weld_substitution.specs.Uses.{use_rule}
 
 chosen : (b : Bool) (v e : ExprTree) → or_same (if b then Some v else None) e ≡ (if b then v else e)

@@ -1,3 +1,4 @@
+pub mod Redex
 pub mod Uses
 pub mod FreeNames
 pub mod Gathering

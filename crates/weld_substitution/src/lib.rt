@@ -4,6 +4,7 @@
 
 mod free;
 pub mod laws;
+pub mod put_anywhere;
 mod putting;
 mod scope;
 mod syms;

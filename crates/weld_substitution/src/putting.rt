@@ -5,7 +5,7 @@ ghost use Rattle.weld_meaning.specs.Names.{put};
 ghost use Rattle.weld_substitution.specs.Uses.{is_use, use_rule};
 
 use std::alloc::{AllocError, Global};
-use weld_sweep::{Rule, sweep};
+use weld_rewriting::sweep::{Rule, sweep};
 use weld_tree::{Expr, Form, LeafForm, Sym};
 
 /// Whether the expression is a use of the name. It takes no memory.

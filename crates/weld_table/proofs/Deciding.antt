@@ -9,7 +9,7 @@ use Rattle.weld_data.specs.Wrapped.{wrapped}
 use Rattle.weld_data.proofs.Wrapping.{IsWrapped-wrapped}
 use Rattle.weld_data.specs.Value.{Value, number, struct, values}
 use Rattle.weld_tree.specs.TypeTree.{TypeTree, scalar, vec, struct as struct_of, dict, build}
-use Rattle.weld_fits.specs.HasValue.{HasValue, AllAre}
+use Rattle.weld_tree.specs.HasValue.{HasValue, AllAre}
 use Rattle.weld_values.specs.declared.fault.DataFault.{DataFault}
 use Rattle.weld_values.specs.declared.fault.DataFault.TheVariants as faults
 use Rattle.weld_values.specs.Reading.{ReadsAs, WhyNot}

@@ -2,7 +2,7 @@
 
 ghost use Rattle.std.specs.Prelude.{◌≡◌, ◌⊎◌, ℕ, List, Some};
 ghost use Rattle.weld_data.specs.Value.{Value};
-ghost use Rattle.weld_fits.specs.HasValue.{HasValue};
+ghost use Rattle.weld_tree.specs.HasValue.{HasValue};
 ghost use Rattle.weld_tree.specs.TypeTree.{TypeTree};
 ghost use Rattle.weld_table.specs.declared.wanted.Wanted.{Wanted};
 ghost use Rattle.weld_table.specs.declared.wanted.Wanted.TheVariants.{Fields};

@@ -1,3 +1,5 @@
+pub mod Left
+pub mod Earlier
 pub mod Runs
 pub mod Greatest
 pub mod Longest

@@ -4,9 +4,9 @@ use Rattle.std.proofs.lemmas.Bool.Decides.{nat_tests}
 use Rattle.std.specs.Prelude.{option_and_then}
 use Rattle.std.proofs.lemmas.List.{length-take-le}
 use Rattle.std.specs.Option.{option_map, is_some}
-use Rattle.weld_terminals.specs.declared.symbol.Symbol.{Symbol}
-use Rattle.weld_terminals.specs.declared.class.Class.{Class}
-use Rattle.weld_terminals.specs.declared.class.Class.TheVariants as classes
+use Rattle.weld_grammar.specs.declared.terminals.symbol.Symbol.{Symbol}
+use Rattle.weld_grammar.specs.declared.terminals.class.Class.{Class}
+use Rattle.weld_grammar.specs.declared.terminals.class.Class.TheVariants as classes
 use Rattle.weld_tokens.specs.Bytes.{is_letter, is_digit, is_word_byte, is_plain, is_escape, is_hex, all_of}
 use Rattle.weld_tokens.specs.Words.{class_of, is_token, word_class, number_class, is_field, is_over, ends_string, ends_escape, ends_hex, ends_last_hex, single, double, symbol_of}
 use Rattle.weld_tokens.specs.Tokens.{longest_token}

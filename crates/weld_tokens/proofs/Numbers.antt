@@ -4,10 +4,10 @@ use Rattle.std.proofs.Math.Seq.{drop-cons}
 use Rattle.std.proofs.Math.Nat.{le-suc_iff, mul-le-mul_left, mul-le-mul_right, mul_assoc}
 use Rattle.std.proofs.lemmas.Bool.Decides.{nat_tests}
 use Rattle.std.specs.Option.{option_map}
-use Rattle.weld_terminals.specs.declared.symbol.Symbol.{Symbol}
-use Rattle.weld_terminals.specs.declared.reserved.Reserved.{Reserved}
-use Rattle.weld_terminals.specs.declared.class.Class.{Class}
-use Rattle.weld_terminals.specs.declared.class.Class.TheVariants as classes
+use Rattle.weld_grammar.specs.declared.terminals.symbol.Symbol.{Symbol}
+use Rattle.weld_grammar.specs.declared.terminals.reserved.Reserved.{Reserved}
+use Rattle.weld_grammar.specs.declared.terminals.class.Class.{Class}
+use Rattle.weld_grammar.specs.declared.terminals.class.Class.TheVariants as classes
 use Rattle.weld_tokens.specs.Words.{class_of, word_class, reserved_or_name, written_so, all_reserved, number_class, is_over, is_field, ends_string, symbol_of}
 use Rattle.weld_tokens.specs.Bytes.{is_digit, is_letter, is_word_byte, all_of}
 use Rattle.weld_tokens.specs.Literals.{number_value, field_value, value_behind, items_value, escape_value, byte_value, low_value}

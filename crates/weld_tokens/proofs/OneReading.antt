@@ -1,8 +1,8 @@
 -- A text has one reading.
 use Rattle.std.proofs.Common.{◌≡◌, ℕ, List, [], ◌∷◌, refl, sym, ap, subst, ◌∙◌, arith, Some}
 use Rattle.weld_tree.specs.declared.place.Place.{Place}
-use Rattle.weld_terminals.specs.declared.class.Class.{Class}
-use Rattle.weld_terminals.specs.declared.token.Token.{Token}
+use Rattle.weld_grammar.specs.declared.terminals.class.Class.{Class}
+use Rattle.weld_grammar.specs.declared.terminals.token.Token.{Token}
 use Rattle.std.specs.List.{AllByRecursion}
 use Rattle.weld_tokens.specs.Words.{class_of}
 use Rattle.weld_tokens.specs.Tokens.{start, longest_token, word_place, place_behind, after_gap, after_word, IsFirst, Begins, AreTokens, IsWrongAt}

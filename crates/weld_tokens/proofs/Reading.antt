@@ -1,10 +1,10 @@
 -- Reading the tokens of a text, one after another.
 use Rattle.std.proofs.Common.{◌≡◌, ◌≢◌, ℕ, suc, ◌+◌, ◌≤◌, Bool, false, List, [], ◌∷◌, ◌++◌, length, take, drop, refl, sym, ap, subst, ◌∙◌, arith, Option, Some, None}
 use Rattle.weld_tree.specs.declared.place.Place.{Place}
-use Rattle.weld_terminals.specs.declared.token.Token.{Token}
+use Rattle.weld_grammar.specs.declared.terminals.token.Token.{Token}
 use Rattle.std.specs.Option.{is_some}
 use Rattle.std.proofs.lemmas.List.{take_all}
-use Rattle.weld_terminals.specs.declared.class.Class.{Class}
+use Rattle.weld_grammar.specs.declared.terminals.class.Class.{Class}
 use Rattle.weld_tokens.specs.Words.{class_of, is_token}
 use Rattle.weld_tokens.specs.Tokens.{start, greatest, longest_token, gap_len, place_after, word_place, place_behind, after_gap, first_word, after_word, IsFirst, Begins}
 use Rattle.weld_tokens.specs.Scanning.{IsLongest}

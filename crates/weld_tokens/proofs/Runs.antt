@@ -4,7 +4,7 @@ use Rattle.std.proofs.Math.Seq.{drop-cons}
 use Rattle.std.specs.Prelude.{option_and_then}
 use Rattle.std.specs.Option.{option_map}
 use Rattle.weld_tokens.specs.Bytes.{is_blank, is_digit}
-use Rattle.weld_terminals.specs.declared.class.Class.TheVariants as classes
+use Rattle.weld_grammar.specs.declared.terminals.class.Class.TheVariants as classes
 use Rattle.weld_tokens.specs.Tokens.{gap_len, comment_len}
 use Rattle.weld_tokens.specs.Scanning.{run_len, number_end, longer_number, end_in, is_item, next_part}
 use Rattle.weld_tokens.specs.declared.scan.Part.{Part}

@@ -2,8 +2,8 @@
 use Rattle.std.proofs.Common.{◌≡◌, ◌⊎◌, inl, inr, ℕ, zero, suc, ◌<◌, ◌≤◌, true, List, [], ◌∷◌, ◌++◌, length, take, refl, arith, Option, Some, None, length-drop}
 use Rattle.std.specs.Option.{is_some}
 use Rattle.weld_tree.specs.declared.place.Place.{Place}
-use Rattle.weld_terminals.specs.declared.class.Class.{Class}
-use Rattle.weld_terminals.specs.declared.token.Token.{Token}
+use Rattle.weld_grammar.specs.declared.terminals.class.Class.{Class}
+use Rattle.weld_grammar.specs.declared.terminals.token.Token.{Token}
 use Rattle.weld_tokens.specs.Words.{class_of, is_token}
 use Rattle.weld_tokens.specs.Tokens.{start, longest_token, gap_len, word_place, place_behind, after_gap, first_word, after_word, IsFirst, Begins, AreTokens, IsWrongAt}
 use Rattle.weld_tokens.proofs.Greatest.{greatest-passes}

@@ -1,12 +1,12 @@
 -- Each symbol and each reserved word is the token of its own bytes.
 use Rattle.std.proofs.Common.{◌≡◌, Some, refl}
-use Rattle.weld_terminals.specs.Symbols.{symbol_text}
-use Rattle.weld_terminals.specs.ReservedWords.{reserved_text}
-use Rattle.weld_terminals.specs.declared.symbol.Symbol.{Symbol}
-use Rattle.weld_terminals.specs.declared.symbol.Symbol.TheVariants.{LeftParen, RightParen, LeftBracket, RightBracket, LeftBrace, RightBrace, Comma, Semicolon, Colon, Dot, Bar, BarBar, AndAnd, Bang, Equals, EqualsEquals, BangEquals, Less, LessEquals, Greater, GreaterEquals, Plus, Minus, Star, Slash, Percent}
-use Rattle.weld_terminals.specs.declared.reserved.Reserved.{Reserved}
-use Rattle.weld_terminals.specs.declared.reserved.Reserved.TheVariants.{Let, If, Select, Lookup, Keyexists, Len, Slice, Merge, Result, For, Iterate, Zip, Iter, Vec, Dict, Bool as BoolWord, I8, I16, I32, I64, U8, U16, U32, U64, Vecbuilder, Appender, Merger, Dictmerger, Vecmerger, Groupbuilder, Groupmerger, True, False, Min, Max, Macro}
-use Rattle.weld_terminals.specs.declared.class.Class.TheVariants as classes
+use Rattle.weld_grammar.specs.Symbols.{symbol_text}
+use Rattle.weld_grammar.specs.ReservedWords.{reserved_text}
+use Rattle.weld_grammar.specs.declared.terminals.symbol.Symbol.{Symbol}
+use Rattle.weld_grammar.specs.declared.terminals.symbol.Symbol.TheVariants.{LeftParen, RightParen, LeftBracket, RightBracket, LeftBrace, RightBrace, Comma, Semicolon, Colon, Dot, Bar, BarBar, AndAnd, Bang, Equals, EqualsEquals, BangEquals, Less, LessEquals, Greater, GreaterEquals, Plus, Minus, Star, Slash, Percent}
+use Rattle.weld_grammar.specs.declared.terminals.reserved.Reserved.{Reserved}
+use Rattle.weld_grammar.specs.declared.terminals.reserved.Reserved.TheVariants.{Let, If, Select, Lookup, Keyexists, Len, Slice, Merge, Result, For, Iterate, Zip, Iter, Vec, Dict, Bool as BoolWord, I8, I16, I32, I64, U8, U16, U32, U64, Vecbuilder, Appender, Merger, Dictmerger, Vecmerger, Groupbuilder, Groupmerger, True, False, Min, Max, Macro}
+use Rattle.weld_grammar.specs.declared.terminals.class.Class.TheVariants as classes
 use Rattle.weld_tokens.specs.Words.{class_of, word_class}
 
 pub spelled_symbol : (s : Symbol) → class_of (symbol_text s) ≡ Some (classes.Symbol s)

@@ -1,3 +1,6 @@
+pub mod Lets
+pub mod Depth
+pub mod Lists
 pub mod Bytes
 pub mod Words
 pub mod Tokens

@@ -1,7 +1,7 @@
 -- What numbers, fields and strings stand for (the Weld papers).
 use Rattle.std.specs.Prelude.{ℕ, ◌+◌, ◌*◌, ◌-◌, Bool, ◌&&◌, ◌==◌, nat_le, if◌then◌else◌, List, [], ◌∷◌, drop, ℤ, pos, neg_ℤ}
-use Rattle.weld_terminals.specs.declared.class.Class.{Class}
-use Rattle.weld_terminals.specs.declared.class.Class.TheVariants as classes
+use Rattle.weld_grammar.specs.declared.terminals.class.Class.{Class}
+use Rattle.weld_grammar.specs.declared.terminals.class.Class.TheVariants as classes
 use Rattle.weld_tokens.specs.Bytes.{is_digit}
 
 -- the number that the digits at the front write behind those of `before`

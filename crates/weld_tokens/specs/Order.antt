@@ -6,11 +6,11 @@ use Rattle.weld_tree.specs.declared.code.Code.{Code}
 use Rattle.weld_tree.specs.declared.code.Code.TheVariants.{X2, X3, M3, M4, M5, M6, M7, M8, M9}
 use Rattle.weld_tree.specs.declared.refusal.Refusal.{Refusal}
 use Rattle.weld_tree.specs.declared.refusal.Refusal.TheVariants.{At, Size}
-use Rattle.weld_terminals.specs.declared.symbol.Symbol.TheVariants.{RightParen, RightBracket, RightBrace, Minus}
-use Rattle.weld_terminals.specs.declared.reserved.Reserved.TheVariants.{True as TrueWord, False as FalseWord}
-use Rattle.weld_terminals.specs.declared.class.Class.{Class}
-use Rattle.weld_terminals.specs.declared.class.Class.TheVariants as classes
-use Rattle.weld_terminals.specs.declared.token.Token.{Token}
+use Rattle.weld_grammar.specs.declared.terminals.symbol.Symbol.TheVariants.{RightParen, RightBracket, RightBrace, Minus}
+use Rattle.weld_grammar.specs.declared.terminals.reserved.Reserved.TheVariants.{True as TrueWord, False as FalseWord}
+use Rattle.weld_grammar.specs.declared.terminals.class.Class.{Class}
+use Rattle.weld_grammar.specs.declared.terminals.class.Class.TheVariants as classes
+use Rattle.weld_grammar.specs.declared.terminals.token.Token.{Token}
 use Rattle.weld_tokens.specs.declared.order.Findings.{Findings}
 use Rattle.weld_tokens.specs.Literals.{is_in_range}
 use Rattle.weld_tokens.specs.TokenLimits.{has_too_many_tokens, first_long_name}

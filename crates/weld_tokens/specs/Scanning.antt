@@ -1,8 +1,8 @@
 -- What the scanner of this crate answers, one function after another. The public rules are in the files beside this one.
 use Rattle.std.specs.Prelude.{◌≡◌, ℕ, suc, ◌+◌, ◌<◌, ◌≤◌, Bool, true, false, ◌&&◌, ◌==◌, nat_eq, if◌then◌else◌, List, [], ◌∷◌, length, take, Option, Some, None, option_and_then}
 use Rattle.std.specs.Option.{option_map}
-use Rattle.weld_terminals.specs.declared.class.Class.{Class}
-use Rattle.weld_terminals.specs.declared.class.Class.TheVariants as classes
+use Rattle.weld_grammar.specs.declared.terminals.class.Class.{Class}
+use Rattle.weld_grammar.specs.declared.terminals.class.Class.TheVariants as classes
 use Rattle.weld_tokens.specs.declared.scan.Part.{Part}
 use Rattle.weld_tokens.specs.declared.scan.Part.TheVariants.{Item, Escape, Hex, LastHex}
 use Rattle.weld_tokens.specs.Bytes.{is_letter, is_digit, is_hex, is_plain, is_escape}

@@ -4,7 +4,7 @@ use Rattle.weld_tree.specs.declared.place.Place.{Place}
 use Rattle.weld_tree.specs.declared.refusal.Refusal.{Refusal}
 use Rattle.weld_tree.specs.declared.refusal.Refusal.TheVariants.{At, Memory}
 use Rattle.weld_tree.specs.declared.code.Code.TheVariants.{X1}
-use Rattle.weld_terminals.specs.declared.token.Token.{Token}
+use Rattle.weld_grammar.specs.declared.terminals.token.Token.{Token}
 use Rattle.weld_tokens.specs.Bytes.{is_blank}
 use Rattle.weld_tokens.specs.Words.{class_of, is_token}
 

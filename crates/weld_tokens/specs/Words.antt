@@ -2,13 +2,13 @@
 use Rattle.std.specs.Prelude.{ℕ, Bool, true, false, ◌&&◌, ◌==◌, nat_le, if◌then◌else◌, List, [], ◌∷◌, length, Option, Some, None}
 use Rattle.std.specs.Option.{option_map, is_some}
 use Rattle.std.specs.Str.{bytes_eq}
-use Rattle.weld_terminals.specs.declared.symbol.Symbol.{Symbol}
-use Rattle.weld_terminals.specs.declared.symbol.Symbol.TheVariants.{LeftParen, RightParen, LeftBracket, RightBracket, LeftBrace, RightBrace, Comma, Semicolon, Colon, Dot, Bar, BarBar, AndAnd, Bang, Equals, EqualsEquals, BangEquals, Less, LessEquals, Greater, GreaterEquals, Plus, Minus, Star, Slash, Percent}
-use Rattle.weld_terminals.specs.declared.reserved.Reserved.{Reserved}
-use Rattle.weld_terminals.specs.declared.reserved.Reserved.TheVariants as words
-use Rattle.weld_terminals.specs.declared.class.Class.{Class}
-use Rattle.weld_terminals.specs.declared.class.Class.TheVariants as classes
-use Rattle.weld_terminals.specs.ReservedWords.{reserved_text}
+use Rattle.weld_grammar.specs.declared.terminals.symbol.Symbol.{Symbol}
+use Rattle.weld_grammar.specs.declared.terminals.symbol.Symbol.TheVariants.{LeftParen, RightParen, LeftBracket, RightBracket, LeftBrace, RightBrace, Comma, Semicolon, Colon, Dot, Bar, BarBar, AndAnd, Bang, Equals, EqualsEquals, BangEquals, Less, LessEquals, Greater, GreaterEquals, Plus, Minus, Star, Slash, Percent}
+use Rattle.weld_grammar.specs.declared.terminals.reserved.Reserved.{Reserved}
+use Rattle.weld_grammar.specs.declared.terminals.reserved.Reserved.TheVariants as words
+use Rattle.weld_grammar.specs.declared.terminals.class.Class.{Class}
+use Rattle.weld_grammar.specs.declared.terminals.class.Class.TheVariants as classes
+use Rattle.weld_grammar.specs.ReservedWords.{reserved_text}
 use Rattle.weld_tokens.specs.Bytes.{is_letter, is_digit, is_word_byte, is_hex, is_plain, is_escape, all_of}
 
 -- all reserved words

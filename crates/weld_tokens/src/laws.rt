@@ -1,15 +1,15 @@
 //! Laws of this crate's definitions, each the contract of a function that does nothing.
 
 ghost use Rattle.std.specs.Prelude.{◌≡◌, ℕ, ◌⊎◌, List, Some};
-ghost use Rattle.weld_terminals.specs.Symbols.{symbol_text};
-ghost use Rattle.weld_terminals.specs.ReservedWords.{reserved_text};
-ghost use Rattle.weld_terminals.specs.declared.symbol.Symbol.{Symbol};
-ghost use Rattle.weld_terminals.specs.declared.reserved.Reserved.{Reserved};
-ghost use Rattle.weld_terminals.specs.declared.class.Class.TheVariants as classes;
+ghost use Rattle.weld_grammar.specs.Symbols.{symbol_text};
+ghost use Rattle.weld_grammar.specs.ReservedWords.{reserved_text};
+ghost use Rattle.weld_grammar.specs.declared.terminals.symbol.Symbol.{Symbol};
+ghost use Rattle.weld_grammar.specs.declared.terminals.reserved.Reserved.{Reserved};
+ghost use Rattle.weld_grammar.specs.declared.terminals.class.Class.TheVariants as classes;
 ghost use Rattle.weld_tokens.specs.Words.{class_of};
 ghost use Rattle.std.specs.List.{AllByRecursion};
 ghost use Rattle.weld_tree.specs.declared.place.Place.{Place};
-ghost use Rattle.weld_terminals.specs.declared.token.Token.{Token};
+ghost use Rattle.weld_grammar.specs.declared.terminals.token.Token.{Token};
 ghost use Rattle.weld_tokens.specs.Tokens.{AreTokens, IsWrongAt};
 
 /// A text has one list of tokens at most, one place at most where X1 refuses it, and never both.

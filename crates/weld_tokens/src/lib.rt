@@ -10,6 +10,7 @@ pub mod place;
 pub mod read;
 mod reserved;
 pub mod scan;
+pub mod text_limits;
 mod token_at;
 
 pub use limits::{

@@ -1,7 +1,7 @@
 ghost use Rattle.std.specs.Prelude.{◌≡◌, ◌≤◌};
 ghost use Rattle.weld_tokens.specs.TokenLimits as limits;
 
-use weld_terminals::{Class, Symbol, Token};
+use weld_grammar::terminals::{Class, Symbol, Token};
 use weld_tree::Place;
 
 /// Whether a text has too many bytes: more than 262,144 (M2, by this project's profile of Weld).

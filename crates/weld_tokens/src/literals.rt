@@ -7,7 +7,7 @@ use crate::bytes::is_digit;
 use crate::scan::Part;
 use std::alloc::{AllocError, Global};
 use weld_data::Text;
-use weld_terminals::Class;
+use weld_grammar::terminals::Class;
 
 /// The number that the digits at the front of the bytes write. None where it is greater than `most`.
 fn number_up_to(bytes: &[u8], most: u64) -> Option<u64>

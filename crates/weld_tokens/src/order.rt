@@ -3,7 +3,7 @@ ghost use Rattle.weld_tokens.specs.Order as order;
 
 use crate::limits::{first_long_name, has_too_many_tokens};
 use crate::literals::literal_of;
-use weld_terminals::{Class, Reserved, Symbol, Token};
+use weld_grammar::terminals::{Class, Reserved, Symbol, Token};
 use weld_tree::{Code, Place, Refusal};
 
 /// What the grammar finds in a list of tokens. Where a field is beyond a refusal that comes before it, it doesn't count.

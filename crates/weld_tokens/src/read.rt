@@ -7,7 +7,7 @@ use crate::scan::gap_len;
 use crate::token_at::token_at;
 use std::alloc::{AllocError, Global};
 use weld_data::Items;
-use weld_terminals::{Class, Token, Word};
+use weld_grammar::terminals::{Class, Token, Word};
 use weld_tree::{Code, Place, Refusal};
 
 /// A list of tokens.

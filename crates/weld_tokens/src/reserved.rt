@@ -1,8 +1,8 @@
 ghost use Rattle.std.specs.Prelude.{◌≡◌};
-ghost use Rattle.weld_terminals.specs.ReservedWords.{reserved_text};
+ghost use Rattle.weld_grammar.specs.ReservedWords.{reserved_text};
 ghost use Rattle.weld_tokens.specs.Words.{written_so, word_class};
 
-use weld_terminals::{Class, Reserved};
+use weld_grammar::terminals::{Class, Reserved};
 
 /// All reserved words.
 static RESERVED: [Reserved; 36] = [

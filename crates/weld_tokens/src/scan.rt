@@ -5,7 +5,7 @@ ghost use Rattle.weld_tokens.specs.Tokens.{gap_len};
 ghost use Rattle.weld_tokens.specs.Words as words;
 
 use crate::bytes::{is_blank, is_digit, is_escape, is_hex, is_plain, is_word_byte};
-use weld_terminals::{Class, Symbol};
+use weld_grammar::terminals::{Class, Symbol};
 
 /// What is awaited within a string: an item or the end, or what stands behind `\`, `\x` or `\xH`.
 #[derive(Clone, Copy, Debug, PartialEq, Eq)]

@@ -1,5 +1,5 @@
 ghost use Rattle.std.specs.Prelude.{◌≡◌, ℕ, List, ◌∷◌, [], IfSome, IfNone};
-ghost use Rattle.weld_terminals.specs.declared.class.Class.TheVariants as classes;
+ghost use Rattle.weld_grammar.specs.declared.terminals.class.Class.TheVariants as classes;
 ghost use Rattle.weld_tokens.specs.Scanning.{IsLongest, IsOther};
 ghost use Rattle.weld_tokens.specs.Tokens.{longest_token};
 ghost use Rattle.weld_tokens.specs.Words.{double};
@@ -7,7 +7,7 @@ ghost use Rattle.weld_tokens.specs.Words.{double};
 use crate::bytes::{is_digit, is_letter};
 use crate::reserved::word_class;
 use crate::scan::{digits_len, double, number_end, single, string_len, word_len};
-use weld_terminals::{Class, Symbol};
+use weld_grammar::terminals::{Class, Symbol};
 
 /// The first byte of a text, and what follows it.
 fn split(text: &[u8]) -> Option<(u8, &[u8])>

@@ -64,5 +64,5 @@ view_form (form.Two t e f) at = two at (view_two t) e.value f.value
 view_form (form.Three t e f g) at = three at (view_three t) e.value f.value g.value
 view_form (form.Many m es) at = many at (view_many m) (pack_exprs es)
 view_form (form.Let b e f) at = let_in at b e.value f.value
-view_form (form.For ls e b n x f) at = loop at (pack_legs ls) e.value b n x f.value
+view_form (form.For ls e b n x f) at = loop at (pack_legs ls) e.value b.value n.value x.value f.value
 view_form (form.Iterate e b f) at = iterate at e.value b f.value

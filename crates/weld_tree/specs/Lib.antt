@@ -1,3 +1,4 @@
+pub mod HasValue
 pub mod Code
 pub mod TypeTree
 pub mod TypeCode

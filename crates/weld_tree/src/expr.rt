@@ -65,8 +65,9 @@ pub enum Form {
     Many(ManyForm, Exprs),
     /// The binder, its value, the body.
     Let(Binder, Box<Expr>, Box<Expr>),
-    /// The legs, the builder, the binders of the builder, the row number and the row, the body.
-    For(Legs, Box<Expr>, Binder, Binder, Binder, Box<Expr>),
+    /// The legs, the builder, the binders of the builder, the row number and the row, the body. The
+    /// binders are boxed, so that no other node is as wide as a loop.
+    For(Legs, Box<Expr>, Box<Binder>, Box<Binder>, Box<Binder>, Box<Expr>),
     /// The state, its binder, the body.
     Iterate(Box<Expr>, Binder, Box<Expr>),
 }

@@ -4,6 +4,7 @@
 pub mod binder;
 pub mod code;
 pub mod expr;
+pub mod fits;
 pub mod known;
 pub mod laws;
 pub mod place;

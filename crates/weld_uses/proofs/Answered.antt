@@ -105,9 +105,9 @@ pub let_node : (r : Result Origin Refusal) (g : Named Origin) (l : Left) (after 
 let_node r g l after {a = a} {b = b} {x = x} {y = y} p q s w =
     subst (λ u. Walks r u g l after) ((λ i. let_in a b (q i) (s i)) ∙ sym p) (let_at r a b x y g l after w)
 
-pub loop_node : (r : Result Origin Refusal) (g : Named Origin) (l : Left) (after : Left) {node : ExprTree} {a : At} {ls : LegTrees} {b n v : Binder} {e f x y : ExprTree} → node ≡ loop a ls e b n v f → x ≡ e → y ≡ f → Walks r (loop (at a.place) ls x b n v y) g l after → Walks r node g l after
-loop_node r g l after {a = a} {ls = ls} {b = b} {n = n} {v = v} {x = x} {y = y} p q s w =
-    subst (λ u. Walks r u g l after) ((λ i. loop a ls (q i) b n v (s i)) ∙ sym p) (loop_at r a ls b n v x y g l after w)
+pub loop_node : (r : Result Origin Refusal) (g : Named Origin) (l : Left) (after : Left) {node : ExprTree} {a : At} {ls : LegTrees} {b n v b1 n1 v1 : Binder} {e f x y : ExprTree} → node ≡ loop a ls e b n v f → x ≡ e → b1 ≡ b → n1 ≡ n → v1 ≡ v → y ≡ f → Walks r (loop (at a.place) ls x b1 n1 v1 y) g l after → Walks r node g l after
+loop_node r g l after {a = a} {ls = ls} {b1 = b1} {n1 = n1} {v1 = v1} {x = x} {y = y} p q i1 i2 i3 s w =
+    subst (λ u. Walks r u g l after) ((λ i. loop a ls (q i) (i1 i) (i2 i) (i3 i) (s i)) ∙ sym p) (loop_at r a ls b1 n1 v1 x y g l after w)
 
 pub iterate_node : (r : Result Origin Refusal) (g : Named Origin) (l : Left) (after : Left) {node : ExprTree} {a : At} {b : Binder} {e f x y : ExprTree} → node ≡ iterate a e b f → x ≡ e → y ≡ f → Walks r (iterate (at somewhere) x b y) g l after → Walks r node g l after
 iterate_node r g l after {a = a} {b = b} {x = x} {y = y} p q s w =
@@ -134,9 +134,9 @@ pub clear_let : (l : Left) {node e f x y : ExprTree} {a : At} {b : Binder} → n
     → AreClear (bound (let_in (at somewhere) b x y)) l
 clear_let l {x = x} {y = y} {a = a} {b = b} p q s h = clear_node _ (p ∙ sym (λ i. let_in a b (q i) (s i))) h
 
-pub clear_loop : (l : Left) {node e f x y : ExprTree} {a : At} {ls : LegTrees} {b n v : Binder} → node ≡ loop a ls e b n v f → x ≡ e → y ≡ f → AreClear (bound node) l
-    → AreClear (bound (loop (at a.place) ls x b n v y)) l
-clear_loop l {x = x} {y = y} {a = a} {ls = ls} {b = b} {n = n} {v = v} p q s h = clear_node _ (p ∙ sym (λ i. loop a ls (q i) b n v (s i))) h
+pub clear_loop : (l : Left) {node e f x y : ExprTree} {a : At} {ls : LegTrees} {b n v b1 n1 v1 : Binder} → node ≡ loop a ls e b n v f → x ≡ e → b1 ≡ b → n1 ≡ n → v1 ≡ v → y ≡ f → AreClear (bound node) l
+    → AreClear (bound (loop (at a.place) ls x b1 n1 v1 y)) l
+clear_loop l {a = a} {ls = ls} p q i1 i2 i3 s h = clear_node _ (p ∙ sym (λ i. loop a ls (q i) (i1 i) (i2 i) (i3 i) (s i))) h
 
 pub clear_iterate : (l : Left) {node e f x y : ExprTree} {a : At} {b : Binder} → node ≡ iterate a e b f → x ≡ e → y ≡ f → AreClear (bound node) l
     → AreClear (bound (iterate (at somewhere) x b y)) l

@@ -8,7 +8,7 @@ use Rattle.weld_data.specs.Kind.{InRange}
 use Rattle.weld_data.specs.Wrapped.{wrapped}
 use Rattle.weld_data.specs.Value.{Value}
 use Rattle.weld_tree.specs.TypeTree.{TypeTree}
-use Rattle.weld_fits.specs.HasValue.{HasValue}
+use Rattle.weld_tree.specs.HasValue.{HasValue}
 use Rattle.weld_values.specs.Reading.{ReadsAs}
 use Rattle.weld_values.specs.Judging.{IsReadable}
 use Rattle.weld_values.specs.Showing.{show}

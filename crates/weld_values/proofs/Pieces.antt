@@ -3,7 +3,7 @@ use Rattle.std.proofs.Common.{◌≡◌, sym, ◌∙◌, ℕ, List, [], ◌∷�
 use Rattle.std.proofs.lemmas.List.Elements.{All-nil, All-head, All-tail, All-cons, All-append}
 use Rattle.weld_data.specs.Value.{Value, values, list}
 use Rattle.weld_tree.specs.TypeTree.{TypeTree, vec}
-use Rattle.weld_fits.specs.HasValue.{HasValue, AllAre}
+use Rattle.weld_tree.specs.HasValue.{HasValue, AllAre}
 use Rattle.weld_values.specs.declared.flaw.Flaw.TheVariants.{Fine}
 use Rattle.weld_values.specs.Tokens.{after_blanks, byte_at}
 use Rattle.weld_values.specs.Grammar.{Listed, Enclosed, At}

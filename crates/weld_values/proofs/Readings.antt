@@ -5,7 +5,7 @@ use Rattle.weld_data.specs.declared.kind.Kind.{Kind}
 use Rattle.weld_data.specs.declared.kind.Kind.TheVariants as kinds
 use Rattle.weld_data.specs.Value.{Value, Values, number, list, struct, dict, values, no_values, and_value}
 use Rattle.weld_tree.specs.TypeTree.{TypeTree, TypeTrees, scalar, vec, struct as struct_of, dict as dict_of, build, no_types, more_types}
-use Rattle.weld_fits.specs.HasValue.{HasValue, HaveValues, AllAre}
+use Rattle.weld_tree.specs.HasValue.{HasValue, HaveValues, AllAre}
 use Rattle.weld_values.specs.Tokens.{after_blanks, byte_at, after_word, integer_at}
 use Rattle.weld_values.specs.Grammar.{Part, More, Listed, Enclosed, AtField, AtStruct, At, Fields, IsI8, or_else, truth_at, number_at, scalar_at}
 use Rattle.weld_values.specs.Reading.{Spells, IsInRange, AreInRange, RepeatsKey, SomeRepeatsKey, Settles, SettleAll}

@@ -9,7 +9,7 @@ use Rattle.std.proofs.lemmas.List.Sorted.{IsPermutation-refl}
 use Rattle.weld_data.specs.Value.{Value, Values, Entries, number, list, struct, dict, values, no_values, and_value, no_entries, and_entry, entries, list_of_values, values-list_of_values, list_of_entries, entries-list_of_entries}
 use Rattle.weld_tree.specs.TypeTree.{TypeTree, TypeTrees, scalar, vec, struct as struct_of, dict as dict_of, build, no_types, more_types}
 use Rattle.weld_tree.specs.Types.{IsKey}
-use Rattle.weld_fits.specs.HasValue.{HasValue, HaveValues, AllAre, AllEntriesAre}
+use Rattle.weld_tree.specs.HasValue.{HasValue, HaveValues, AllAre, AllEntriesAre}
 use Rattle.weld_values.specs.Tokens.{is_blank, after_blanks, after_byte, byte_at, after_word, item_at}
 use Rattle.weld_values.specs.Grammar.{More, Enclosed, AtList, AtItems, AtString, AtEntry, AtDict, AtStruct, At, Fields, IsI8, scalar_at}
 use Rattle.weld_values.specs.Reading.{ReadsAs, IsInRange, AreInRange, EntriesInRange, Settles, SettleAll, SettleEntries}

@@ -5,7 +5,7 @@ use Rattle.std.proofs.lemmas.List.Sorted.{All-permutation}
 use Rattle.weld_data.specs.Value.{Value, Values, values, Entries, no_entries, and_entry, entries, list_of_entries, list_of_entries-entries}
 use Rattle.weld_data.specs.Order.{Rises}
 use Rattle.weld_tree.specs.TypeTree.{TypeTree, TypeTrees, scalar, vec, struct as struct_of, dict as dict_of, build, no_types, more_types}
-use Rattle.weld_fits.specs.HasValue.{HasValue, HaveValues, AllAre, AllEntriesAre}
+use Rattle.weld_tree.specs.HasValue.{HasValue, HaveValues, AllAre, AllEntriesAre}
 use Rattle.weld_values.specs.Tokens.{byte_at}
 use Rattle.weld_values.specs.Grammar.{Part, More, Listed, Enclosed, At, AtEntry, AtField, AtStruct, Fields, IsI8}
 use Rattle.weld_values.specs.Reading.{IsInRange, AreInRange, EntriesInRange, Settles, SettleAll, SettleEntries, ReadsAs}

@@ -5,7 +5,7 @@ ghost use Rattle.weld_data.specs.declared.kind.Kind.{Kind};
 ghost use Rattle.weld_data.specs.Value.{Value, list, values};
 ghost use Rattle.weld_tree.specs.TypeTree.{TypeTree, scalar, vec};
 ghost use Rattle.weld_tree.specs.Types.{IsWellFormed, IsBuilderFree};
-ghost use Rattle.weld_fits.specs.HasValue.{HasValue};
+ghost use Rattle.weld_tree.specs.HasValue.{HasValue};
 ghost use Rattle.weld_values.specs.Reading.{Spells, ReadsAs, WhyNot};
 ghost use Rattle.weld_values.specs.Judging.{IsReadable, IsPlain};
 ghost use Rattle.weld_values.specs.Grammar.{At, Found, scalar_at};

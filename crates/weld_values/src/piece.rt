@@ -3,7 +3,7 @@
 ghost use Rattle.std.specs.Prelude.{◌≡◌, ◌++◌, ◌∷◌, [], List, ℕ, true, map, IfOk, IfSome, All};
 ghost use Rattle.std.specs.List.{list_all};
 ghost use Rattle.weld_tree.specs.TypeTree.{scalar, pack};
-ghost use Rattle.weld_fits.specs.HasValue.{HasValue};
+ghost use Rattle.weld_tree.specs.HasValue.{HasValue};
 ghost use Rattle.weld_values.specs.Tokens as tokens;
 ghost use Rattle.weld_values.specs.Grammar.{scalar_at, At, Found};
 ghost use Rattle.weld_values.specs.Pieces.{Separated, InBrackets, is_scalar, is_row};

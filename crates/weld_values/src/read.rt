@@ -4,7 +4,7 @@ ghost use Rattle.std.specs.Prelude.{◌≡◌, ◌<◌, ◌++◌, [], ◌∷◌,
 ghost use Rattle.weld_data.specs.View.{view_val, view_column};
 ghost use Rattle.weld_tree.specs.TypeTree.{TypeTree, pack, vec};
 ghost use Rattle.weld_values.specs.Grammar.{scalar_at, Found, At, AtString, AtStruct, AtDict, AtEntry, Fields};
-ghost use Rattle.weld_fits.specs.HasValue.{HasValue};
+ghost use Rattle.weld_tree.specs.HasValue.{HasValue};
 ghost use Rattle.weld_values.specs.Reading.{ReadsAs, WhyNot};
 ghost use Rattle.weld_values.specs.Judging.{IsRead, IsUnread, IsReadInto, AreListed, AreUnlisted, AreRead, AreUnread, IsReadable, AreReadable, AreJudged, Judged, IsEntryRead, EntriesRead, EntriesUnread};
 ghost use Rattle.weld_data.specs.Value.{Value, dict as dict_value, entries as entries_of};

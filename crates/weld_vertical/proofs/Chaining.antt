@@ -3,7 +3,7 @@ use Rattle.std.proofs.Common.{◌≡◌, List, [], ◌∷◌, map, refl, ap, ◌
 use Rattle.std.proofs.lemmas.List.{length-map}
 use Rattle.weld_tree.specs.ExprTree.{ExprTree, leaf, one, two, three, many, let_in, loop, iterate, LegTree, more_legs, pack_legs}
 use Rattle.weld_tree.specs.Lending.{refill, refill_is}
-use Rattle.weld_sweep.specs.Sweep.{settled}
+use Rattle.weld_rewriting.specs.Sweep.{settled}
 use Rattle.weld_vertical.specs.Fusing.{loops_rule}
 use Rattle.weld_vertical.specs.Chains.{chain_fused, below_fused, leg_fused, legs_fused}
 

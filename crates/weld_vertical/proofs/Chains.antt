@@ -6,19 +6,19 @@ use Rattle.weld_tree.specs.TypeTree.{list}
 use Rattle.weld_tree.specs.ExprTree.{At, ExprTree, leaf, one, two, three, many, let_in, loop, iterate, whole, strided, LegTrees, no_legs, more_legs, name, fresh, finish}
 use Rattle.weld_tree.specs.Program.{loops, bound, bound_in_legs, IsOneOf}
 use Rattle.weld_meaning.specs.Names.{IsFree, Binds}
-use Rattle.weld_replacing.specs.Within.{times, StaysWithin}
-use Rattle.weld_replacing.specs.Tidy.{IsTidy}
-use Rattle.weld_replacing.specs.Shape.{IsCongruence, EachPart, LegsHaveEach, LegsRelate}
-use Rattle.weld_replacing.specs.Rewriting.{Rewrites}
-use Rattle.weld_replacing.proofs.Counts.{times-append, one_of_times, distinct_times}
-use Rattle.weld_putting.proofs.Clear.{second_of, binds_each}
-use Rattle.weld_putting.proofs.Following.{and_true, both_true, or_right}
+use Rattle.weld_rewriting.specs.Within.{times, StaysWithin}
+use Rattle.weld_rewriting.specs.Tidy.{IsTidy}
+use Rattle.weld_rewriting.specs.Shape.{IsCongruence, EachPart, LegsHaveEach, LegsRelate}
+use Rattle.weld_rewriting.specs.Rewriting.{Rewrites}
+use Rattle.weld_rewriting.proofs.Counts.{times-append, one_of_times, distinct_times}
+use Rattle.weld_substitution.proofs.Clear.{second_of, binds_each}
+use Rattle.weld_substitution.proofs.Following.{and_true, both_true, or_right}
 use Rattle.weld_substitution.specs.Uses.{uses}
 use Rattle.weld_substitution.proofs.UsedNames.{used_or_free}
-use Rattle.weld_sweep.specs.Sweep.{or_same, settled}
-use Rattle.weld_sinking.specs.Sinking.{starts_list, is_spine, merges, is_producer, is_filter, is_consumer, sunk, fused}
-use Rattle.weld_sinking.proofs.Spine.{spine_by}
-use Rattle.weld_sinking.proofs.Recognised.{consumer_by}
+use Rattle.weld_rewriting.specs.Sweep.{or_same, settled}
+use Rattle.weld_vertical.specs.Sinking.{starts_list, is_spine, merges, is_producer, is_filter, is_consumer, sunk, fused}
+use Rattle.weld_vertical.proofs.Spine.{spine_by}
+use Rattle.weld_vertical.proofs.Recognised.{consumer_by}
 use Rattle.weld_vertical.specs.Fusing.{loops_rule}
 use Rattle.weld_vertical.specs.Chains.{is_unnumbered, loop_before, IsChain, IsChainProgram, chain_fused, legs_fused}
 

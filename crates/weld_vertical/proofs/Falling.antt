@@ -3,10 +3,10 @@ use Rattle.std.proofs.Common.{◌≡◌, ℕ, ◌+◌, ◌≤◌, ◌<◌, true,
 use Rattle.weld_tree.specs.declared.binder.Binder.{Binder}
 use Rattle.weld_tree.specs.declared.known.Known.{Known}
 use Rattle.weld_tree.specs.ExprTree.{ExprTree}
-use Rattle.weld_rounds.specs.Weight.{weight}
-use Rattle.weld_sinking.specs.Sinking.{is_spine, merges, is_consumer, sunk, fused}
-use Rattle.weld_sinking.proofs.Spine.{spine_by, share, share_sum, whole_share}
-use Rattle.weld_sinking.proofs.Recognised.{consumer_by}
+use Rattle.weld_rewriting.specs.Weight.{weight}
+use Rattle.weld_vertical.specs.Sinking.{is_spine, merges, is_consumer, sunk, fused}
+use Rattle.weld_vertical.proofs.Spine.{spine_by, share, share_sum, whole_share}
+use Rattle.weld_vertical.proofs.Recognised.{consumer_by}
 
 sunk_weight : (ty : Known) (s c i : ℕ) (n x : Binder) (f g : ExprTree) → is_spine s g ≡ true → merges g ≤ 1 → weight (sunk ty c i n x f g) ≡ weight g + share (merges g) (2 + weight f)
 sunk_weight ty s c i n x f =

@@ -4,8 +4,8 @@ use Rattle.weld_tree.specs.ExprTree.{At, ExprTree, leaf, one, two, three, many, 
 use Rattle.weld_tree.specs.ExprView.{view_leg}
 use Rattle.weld_tree.specs.declared.binder.Binder.{Binder}
 use Rattle.weld_tree.specs.declared.expr.Leg.{Leg}
-use Rattle.weld_sinking.specs.Sinking.{is_finish, is_made, is_only_leg, fused}
-use Rattle.weld_sinking.proofs.Recognised.{made_by}
+use Rattle.weld_vertical.specs.Sinking.{is_finish, is_made, is_only_leg, fused}
+use Rattle.weld_vertical.proofs.Recognised.{made_by}
 use Rattle.weld_vertical.specs.Fusing.{is_result_leg, is_only_result, IsMadeBy, IsOnlyBy, body_merges, joined}
 
 -- of two legs or more none is the only one

@@ -1,3 +1,14 @@
+pub mod Spine
+pub mod Seen
+pub mod Related
+pub mod Grafting
+pub mod Arms
+pub mod Handing
+pub mod SinkPlaced
+pub mod SinkMeans
+pub mod Recognised
+pub mod Cases
+pub mod SinkRule
 pub mod Chaining
 pub mod Chains
 pub mod Falling

@@ -2,8 +2,8 @@
 use Rattle.std.specs.Prelude.{◌≡◌, ℕ, zero, suc, ◌==◌, Bool, true, false}
 use Rattle.weld_tree.specs.ExprTree.{ExprTree, leaf, one, two, three, many, let_in, loop, iterate, LegTree, whole, strided, LegTrees, no_legs, more_legs}
 use Rattle.weld_substitution.specs.Uses.{uses}
-use Rattle.weld_sweep.specs.Sweep.{settled}
-use Rattle.weld_sinking.specs.Sinking.{is_finish, is_consumer}
+use Rattle.weld_rewriting.specs.Sweep.{settled}
+use Rattle.weld_vertical.specs.Sinking.{is_finish, is_consumer}
 use Rattle.weld_vertical.specs.Fusing.{loops_rule}
 
 -- ---- chains

@@ -3,10 +3,10 @@ use Rattle.std.specs.Prelude.{◌≡◌, ℕ, Bool, false}
 use Rattle.weld_tree.specs.declared.binder.Binder.{Binder}
 use Rattle.weld_tree.specs.declared.known.Known.{Known}
 use Rattle.weld_tree.specs.ExprTree.{At, ExprTree, leaf, one, two, three, many, let_in, loop, iterate, LegTree, whole, strided, LegTrees, no_legs, more_legs, finish}
-use Rattle.weld_sweep.specs.Nodes.{EachNode}
-use Rattle.weld_sweep.specs.Sweep.{RootRule}
-use Rattle.weld_pass.specs.Tested.{tested}
-use Rattle.weld_sinking.specs.Sinking.{is_finish, merges, is_consumer, sunk, fused}
+use Rattle.weld_rewriting.specs.Nodes.{EachNode}
+use Rattle.weld_rewriting.specs.Sweep.{RootRule}
+use Rattle.weld_rewriting.specs.Tested.{tested}
+use Rattle.weld_vertical.specs.Sinking.{is_finish, merges, is_consumer, sunk, fused}
 
 -- the rule: a loop over what another loop makes runs over that one's legs
 abbrev pub loops_rule : RootRule

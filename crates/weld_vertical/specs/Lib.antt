@@ -1,2 +1,3 @@
+pub mod Sinking
 pub mod Chains
 pub mod Fusing

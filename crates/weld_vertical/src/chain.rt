@@ -7,7 +7,7 @@ ghost use Rattle.weld_vertical.specs.Chains.{below_fused, chain_fused, leg_fused
 
 use crate::rule::Loops;
 use std::alloc::{AllocError, Global};
-use weld_sweep::Rule;
+use weld_rewriting::sweep::Rule;
 use weld_tree::{Expr, Form, Leg, Legs};
 
 /// Tries the rule at each loop that is reached from the top of the expression through results and

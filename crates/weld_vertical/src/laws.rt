@@ -3,18 +3,18 @@
 ghost use Rattle.std.specs.Prelude.{◌+◌, ◌≤◌, ℕ};
 ghost use Rattle.weld_tree.specs.ExprTree.{ExprTree};
 ghost use Rattle.weld_tree.specs.Program.{loops};
-ghost use Rattle.weld_replacing.specs.Tidy.{IsTidy};
-ghost use Rattle.weld_replacing.specs.Rewriting.{Rewrites};
-ghost use Rattle.weld_rounds.specs.Rules.{Falls, IsSound};
-ghost use Rattle.weld_sweep.specs.Sweep.{IsStill};
+ghost use Rattle.weld_rewriting.specs.Tidy.{IsTidy};
+ghost use Rattle.weld_rewriting.specs.Rewriting.{Rewrites};
+ghost use Rattle.weld_rewriting.specs.Rules.{Falls, IsSound};
+ghost use Rattle.weld_rewriting.specs.Sweep.{IsStill};
 ghost use Rattle.weld_vertical.specs.Chains.{IsChainProgram, chain_fused};
 ghost use Rattle.weld_vertical.specs.Fusing.{loops_rule, HasNoSuchLoop};
 
-use weld_pass::laws::rules_are_tests;
-use weld_replacing::laws::{
+use crate::sinking::loops_over_loops_are_one;
+use weld_rewriting::pass::laws::rules_are_tests;
+use weld_rewriting::replacing::{
     rewriting_goes_through_every_node, rewriting_is_an_order, tidiness_is_kept,
 };
-use weld_sinking::laws::loops_over_loops_are_one;
 
 /// What the rule answers is lighter than a loop over what another makes and may take its place; and
 /// where the rule is still, none stands.

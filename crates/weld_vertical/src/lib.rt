@@ -7,6 +7,7 @@ mod pass;
 mod producers;
 mod rule;
 mod sink;
+pub mod sinking;
 
 pub use chain::fuse_chain;
 pub use pass::fuse_vertical;

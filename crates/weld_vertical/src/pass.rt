@@ -2,14 +2,14 @@
 
 ghost use Rattle.std.specs.Prelude.{IfOk};
 ghost use Rattle.weld_check_types.specs.Notes.{ProgramIsNoted};
-ghost use Rattle.weld_pass.specs.Passed.{IsPassed};
+ghost use Rattle.weld_rewriting.specs.Passed.{IsPassed};
 ghost use Rattle.weld_vertical.specs.Fusing.{HasNoSuchLoop};
 
 use crate::laws::loops_may_be_fused;
 use crate::rule::Loops;
 use std::alloc::{AllocError, Global};
 use weld_meaning::Accepted;
-use weld_pass::run_pass;
+use weld_rewriting::pass::run_pass;
 
 /// The program with loops over what other loops make as one loop (the Weld papers): where a loop's
 /// only leg is the `result` of a loop that starts with an empty `vecbuilder` and merges into it at one

@@ -4,7 +4,7 @@ ghost use Rattle.std.specs.Prelude.{◌≡◌, min};
 ghost use Rattle.weld_tree.specs.ExprTree.{pack_legs};
 ghost use Rattle.weld_tree.specs.ExprView.{view_leg};
 ghost use Rattle.weld_tree.specs.TypeView.{view_build};
-ghost use Rattle.weld_sinking.specs.Sinking.{ends_in_merge, is_consumer, is_filter, is_list, is_made, is_only_leg, is_produced, is_produced_leg, is_producer, is_spine, merges, starts_list};
+ghost use Rattle.weld_vertical.specs.Sinking.{ends_in_merge, is_consumer, is_filter, is_list, is_made, is_only_leg, is_produced, is_produced_leg, is_producer, is_spine, merges, starts_list};
 
 use weld_substitution::{is_use, uses_of};
 use weld_tree::{BuildTy, Expr, Form, LeafForm, Leg, Legs, OneForm, Sym, ThreeForm, TwoForm};

@@ -3,14 +3,14 @@
 ghost use Rattle.std.specs.Prelude.{◌≡◌, true, IfOk};
 ghost use Rattle.weld_tree.specs.ExprTree.{At, pack_legs};
 ghost use Rattle.weld_tree.specs.ExprView.{view_form, view_leg};
-ghost use Rattle.weld_sinking.specs.Sinking.{fused, is_consumer};
+ghost use Rattle.weld_vertical.specs.Sinking.{fused, is_consumer};
 ghost use Rattle.weld_vertical.specs.Fusing.{IsMadeBy, IsOnlyBy, body_merges, is_only_result, is_result_leg, joined};
 
 use crate::producers::is_consumer;
 use crate::sink::{Consumer, sink};
 use std::alloc::{AllocError, Global};
 use std::mem;
-use weld_sweep::Rule;
+use weld_rewriting::sweep::Rule;
 use weld_tree::{Binder, Expr, Form, Known, LeafForm, Leg, Legs};
 
 /// A loop over what another loop makes becomes one loop.
@@ -42,7 +42,11 @@ fn fuse(alloc: Global, e: &mut Expr) -> Result<(), AllocError>
         unreachable!();
     };
     let producer = only_producer(legs);
-    let consumer = Consumer { number, row, body };
+    let consumer = Consumer {
+        number: Box::into_inner(number),
+        row: Box::into_inner(row),
+        body,
+    };
     e.form = join(alloc, &e.ty, start, builder, consumer, producer)?;
     Ok(())
 }
@@ -52,13 +56,13 @@ fn join(
     alloc: Global,
     ty: &Known,
     start: Box<Expr>,
-    builder: Binder,
+    builder: Box<Binder>,
     consumer: Consumer,
     producer: Box<Expr>,
 ) -> Result<Form, AllocError>
     requires { body_merges producer.value ≡ 1 }
     ensures { IfOk result (λ form. (at : At) → at.ty ≡ ty.now
-        → view_form form at ≡ joined at start.value builder consumer.number consumer.row
+        → view_form form at ≡ joined at start.value builder.value consumer.number consumer.row
         consumer.body.value producer.value) }
 {
     let (form, _, _) = Box::into_inner(producer).into_parts();

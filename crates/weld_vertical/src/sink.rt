@@ -5,7 +5,7 @@ ghost use Rattle.weld_tree.specs.declared.known.Known.TheVariants.{Is};
 ghost use Rattle.weld_tree.specs.ExprTree.{At, leaf, let_in, name};
 ghost use Rattle.weld_tree.specs.ExprView.{view_form};
 ghost use Rattle.weld_meaning.specs.Typing.{place_type};
-ghost use Rattle.weld_sinking.specs.Sinking.{merges, sunk};
+ghost use Rattle.weld_vertical.specs.Sinking.{merges, sunk};
 ghost use Rattle.weld_vertical.specs.Fusing.{IsPassedOn};
 
 use crate::producers::merges;

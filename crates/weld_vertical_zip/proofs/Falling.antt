@@ -4,20 +4,20 @@ use Rattle.weld_tree.specs.declared.place.Place.{Place}
 use Rattle.weld_tree.specs.TypeTree.{TypeTree, TypeTrees, no_types, more_types}
 use Rattle.weld_tree.specs.ExprTree.{ExprTree, whole, ExprTrees, no_exprs, more_exprs, LegTrees, no_legs, more_legs}
 use Rattle.weld_meaning.specs.Names.{put}
-use Rattle.weld_replacing.specs.Tidy.{IsTidy}
-use Rattle.weld_replacing.specs.Within.{StaysWithin}
-use Rattle.weld_replacing.specs.Rewriting.{Rewrites}
-use Rattle.weld_rounds.specs.Rules.{IsSound}
-use Rattle.weld_rounds.specs.Weight.{weight, weight_in, weight_in_legs}
-use Rattle.weld_sweep.specs.Sweep.{RootRule, swept, swept_times}
-use Rattle.weld_sinking.specs.Sinking.{fused}
-use Rattle.weld_sinking.proofs.Spine.{ends_by}
-use Rattle.weld_twice.specs.Twice.{item_at, items_from, count}
+use Rattle.weld_rewriting.specs.Tidy.{IsTidy}
+use Rattle.weld_rewriting.specs.Within.{StaysWithin}
+use Rattle.weld_rewriting.specs.Rewriting.{Rewrites}
+use Rattle.weld_rewriting.specs.Rules.{IsSound}
+use Rattle.weld_rewriting.specs.Weight.{weight, weight_in, weight_in_legs}
+use Rattle.weld_rewriting.specs.Sweep.{RootRule, swept, swept_times}
+use Rattle.weld_vertical.specs.Sinking.{fused}
+use Rattle.weld_vertical.proofs.Spine.{ends_by}
+use Rattle.weld_horizontal.specs.Twice.{item_at, items_from, count}
 use Rattle.weld_horizontal.specs.Doubles.{picks_rule}
 use Rattle.weld_horizontal.proofs.Weights.{weight_put}
-use Rattle.weld_zipping.specs.Zipping.{legs_behind, exprs_behind, Sides, all_items, part_of_row, made_row, is_zipped, unzipped}
-use Rattle.weld_zipping.proofs.Splice.{Splice, places, produced, pattern, row, answer}
-use Rattle.weld_zipping.proofs.SpliceRule.{whole_body, zipped_by}
+use Rattle.weld_vertical_zip.specs.Zipping.{legs_behind, exprs_behind, Sides, all_items, part_of_row, made_row, is_zipped, unzipped}
+use Rattle.weld_vertical_zip.proofs.Splice.{Splice, places, produced, pattern, row, answer}
+use Rattle.weld_vertical_zip.proofs.SpliceRule.{whole_body, zipped_by}
 use Rattle.weld_vertical_zip.specs.Zips.{spliced}
 
 -- ---- rows weigh nothing

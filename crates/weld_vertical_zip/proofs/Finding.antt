@@ -7,9 +7,9 @@ use Rattle.weld_tree.specs.Types.{IsWithinLimits}
 use Rattle.weld_tree.specs.ExprTree.{ExprTree, leaf, one, two, three, many, let_in, loop, iterate, LegTree, LegTrees, no_legs, more_legs, pack_legs}
 use Rattle.weld_tree.specs.ExprView.{view_leg}
 use Rattle.weld_tree.specs.declared.expr.Leg.{Leg}
-use Rattle.weld_putting.proofs.Following.{and_true, both_true}
-use Rattle.weld_twice.specs.Twice.{items}
-use Rattle.weld_zipping.specs.Zipping.{types_behind, is_made_leg, Around, behind_leg, first_made, Sides, sides, producer_of, sides_of, is_within_limits, are_several, fits_around}
+use Rattle.weld_substitution.proofs.Following.{and_true, both_true}
+use Rattle.weld_horizontal.specs.Twice.{items}
+use Rattle.weld_vertical_zip.specs.Zipping.{types_behind, is_made_leg, Around, behind_leg, first_made, Sides, sides, producer_of, sides_of, is_within_limits, are_several, fits_around}
 use Rattle.weld_vertical_zip.specs.Zips.{place_produced, own_items}
 
 -- ---- the test

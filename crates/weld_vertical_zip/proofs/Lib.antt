@@ -1,3 +1,16 @@
+pub mod Merging
+pub mod Gathering
+pub mod ZippingSplicing
+pub mod MadeRows
+pub mod Widening
+pub mod Producing
+pub mod UsesPut
+pub mod Recognised
+pub mod Splice
+pub mod SplicePlaced
+pub mod SpliceMeans
+pub mod SpliceRule
+pub mod Cases
 pub mod Once
 pub mod PlaceLemmas
 pub mod Finding

@@ -4,7 +4,7 @@ use Rattle.std.proofs.lemmas.List.{at_drop_more, drop_all}
 use Rattle.weld_tree.specs.ExprTree.{LegTree, pack_legs}
 use Rattle.weld_tree.specs.ExprView.{view_leg}
 use Rattle.weld_tree.specs.declared.expr.Leg.{Leg}
-use Rattle.weld_zipping.specs.Zipping.{is_made_leg}
+use Rattle.weld_vertical_zip.specs.Zipping.{is_made_leg}
 use Rattle.weld_vertical_zip.specs.Zips.{place_produced}
 
 abbrev pub shifted : ℕ → Option ℕ → Option ℕ

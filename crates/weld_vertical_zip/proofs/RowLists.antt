@@ -4,9 +4,9 @@ use Rattle.std.proofs.lemmas.List.{take_more, take_all, length-take-le}
 use Rattle.weld_tree.specs.declared.place.Place.{Place}
 use Rattle.weld_tree.specs.TypeTree.{TypeTree, TypeTrees, struct, no_types, more_types, pack}
 use Rattle.weld_tree.specs.ExprTree.{ExprTree, many, ExprTrees, no_exprs, more_exprs, make_struct, pack_exprs}
-use Rattle.weld_twice.specs.Twice.{node_of, item_at, items_from, count}
+use Rattle.weld_horizontal.specs.Twice.{node_of, item_at, items_from, count}
 use Rattle.weld_horizontal.proofs.RowLemmas.{field_list, packed_fields}
-use Rattle.weld_zipping.specs.Zipping.{types_behind, exprs_behind, part_of_row}
+use Rattle.weld_vertical_zip.specs.Zipping.{types_behind, exprs_behind, part_of_row}
 
 packed_types : (ts us : List TypeTree) → pack (ts ++ us) ≡ types_behind (pack ts) (pack us)
 packed_types [] us = refl

@@ -10,11 +10,11 @@ use Rattle.weld_tree.specs.TypeTree.{TypeTree, TypeTrees, scalar, vec, struct, d
 use Rattle.weld_tree.specs.ExprTree.{At, ExprTree, leaf, one, two, three, many, let_in, loop, iterate, LegTree, whole, LegTrees, no_legs, more_legs, finish, pack_legs}
 use Rattle.weld_tree.specs.ExprView.{view_leg}
 use Rattle.weld_meaning.specs.Names.{put}
-use Rattle.weld_putting.proofs.Following.{and_true}
-use Rattle.weld_sinking.specs.Sinking.{starts_list, ends_in_merge, is_producer, sunk, fused}
+use Rattle.weld_substitution.proofs.Following.{and_true}
+use Rattle.weld_vertical.specs.Sinking.{starts_list, ends_in_merge, is_producer, sunk, fused}
 use Rattle.weld_substitution.specs.Uses.{uses}
-use Rattle.weld_twice.specs.Twice.{items, count}
-use Rattle.weld_zipping.specs.Zipping.{legs_behind, types_behind, Around, first_made, Sides, all_items, widened, own_row, sides, sides_of, is_within_limits, fits_around, joined_by, unzipped}
+use Rattle.weld_horizontal.specs.Twice.{items, count}
+use Rattle.weld_vertical_zip.specs.Zipping.{legs_behind, types_behind, Around, first_made, Sides, all_items, widened, own_row, sides, sides_of, is_within_limits, fits_around, joined_by, unzipped}
 use Rattle.weld_vertical_zip.specs.Zips.{place_produced, spliced_body, spliced_producer, over_legs, is_loop, spliced_loop, AreFew, IsMadeBy, IsCut}
 use Rattle.weld_vertical_zip.proofs.Finding.{no_place, Cut, cut}
 

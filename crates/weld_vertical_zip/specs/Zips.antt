@@ -8,13 +8,13 @@ use Rattle.weld_tree.specs.TypeTree.{TypeTrees, pack}
 use Rattle.weld_tree.specs.ExprTree.{At, ExprTree, leaf, one, two, three, many, let_in, loop, iterate, ExprTrees, more_exprs, LegTree, whole, LegTrees, no_legs, more_legs, name, finish}
 use Rattle.weld_meaning.specs.Names.{put}
 use Rattle.weld_meaning.specs.Typing.{place_type}
-use Rattle.weld_sweep.specs.Nodes.{EachNode}
-use Rattle.weld_sweep.specs.Sweep.{RootRule, swept}
-use Rattle.weld_pass.specs.Tested.{tested}
-use Rattle.weld_sinking.specs.Sinking.{is_producer, at_of}
-use Rattle.weld_twice.specs.Twice.{items_from, count, bare}
+use Rattle.weld_rewriting.specs.Nodes.{EachNode}
+use Rattle.weld_rewriting.specs.Sweep.{RootRule, swept}
+use Rattle.weld_rewriting.specs.Tested.{tested}
+use Rattle.weld_vertical.specs.Sinking.{is_producer, at_of}
+use Rattle.weld_horizontal.specs.Twice.{items_from, count, bare}
 use Rattle.weld_horizontal.specs.Doubles.{picks_rule}
-use Rattle.weld_zipping.specs.Zipping.{legs_behind, exprs_behind, is_made_leg, first_made, Sides, all_items, made_row, own_row, sides, producer_of, is_zipped, unzipped}
+use Rattle.weld_vertical_zip.specs.Zipping.{legs_behind, exprs_behind, is_made_leg, first_made, Sides, all_items, made_row, own_row, sides, producer_of, is_zipped, unzipped}
 use Rattle.weld_vertical_zip.specs.declared.rows.Sides.{Sides as CodeSides}
 
 -- ---- the rule

@@ -1,15 +1,15 @@
 //! The law of the rule, the contract of a function that does nothing.
 
 ghost use Rattle.weld_tree.specs.ExprTree.{ExprTree};
-ghost use Rattle.weld_rounds.specs.Rules.{Falls, IsSound};
-ghost use Rattle.weld_sweep.specs.Sweep.{IsStill};
+ghost use Rattle.weld_rewriting.specs.Rules.{Falls, IsSound};
+ghost use Rattle.weld_rewriting.specs.Sweep.{IsStill};
 ghost use Rattle.weld_vertical_zip.specs.Zips.{zips_rule, HasNoMadeLeg};
 
+use crate::zipping::made_legs_are_spliced;
 use weld_horizontal::laws::fields_may_be_picked;
-use weld_pass::laws::rules_are_tests;
-use weld_replacing::laws::{rewriting_is_an_order, tidiness_is_kept};
-use weld_rounds::laws::rounds_rewrite;
-use weld_zipping::laws::made_legs_are_spliced;
+use weld_rewriting::pass::laws::rules_are_tests;
+use weld_rewriting::replacing::{rewriting_is_an_order, tidiness_is_kept};
+use weld_rewriting::rounds::laws::rounds_rewrite;
 
 /// What the rule answers is lighter than a loop over a `zip` with a leg that another loop makes and
 /// may take its place; and where the rule is still, no `zip` has such a leg.

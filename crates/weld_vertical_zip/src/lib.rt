@@ -7,6 +7,7 @@ mod producers;
 mod rows;
 mod rule;
 mod sink;
+pub mod zipping;
 mod zips;
 
 pub use pass::fuse_zipped;

@@ -2,14 +2,14 @@
 
 ghost use Rattle.std.specs.Prelude.{IfOk};
 ghost use Rattle.weld_check_types.specs.Notes.{ProgramIsNoted};
-ghost use Rattle.weld_pass.specs.Passed.{IsPassed};
+ghost use Rattle.weld_rewriting.specs.Passed.{IsPassed};
 ghost use Rattle.weld_vertical_zip.specs.Zips.{HasNoMadeLeg};
 
 use crate::laws::made_legs_may_be_spliced;
 use crate::rule::Zips;
 use std::alloc::{AllocError, Global};
 use weld_meaning::Accepted;
-use weld_pass::run_pass;
+use weld_rewriting::pass::run_pass;
 
 /// The program with lists that other loops make made where they are used, on legs of a `zip` (the Weld
 /// papers): where a leg is the `result` of a loop that starts with an empty `vecbuilder` and merges

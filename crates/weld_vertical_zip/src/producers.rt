@@ -4,8 +4,8 @@ ghost use Rattle.std.specs.Prelude.{◌≡◌, ◌<◌, length, map, IfSome};
 ghost use Rattle.weld_tree.specs.ExprTree.{pack_legs};
 ghost use Rattle.weld_tree.specs.ExprView.{view_leg};
 ghost use Rattle.weld_tree.specs.TypeView.{view_build};
-ghost use Rattle.weld_sinking.specs.Sinking.{ends_in_merge, is_list, is_producer, starts_list};
-ghost use Rattle.weld_zipping.specs.Zipping.{is_made_leg, is_made_list};
+ghost use Rattle.weld_vertical.specs.Sinking.{ends_in_merge, is_list, is_producer, starts_list};
+ghost use Rattle.weld_vertical_zip.specs.Zipping.{is_made_leg, is_made_list};
 ghost use Rattle.weld_vertical_zip.specs.Zips.{place_produced};
 
 use weld_substitution::{is_use, uses_of};

@@ -3,8 +3,8 @@
 ghost use Rattle.std.specs.Prelude.{◌≡◌, ◌+◌, ◌<◌, ◌^◌, [], ◌∷◌, ◌++◌, length, IfOk};
 ghost use Rattle.weld_tree.specs.TypeTree.{pack, struct};
 ghost use Rattle.weld_tree.specs.ExprTree.{make_struct, many, pack_exprs};
-ghost use Rattle.weld_twice.specs.Twice.{items_from, node_of};
-ghost use Rattle.weld_zipping.specs.Zipping.{all_items, made_row, own_row, part_of_row, types_behind, whole_row};
+ghost use Rattle.weld_horizontal.specs.Twice.{items_from, node_of};
+ghost use Rattle.weld_vertical_zip.specs.Zipping.{all_items, made_row, own_row, part_of_row, types_behind, whole_row};
 ghost use Rattle.weld_vertical_zip.specs.Zips.{of_sides, row_fields, AreFew};
 
 use std::alloc::{AllocError, Global};

@@ -3,10 +3,10 @@
 ghost use Rattle.std.specs.Prelude.{◌≡◌, map, true, IfOk};
 ghost use Rattle.weld_tree.specs.ExprTree.{At, loop, pack_legs};
 ghost use Rattle.weld_tree.specs.ExprView.{view_form, view_leg};
-ghost use Rattle.weld_sinking.specs.Sinking.{is_producer, starts_list};
-ghost use Rattle.weld_twice.specs.Twice.{bare};
+ghost use Rattle.weld_vertical.specs.Sinking.{is_producer, starts_list};
+ghost use Rattle.weld_horizontal.specs.Twice.{bare};
 ghost use Rattle.weld_meaning.specs.Names.{put};
-ghost use Rattle.weld_zipping.specs.Zipping.{first_made, fits_around, is_made_leg, is_zipped, item_of_start, legs_behind, own_row, sides, unzipped};
+ghost use Rattle.weld_vertical_zip.specs.Zipping.{first_made, fits_around, is_made_leg, is_zipped, item_of_start, legs_behind, own_row, sides, unzipped};
 ghost use Rattle.weld_vertical_zip.specs.Zips.{is_loop, of_sides, over_legs, spliced_producer, AreFew, IsCut, IsMadeBy};
 
 use crate::producers::place_produced;
@@ -16,8 +16,8 @@ use crate::zips::is_zipped;
 use std::alloc::{AllocError, Global};
 use std::mem;
 use weld_horizontal::{Picks, items_of};
+use weld_rewriting::sweep::{Rule, sweep};
 use weld_substitution::put_in;
-use weld_sweep::{Rule, sweep};
 use weld_tree::{Binder, BuildTy, Expr, Form, Known, LeafForm, Leg, Legs, Place, Sym, Ty};
 
 /// A loop over a `zip` of which a leg is the list that another loop makes becomes one loop.
@@ -57,7 +57,7 @@ struct Cut {
 #[derive(Drop)]
 struct Outer {
     start: Box<Expr>,
-    builder: Binder,
+    builder: Box<Binder>,
 }
 
 /// The loop over a `zip`, sunk into the loop that makes a leg, over the legs of both.
@@ -71,7 +71,11 @@ fn splice(alloc: Global, e: &mut Expr) -> Result<(), AllocError>
         unreachable!();
     };
     let outer = Outer { start, builder };
-    let consumer = Consumer { number, row, body };
+    let consumer = Consumer {
+        number: Box::into_inner(number),
+        row: Box::into_inner(row),
+        body,
+    };
     e.form = join(alloc, place, &e.ty, legs, outer, consumer)?;
     Ok(())
 }
@@ -88,7 +92,7 @@ fn join(
 ) -> Result<Form, AllocError>
     requires { fits_around (first_made (pack_legs legs)) ≡ true }
     ensures { IfOk result (λ form. (at : At) → at.place ≡ place → at.ty ≡ ty.now
-        → view_form form at ≡ unzipped (loop at (pack_legs legs) outer.start.value outer.builder
+        → view_form form at ≡ unzipped (loop at (pack_legs legs) outer.start.value outer.builder.value
         consumer.number consumer.row consumer.body.value)) }
 {
     let Cut { others, producer } = cut_out(legs)?;
@@ -201,7 +205,7 @@ fn sides_of(alloc: Global, others: &Others, producer: &Expr) -> Result<Sides, Al
 fn over_all(others: Others, outer: Outer, producer: Box<Expr>) -> Result<Form, AllocError>
     requires { is_loop producer.value ≡ true }
     ensures { IfOk result (λ form. (at : At) → view_form form at
-        ≡ over_legs at outer.start.value outer.builder (pack_legs (map view_leg others.before.items))
+        ≡ over_legs at outer.start.value outer.builder.value (pack_legs (map view_leg others.before.items))
         (pack_legs (map view_leg others.after.items)) producer.value) }
 {
     let Others { before, after } = others;

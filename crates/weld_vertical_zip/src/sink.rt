@@ -5,7 +5,7 @@ ghost use Rattle.weld_tree.specs.declared.known.Known.TheVariants.{Is};
 ghost use Rattle.weld_tree.specs.ExprTree.{At, leaf, let_in, name};
 ghost use Rattle.weld_tree.specs.ExprView.{view_form};
 ghost use Rattle.weld_meaning.specs.Typing.{place_type};
-ghost use Rattle.weld_zipping.specs.Zipping.{made_row};
+ghost use Rattle.weld_vertical_zip.specs.Zipping.{made_row};
 ghost use Rattle.weld_vertical_zip.specs.Zips.{of_sides, spliced_body, AreFew};
 
 use crate::rows::{Sides, made_row};

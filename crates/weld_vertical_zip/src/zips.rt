@@ -4,7 +4,7 @@ ghost use Rattle.std.specs.Prelude.{◌≡◌, ◌<◌, ◌&&◌, length, map, S
 ghost use Rattle.weld_tree.specs.TypeTree.{pack};
 ghost use Rattle.weld_tree.specs.ExprTree.{pack_legs};
 ghost use Rattle.weld_tree.specs.ExprView.{view_leg};
-ghost use Rattle.weld_zipping.specs.Zipping.{are_several, first_made, fits_around, is_made_leg, is_zipped};
+ghost use Rattle.weld_vertical_zip.specs.Zipping.{are_several, first_made, fits_around, is_made_leg, is_zipped};
 ghost use Rattle.weld_vertical_zip.specs.Zips.{own_items, place_produced};
 
 use crate::producers::place_produced;

@@ -11,7 +11,7 @@ use Rattle.weld_data.specs.Value.{Value, Values, number, list, struct, dict, val
 use Rattle.weld_data.specs.Kind.{InRange}
 use Rattle.weld_data.specs.Order.{IsNumber}
 use Rattle.weld_tree.specs.TypeTree.{TypeTree, scalar, vec, struct as struct_of, dict as dict_of, build, pack}
-use Rattle.weld_fits.specs.HasValue.{HasValue, HaveValues, AllAre, AllEntriesAre}
+use Rattle.weld_tree.specs.HasValue.{HasValue, HaveValues, AllAre, AllEntriesAre}
 use Rattle.weld_write_value.specs.Showing.{IsI8}
 use Rattle.weld_write_value.specs.Showing.{shown_scalar, led, shown_list, shown_byte, shown_item, strung, shown_elements, led_entries, shown_entries, show, show_fields}
 

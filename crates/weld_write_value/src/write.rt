@@ -7,7 +7,7 @@ ghost use Rattle.weld_data.specs.Value.{number, values, entries};
 ghost use Rattle.weld_data.specs.View.{view_val, view_column};
 ghost use Rattle.weld_data.specs.declared.kind.Kind.TheVariants as kinds;
 ghost use Rattle.weld_tree.specs.TypeTree.{scalar, pack};
-ghost use Rattle.weld_fits.specs.HasValue.{HasValue, HaveValues, AllAre, AllEntriesAre};
+ghost use Rattle.weld_tree.specs.HasValue.{HasValue, HaveValues, AllAre, AllEntriesAre};
 ghost use Rattle.weld_write_value.specs.Showing.{IsI8, shown_scalar, shown_number, shown_list, shown_byte, hex_of, strung, shown_elements, shown_entries, show, show_fields, ShowValue};
 
 use crate::cell::Cell;

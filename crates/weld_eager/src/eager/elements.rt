@@ -3,8 +3,8 @@
 ghost use Rattle.weld_data.specs.View.{view_val};
 ghost use Rattle.weld_calls.specs.declared.call.Call.TheVariants as calls;
 ghost use Rattle.weld_calls.specs.CallRows.{IsRow};
-ghost use Rattle.weld_eval_values.specs.Answers.{Answers};
-ghost use Rattle.weld_lists.specs.CallMeaning.{call_meaning};
+ghost use Rattle.weld_eval.specs.Answers.{Answers};
+ghost use Rattle.weld_calls.specs.CallMeaning.{call_meaning};
 ghost use Rattle.weld_eager.specs.Fitting.{AreOf};
 
 use crate::answer::{always, or_fault};

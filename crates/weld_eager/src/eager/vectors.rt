@@ -4,13 +4,13 @@ ghost use Rattle.weld_data.specs.Value.{number};
 ghost use Rattle.weld_data.specs.Operation.{start_of};
 ghost use Rattle.weld_data.specs.View.{view_val};
 ghost use Rattle.weld_builders.specs.Outcome.{done};
-ghost use Rattle.weld_call_laws.specs.Folds.{combined_all};
+ghost use Rattle.weld_calls.specs.Folds.{combined_all};
 ghost use Rattle.weld_calls.specs.declared.call.Call.TheVariants as calls;
 ghost use Rattle.weld_calls.specs.CallRows.{IsRow, OneVector, TwoVectors, VectorAndNumber};
 ghost use Rattle.weld_calls.specs.CallTypes.{IsArithmetic};
-ghost use Rattle.weld_eval_values.specs.Answers.{Answers};
-ghost use Rattle.weld_lists.specs.Lists.{numbers};
-ghost use Rattle.weld_lists.specs.CallMeaning.{call_meaning, kind_at as plain_kind_at, value_at};
+ghost use Rattle.weld_eval.specs.Answers.{Answers};
+ghost use Rattle.weld_calls.specs.Lists.{numbers};
+ghost use Rattle.weld_calls.specs.CallMeaning.{call_meaning, kind_at as plain_kind_at, value_at};
 ghost use Rattle.weld_eager.specs.Fitting.{AreOf};
 
 use crate::answer::{always, or_fault};

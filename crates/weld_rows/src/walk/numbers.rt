@@ -2,7 +2,7 @@
 
 ghost use Rattle.weld_eval.specs.FrameView.{env_of};
 ghost use Rattle.weld_eval_plain.specs.Nodes.{IsEither, IsIf};
-ghost use Rattle.weld_eval_values.specs.Answers.{Answers};
+ghost use Rattle.weld_eval.specs.Answers.{Answers};
 ghost use Rattle.weld_meaning.specs.Evaluation.{eval as eval_of};
 ghost use Rattle.weld_rows.specs.Numbers.{number_thing, AnswersKind, IsBinary, IsNumberForm};
 ghost use Rattle.weld_rows.specs.Runs.{RunsNumber, IsSelect};

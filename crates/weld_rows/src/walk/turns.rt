@@ -6,7 +6,7 @@ ghost use Rattle.weld_eval.specs.FrameView.{env_of};
 ghost use Rattle.weld_eval.specs.ThingView.{held_of};
 ghost use Rattle.weld_eval_plain.specs.Nodes.{IsIterate};
 ghost use Rattle.weld_eval_plain.specs.Turns.{HoldsState, StateAnswers, TurnAnswers, turns_from};
-ghost use Rattle.weld_eval_values.specs.Answers.{Answers};
+ghost use Rattle.weld_eval.specs.Answers.{Answers};
 ghost use Rattle.weld_meaning.specs.Evaluation.{eval as eval_of, turn_limit};
 ghost use Rattle.weld_rows.specs.Runs.{Runs};
 

@@ -10,7 +10,7 @@ ghost use Rattle.weld_eval_forms.specs.FormTakes.{all_of, pack_things};
 ghost use Rattle.weld_eval_forms.specs.Legs.{leg_lists, AreVectors};
 ghost use Rattle.weld_eval_plain.specs.Nodes.{IsOne, IsIf, IsLet, IsLoop, IsMany, IsBoth, IsThree};
 ghost use Rattle.weld_eval_plain.specs.Rows.{LegsAre};
-ghost use Rattle.weld_eval_values.specs.Answers.{Answers};
+ghost use Rattle.weld_eval.specs.Answers.{Answers};
 ghost use Rattle.weld_meaning.specs.Evaluation.{eval as eval_of, eval_all};
 ghost use Rattle.weld_rows.specs.RowActs.{legs_count};
 ghost use Rattle.weld_rows.specs.Runs.{Runs, RunsNumber, AllRun};

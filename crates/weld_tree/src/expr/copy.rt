@@ -146,14 +146,14 @@ fn copy_binders(
     b: &Binder,
     n: &Binder,
     x: &Binder,
-) -> Result<(Binder, Binder, Binder), AllocError>
-    ensures first { IfOk result (λ copies. copies.0 ≡ b.now) }
-    ensures second { IfOk result (λ copies. copies.1 ≡ n.now) }
-    ensures third { IfOk result (λ copies. copies.2 ≡ x.now) }
+) -> Result<(Box<Binder>, Box<Binder>, Box<Binder>), AllocError>
+    ensures first { IfOk result (λ copies. copies.0.value ≡ b.now) }
+    ensures second { IfOk result (λ copies. copies.1.value ≡ n.now) }
+    ensures third { IfOk result (λ copies. copies.2.value ≡ x.now) }
 {
-    let b = b.copy(alloc)?;
-    let n = n.copy(alloc)?;
-    Ok((b, n, x.copy(alloc)?))
+    let b = Box::new(alloc, b.copy(alloc)?)?;
+    let n = Box::new(alloc, n.copy(alloc)?)?;
+    Ok((b, n, Box::new(alloc, x.copy(alloc)?)?))
 }
 
 impl Exprs {

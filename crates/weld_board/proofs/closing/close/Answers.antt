@@ -1,5 +1,5 @@
 use Rattle.std.proofs.Common.{map, IsPermutation, ap, sym, subst, ◌∙◌, arith}
-use Rattle.weld_hands.specs.Dealing.{joined}
+use Rattle.weld_board.specs.Dealing.{joined}
 use Rattle.weld_board.specs.declared.share.Share.{Share}
 use Rattle.weld_board.specs.Draws.{tiles_drawn}
 use Rattle.weld_board.specs.Rule.{IsAll}

@@ -1,9 +1,9 @@
 use Rattle.std.proofs.Common.{sym, subst}
 use Rattle.weld_data.specs.declared.op.MergeOp.TheVariants as merges
 use Rattle.weld_data.specs.View.{view_val}
-use Rattle.weld_eval_values.specs.Answers.{Answers}
-use Rattle.weld_lists.specs.Lists.{numbers}
-use Rattle.weld_lists.specs.CallMeaning.{call_meaning, kind_at, value_at}
+use Rattle.weld_eval.specs.Answers.{Answers}
+use Rattle.weld_calls.specs.Lists.{numbers}
+use Rattle.weld_calls.specs.CallMeaning.{call_meaning, kind_at, value_at}
 use Rattle.weld_eager.proofs.Answering.{total_answer}
 use Rattle.weld_eager.proofs.eager.eager.Goals as goal
 

@@ -4,7 +4,7 @@ use Rattle.weld_data.specs.View.{view_val, view_column}
 use Rattle.weld_data.specs.declared.kind.Kind.TheVariants as kinds
 use Rattle.weld_data.specs.declared.op.MergeOp.TheVariants as merges
 use Rattle.weld_builders.specs.Part.{combined}
-use Rattle.weld_call_laws.proofs.Groups.{chained_count}
+use Rattle.weld_calls.proofs.Groups.{chained_count}
 use Rattle.weld_eager.specs.Reading.{how_many_wrapped}
 use Rattle.weld_eager.proofs.Grouping.{may_merge, merged_start, keys_start, counts_more, merged_all, keys_more, keys_kept, keys_agree}
 use Rattle.weld_eager.proofs.groups.counts_by_keys.Goals as goal

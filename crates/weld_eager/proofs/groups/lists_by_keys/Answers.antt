@@ -2,7 +2,7 @@ use Rattle.std.proofs.Common.{◌∷◌, [], ◌∙◌, arith}
 use Rattle.weld_data.specs.Value.{Value}
 use Rattle.weld_data.specs.View.{view_val, view_column}
 use Rattle.weld_builders.specs.Part.{appended}
-use Rattle.weld_call_laws.proofs.Groups.{chained_list}
+use Rattle.weld_calls.proofs.Groups.{chained_list}
 use Rattle.weld_eager.proofs.Keeping.{may_push}
 use Rattle.weld_eager.proofs.Grouping.{may_merge, merged_start, keys_start, lists_more, merged_all, keys_more, keys_kept, keys_agree}
 use Rattle.weld_eager.proofs.groups.lists_by_keys.Goals as goal

@@ -5,8 +5,8 @@ use Rattle.weld_data.specs.Kind.{InRange}
 use Rattle.weld_data.specs.Wrapped.{wrapped}
 use Rattle.weld_builders.specs.Part.{combined}
 use Rattle.weld_eager.proofs.Words.{bits, cell_in_range}
-use Rattle.weld_lists.specs.Lists.{wrapped_sum}
-use Rattle.weld_call_laws.proofs.Groups.{chained_sum}
+use Rattle.weld_calls.specs.Lists.{wrapped_sum}
+use Rattle.weld_calls.proofs.Groups.{chained_sum}
 use Rattle.weld_eager.proofs.Grouping.{may_merge, merged_start, keys_start, sums_more, merged_all, keys_more, keys_kept, keys_agree}
 use Rattle.weld_eager.proofs.groups.sums_by_keys.Goals as goal
 

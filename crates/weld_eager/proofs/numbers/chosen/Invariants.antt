@@ -1,7 +1,7 @@
 use Rattle.std.proofs.Common.{◌≡◌, ◌++◌, drop, length}
 use Rattle.weld_builders.specs.Outcome.{map_out}
 use Rattle.weld_builders.specs.Range.{AllInRange}
-use Rattle.weld_lists.specs.Lists.{chosen}
+use Rattle.weld_calls.specs.Lists.{chosen}
 use Rattle.weld_eager.proofs.numbers.chosen.Given as goal
 
 abbrev pub invariant-loop-i : goal.invariant-loop-i

@@ -1,7 +1,7 @@
 use Rattle.std.proofs.Common.{◌≡◌, ◌++◌, drop, length}
 use Rattle.weld_builders.specs.Outcome.{map_out}
 use Rattle.weld_builders.specs.Range.{AllInRange}
-use Rattle.weld_lists.specs.Lists.{elementwise}
+use Rattle.weld_calls.specs.Lists.{elementwise}
 use Rattle.weld_eager.proofs.numbers.elementwise.Given as goal
 
 abbrev pub invariant-loop-i : goal.invariant-loop-i

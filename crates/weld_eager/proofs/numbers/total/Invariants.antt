@@ -1,7 +1,7 @@
 use Rattle.std.proofs.Common.{◌≡◌, take}
 use Rattle.weld_data.specs.Kind.{InRange}
 use Rattle.weld_data.specs.Operation.{start_of}
-use Rattle.weld_call_laws.specs.Folds.{combined_all}
+use Rattle.weld_calls.specs.Folds.{combined_all}
 use Rattle.weld_eager.proofs.numbers.total.Given as goal
 
 abbrev pub invariant-loop-x : goal.invariant-loop-x

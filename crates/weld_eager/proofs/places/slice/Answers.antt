@@ -1,6 +1,6 @@
 use Rattle.std.proofs.Common.{subst}
 use Rattle.weld_data.specs.View.{view_val}
-use Rattle.weld_eval_values.specs.Answers.{Answers}
+use Rattle.weld_eval.specs.Answers.{Answers}
 use Rattle.weld_eager.proofs.Taking.{part_is}
 use Rattle.weld_eager.proofs.places.slice.Goals as goal
 

@@ -1,6 +1,6 @@
 use Rattle.std.proofs.Common.{◌≡◌, map, take, length}
 use Rattle.weld_data.specs.View.{view_column}
-use Rattle.weld_lists.specs.Lists.{truth_in}
+use Rattle.weld_calls.specs.Lists.{truth_in}
 use Rattle.weld_eager.proofs.read.column_truths.Given as goal
 
 abbrev pub invariant-loop-place : goal.invariant-loop-place

@@ -1,6 +1,6 @@
 use Rattle.weld_data.specs.View.{view_column}
 use Rattle.weld_tree.specs.TypeTree.{scalar, vec}
-use Rattle.weld_eval_values.specs.Elements.{view_element}
+use Rattle.weld_eval.specs.Elements.{view_element}
 use Rattle.weld_eager.proofs.Combining.{pushed, all_in_range_more}
 use Rattle.weld_eager.proofs.DotRows.{typed_at, dots_more, dots_stop, some_answer, none_answer, some_in_range}
 use Rattle.weld_eager.proofs.rows.dots.Goals as goal

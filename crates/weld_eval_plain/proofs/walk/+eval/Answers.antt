@@ -7,7 +7,7 @@ use Rattle.weld_tree.specs.declared.expr.Form.{Form}
 use Rattle.weld_builders.specs.Outcome.{Outcome, done}
 use Rattle.weld_meaning.specs.Thing.{Thing, plain, bare_thing}
 use Rattle.weld_meaning.specs.Evaluation.{Env, eval, eval_leg, whole_number}
-use Rattle.weld_eval_values.specs.Answers.{Answers}
+use Rattle.weld_eval.specs.Answers.{Answers}
 use Rattle.weld_eval.specs.Fit.{IsFit}
 use Rattle.weld_eval.specs.FrameView.{env_of}
 use Rattle.weld_eval.specs.ThingView.{thing_of, held_of}
@@ -158,7 +158,7 @@ eval_over-count_rows-requires-clause-some t c =
 
 pub eval_over-run_rows-requires : goal.eval_over-run_rows-requires
 eval_over-run_rows-requires t c =
-    (omega arith, (over_start _ _ c.deref.result.now _ _ _ _ (env_of c.args.frame.now) c.args.e.now (leg_lists c.args.legs.now) (held_of c.in-Ok-eval.builder) c.in-Ok.count (sym c.e.view_is ∙ ap (λ (f : Form). view_form f (record { place = c.e.inside.place; ty = c.e.inside.ty })) c.in-For.is ∙ (λ i. loop (record { place = c.e.inside.place; ty = c.e.inside.ty }) (pack_legs c.in-For.field-0) (sym c.deref.ensures i) c.in-For.field-2 c.in-For.field-3 c.in-For.field-4 c.in-For.field-5.value)) c.requires.fit c.requires.legs c.in-Ok.ensures c.in-Ok-eval.ensures, (c.requires.vectors, c.requires.form)))
+    (omega arith, (over_start _ _ c.deref.result.now _ _ _ _ (env_of c.args.frame.now) c.args.e.now (leg_lists c.args.legs.now) (held_of c.in-Ok-eval.builder) c.in-Ok.count (sym c.e.view_is ∙ ap (λ (f : Form). view_form f (record { place = c.e.inside.place; ty = c.e.inside.ty })) c.in-For.is ∙ (λ i. loop (record { place = c.e.inside.place; ty = c.e.inside.ty }) (pack_legs c.in-For.field-0) (sym c.deref.ensures i) c.in-For.field-2.value c.in-For.field-3.value c.in-For.field-4.value c.in-For.field-5.value)) c.requires.fit c.requires.legs c.in-Ok.ensures c.in-Ok-eval.ensures, (c.requires.vectors, c.requires.form)))
 
 pub run_rows-loop-number-init : goal.run_rows-loop-number-init
 run_rows-loop-number-init t c =
@@ -178,8 +178,8 @@ run_rows-returns-in-Err-run_row t c =
 
 pub run_row-run_body-answer-requires : goal.run_row-run_body-answer-requires
 run_row-run_body-answer-requires t c =
-    let is : c.args.e.now ≡ loop (record { place = c.e.inside.place; ty = c.e.inside.ty }) (pack_legs c.in-For.field-0) c.in-For.field-1.value c.in-For.b c.in-For.n c.in-For.x c.deref.result.now = sym c.e.view_is ∙ ap (λ (f : Form). view_form f (record { place = c.e.inside.place; ty = c.e.inside.ty })) c.in-For.is ∙ (λ i. loop (record { place = c.e.inside.place; ty = c.e.inside.ty }) (pack_legs c.in-For.field-0) c.in-For.field-1.value c.in-For.b c.in-For.n c.in-For.x (sym c.deref.ensures i)) in
-    let names : env_of c.bind-inner.result ≡ ((c.in-For.x.sym.0, plain (view_val c.args.row)) ∷ (c.in-For.n.sym.0, plain (whole_number c.args.number)) ∷ (c.in-For.b.sym.0, bare_thing (thing_of c.args.builder.now)) ∷ env_of c.args.frame.now) = row_env _ _ _ _ _ _ _ (whole_number c.args.number) _ _ _ _ c.bind-inner.ensures c.bind-middle.ensures c.bind-outer.ensures (ap plain c.whole_number.ensures) c.in-Ok.ensures in (
+    let is : c.args.e.now ≡ loop (record { place = c.e.inside.place; ty = c.e.inside.ty }) (pack_legs c.in-For.field-0) c.in-For.field-1.value c.in-For.b.value c.in-For.n.value c.in-For.x.value c.deref.result.now = sym c.e.view_is ∙ ap (λ (f : Form). view_form f (record { place = c.e.inside.place; ty = c.e.inside.ty })) c.in-For.is ∙ (λ i. loop (record { place = c.e.inside.place; ty = c.e.inside.ty }) (pack_legs c.in-For.field-0) c.in-For.field-1.value c.in-For.b.value c.in-For.n.value c.in-For.x.value (sym c.deref.ensures i)) in
+    let names : env_of c.bind-inner.result ≡ ((c.in-For.x.value.sym.0, plain (view_val c.args.row)) ∷ (c.in-For.n.value.sym.0, plain (whole_number c.args.number)) ∷ (c.in-For.b.value.sym.0, bare_thing (thing_of c.args.builder.now)) ∷ env_of c.args.frame.now) = row_env _ _ _ _ _ _ _ (whole_number c.args.number) _ _ _ _ c.bind-inner.ensures c.bind-middle.ensures c.bind-outer.ensures (ap plain c.whole_number.ensures) c.in-Ok.ensures in (
       omega (arith, ap expr_nodes is),
       (
         subst (λ (g : Env). IsFit c.deref.result.now g) (sym names) (row_body_fits _ _ _ _ _ _ c.deref.result.now (env_of c.args.frame.now) c.args.e.now c.args.number (thing_of c.args.builder.now) (view_val c.args.row) is c.requires.holds),
@@ -189,8 +189,8 @@ run_row-run_body-answer-requires t c =
 
 pub run_row-returns : goal.run_row-returns
 run_row-returns t c =
-    let is : c.args.e.now ≡ loop (record { place = c.e.inside.place; ty = c.e.inside.ty }) (pack_legs c.in-For.field-0) c.in-For.field-1.value c.in-For.b c.in-For.n c.in-For.x c.deref.result.now = sym c.e.view_is ∙ ap (λ (f : Form). view_form f (record { place = c.e.inside.place; ty = c.e.inside.ty })) c.in-For.is ∙ (λ i. loop (record { place = c.e.inside.place; ty = c.e.inside.ty }) (pack_legs c.in-For.field-0) c.in-For.field-1.value c.in-For.b c.in-For.n c.in-For.x (sym c.deref.ensures i)) in
-    let names : env_of c.bind-inner.result ≡ ((c.in-For.x.sym.0, plain (view_val c.args.row)) ∷ (c.in-For.n.sym.0, plain (whole_number c.args.number)) ∷ (c.in-For.b.sym.0, bare_thing (thing_of c.args.builder.now)) ∷ env_of c.args.frame.now) = row_env _ _ _ _ _ _ _ (whole_number c.args.number) _ _ _ _ c.bind-inner.ensures c.bind-middle.ensures c.bind-outer.ensures (ap plain c.whole_number.ensures) c.in-Ok.ensures in
+    let is : c.args.e.now ≡ loop (record { place = c.e.inside.place; ty = c.e.inside.ty }) (pack_legs c.in-For.field-0) c.in-For.field-1.value c.in-For.b.value c.in-For.n.value c.in-For.x.value c.deref.result.now = sym c.e.view_is ∙ ap (λ (f : Form). view_form f (record { place = c.e.inside.place; ty = c.e.inside.ty })) c.in-For.is ∙ (λ i. loop (record { place = c.e.inside.place; ty = c.e.inside.ty }) (pack_legs c.in-For.field-0) c.in-For.field-1.value c.in-For.b.value c.in-For.n.value c.in-For.x.value (sym c.deref.ensures i)) in
+    let names : env_of c.bind-inner.result ≡ ((c.in-For.x.value.sym.0, plain (view_val c.args.row)) ∷ (c.in-For.n.value.sym.0, plain (whole_number c.args.number)) ∷ (c.in-For.b.value.sym.0, bare_thing (thing_of c.args.builder.now)) ∷ env_of c.args.frame.now) = row_env _ _ _ _ _ _ _ (whole_number c.args.number) _ _ _ _ c.bind-inner.ensures c.bind-middle.ensures c.bind-outer.ensures (ap plain c.whole_number.ensures) c.in-Ok.ensures in
     row_by_body c.run_body-answer.result _ _ _ _ _ _ c.deref.result.now (env_of c.args.frame.now) c.args.e.now c.args.number (thing_of c.args.builder.now) (thing_of c.run_body-answer.new.builder) (view_val c.args.row) is c.requires.holds
     (subst (λ (g : Env). BodyAnswer c.run_body-answer.result c.deref.result.now g (thing_of c.args.builder.now) (thing_of c.run_body-answer.new.builder)) names c.run_body-answer.ensures)
 

@@ -7,7 +7,7 @@ use Rattle.weld_eval.specs.Fit.{IsFit}
 use Rattle.weld_eval.specs.FrameView.{env_of}
 use Rattle.weld_eval.specs.NamesView.{env_of_names}
 use Rattle.weld_eval.specs.ThingView.{thing_of, held_of}
-use Rattle.weld_eval_values.specs.Answers.{Answers}
+use Rattle.weld_eval.specs.Answers.{Answers}
 use Rattle.weld_eval_plain.proofs.Steps.{stops}
 use Rattle.weld_exec.proofs.evaluate.compute.Goals as goal
 

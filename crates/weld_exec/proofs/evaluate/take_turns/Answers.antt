@@ -7,7 +7,7 @@ use Rattle.weld_meaning.specs.Meaning.{with_arguments}
 use Rattle.weld_eval.specs.FrameView.{env_of}
 use Rattle.weld_eval.specs.NamesView.{env_of_names}
 use Rattle.weld_eval.specs.ThingView.{thing_of, held_of}
-use Rattle.weld_eval_values.specs.Answers.{Answers}
+use Rattle.weld_eval.specs.Answers.{Answers}
 use Rattle.weld_eval_plain.specs.Turns.{HoldsState, turns_from}
 use Rattle.weld_eval_plain.proofs.Steps.{stops}
 use Rattle.weld_exec.proofs.evaluate.take_turns.Goals as goal

@@ -2,7 +2,7 @@ use Rattle.std.proofs.Common.{subst, sym}
 use Rattle.weld_data.specs.Value.{Value}
 use Rattle.weld_data.specs.View.{view_val}
 use Rattle.weld_builders.specs.Outcome.{Outcome}
-use Rattle.weld_eval_values.specs.Answers.{Answers}
+use Rattle.weld_eval.specs.Answers.{Answers}
 use Rattle.weld_front.proofs.Noted.{NotesKnown}
 use Rattle.weld_front.proofs.ScriptLemmas.{noted_of, run_counted, meant_as}
 use Rattle.weld_front.proofs.scripting.run_gathered.Goals as goal

@@ -1,4 +1,4 @@
-use Rattle.weld_picked.specs.Picked.{is_pick, picked}
+use Rattle.weld_horizontal.specs.Picked.{is_pick, picked}
 use Rattle.weld_horizontal.proofs.Single.{picks_no_heavier}
 use Rattle.weld_horizontal.proofs.laws.fields_may_be_picked.Goals as goal
 

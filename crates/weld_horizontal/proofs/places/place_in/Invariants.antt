@@ -1,7 +1,7 @@
 use Rattle.std.proofs.Common.{◌≡◌, drop, map}
 use Rattle.weld_tree.specs.ExprTree.{pack_legs}
 use Rattle.weld_tree.specs.ExprView.{view_leg}
-use Rattle.weld_twice.specs.Twice.{place_in}
+use Rattle.weld_horizontal.specs.Twice.{place_in}
 use Rattle.weld_horizontal.proofs.PlaceLemmas.{shifted}
 use Rattle.weld_horizontal.proofs.places.place_in.Given as goal
 

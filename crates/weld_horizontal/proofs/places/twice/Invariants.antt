@@ -1,7 +1,7 @@
 use Rattle.std.proofs.Common.{◌≡◌, drop, map}
 use Rattle.weld_tree.specs.ExprTree.{pack_legs}
 use Rattle.weld_tree.specs.ExprView.{view_leg}
-use Rattle.weld_twice.specs.Twice.{twice}
+use Rattle.weld_horizontal.specs.Twice.{twice}
 use Rattle.weld_horizontal.proofs.PlaceLemmas.{behind}
 use Rattle.weld_horizontal.proofs.places.twice.Given as goal
 

@@ -1,6 +1,6 @@
 use Rattle.std.proofs.Common.{◌≡◌, take, map}
 use Rattle.weld_tree.specs.ExprView.{view_leg}
-use Rattle.weld_twice.specs.Twice.{leg_item}
+use Rattle.weld_horizontal.specs.Twice.{leg_item}
 use Rattle.weld_horizontal.proofs.row.items_of.Given as goal
 
 abbrev pub invariant-loop-leg : goal.invariant-loop-leg

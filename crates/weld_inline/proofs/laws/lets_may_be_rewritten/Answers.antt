@@ -1,4 +1,4 @@
-use Rattle.weld_putting.specs.Redex.{is_redex}
+use Rattle.weld_substitution.specs.Redex.{is_redex}
 use Rattle.weld_inline.specs.Inlining.{opened}
 use Rattle.weld_inline.proofs.Falling.{lighter}
 use Rattle.weld_inline.proofs.Sound.{rewrites}

@@ -1,7 +1,7 @@
 use Rattle.std.proofs.Common.{◌≡◌, ◌+◌, ◌*◌, drop}
 use Rattle.weld_tree.specs.ExprTree.{pack_exprs}
 use Rattle.weld_tree.specs.ExprFalls.{expr_nodes, exprs_nodes}
-use Rattle.weld_putting.specs.Redex.{some_has_loop}
+use Rattle.weld_substitution.specs.Redex.{some_has_loop}
 use Rattle.weld_inline.proofs.loops_within.+loops.Given as goal
 
 abbrev pub decreases-has_loop : goal.decreases-has_loop

@@ -1,6 +1,6 @@
 use Rattle.std.proofs.Common.{◌∙◌, ap, sym}
 use Rattle.weld_tree.specs.declared.known.Known.{Known}
-use Rattle.weld_putting.specs.Redex.{is_known_value}
+use Rattle.weld_substitution.specs.Redex.{is_known_value}
 use Rattle.weld_types.proofs.CodeTests.{free_bool}
 use Rattle.weld_inline.proofs.redex.is_known_value.Goals as goal
 

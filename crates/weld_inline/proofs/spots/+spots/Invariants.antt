@@ -2,7 +2,7 @@ use Rattle.std.proofs.Common.{◌≡◌, ◌+◌, ◌*◌, drop, map}
 use Rattle.weld_tree.specs.ExprTree.{pack_exprs, pack_legs}
 use Rattle.weld_tree.specs.ExprView.{view_leg}
 use Rattle.weld_tree.specs.ExprFalls.{expr_nodes, exprs_nodes, leg_nodes, legs_nodes}
-use Rattle.weld_putting.specs.Redex.{spot_among, spot_in_legs}
+use Rattle.weld_substitution.specs.Redex.{spot_among, spot_in_legs}
 use Rattle.weld_inline.proofs.spots.+spots.Given as goal
 
 abbrev pub decreases-spot_of : goal.decreases-spot_of

@@ -1,6 +1,6 @@
 use Rattle.std.proofs.Common.{◌≡◌, ◌≤◌, ℕ, length, drop, map}
 use Rattle.weld_meaning.specs.Environment.{look_for}
-use Rattle.weld_renaming.specs.Numbering.{number_in}
+use Rattle.weld_objects.specs.Numbering.{number_in}
 use Rattle.weld_lazy.specs.Lowering.{param_number}
 use Rattle.weld_lazy.proofs.calls.number_params.Given as goal
 

@@ -1,5 +1,5 @@
 use Rattle.std.proofs.Common.{◌≡◌, sym, ◌∙◌}
-use Rattle.weld_renaming.specs.Numbering.{number_in}
+use Rattle.weld_objects.specs.Numbering.{number_in}
 use Rattle.weld_lazy.proofs.Placing.{placed_from}
 use Rattle.weld_lazy.proofs.calls.place_body.Goals as goal
 

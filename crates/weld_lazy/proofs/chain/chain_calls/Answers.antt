@@ -1,5 +1,5 @@
 use Rattle.std.proofs.Common.{◌≡◌, ◌+◌, ℕ, List, map, ◌∙◌, refl}
-use Rattle.weld_renaming.specs.Numbering.{number_in}
+use Rattle.weld_objects.specs.Numbering.{number_in}
 use Rattle.weld_objects.specs.Lowered.{lets}
 use Rattle.weld_lazy.specs.View.{view_object}
 use Rattle.weld_lazy.specs.Lowering.{marks_of}

@@ -1,7 +1,7 @@
 use Rattle.std.proofs.Common.{◌≡◌, take, map}
 use Rattle.weld_tree.specs.Blank.{blank_at}
 use Rattle.weld_tree.specs.ExprTree.{leaf, name}
-use Rattle.weld_renaming.specs.Numbering.{number_in}
+use Rattle.weld_objects.specs.Numbering.{number_in}
 use Rattle.weld_lazy.proofs.close.struct_of.Given as goal
 
 abbrev pub invariant-loop-place : goal.invariant-loop-place

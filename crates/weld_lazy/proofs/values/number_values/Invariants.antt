@@ -1,5 +1,5 @@
 use Rattle.std.proofs.Common.{◌≡◌, ◌≤◌, ℕ, [], length, drop, map}
-use Rattle.weld_renaming.specs.Numbering.{number_in}
+use Rattle.weld_objects.specs.Numbering.{number_in}
 use Rattle.weld_lazy.specs.View.{view_object}
 use Rattle.weld_lazy.specs.Lowering.{marks_of, numbered}
 use Rattle.weld_lazy.proofs.values.number_values.Given as goal

@@ -1,4 +1,4 @@
-use Rattle.weld_fits.specs.HasValue.{HasValue}
+use Rattle.weld_tree.specs.HasValue.{HasValue}
 use Rattle.weld_meaning.proofs.Names.{same_answers}
 use Rattle.weld_meaning.proofs.laws.answers_say_all.Goals as goal
 

@@ -4,8 +4,8 @@ use Rattle.weld_vertical.specs.Fusing.{loops_rule}
 use Rattle.weld_vertical_zip.specs.Zips.{zips_rule}
 use Rattle.weld_horizontal.specs.Doubles.{doubles_rule}
 use Rattle.weld_joining.specs.Joining.{beside_rule}
-use Rattle.weld_sweep.specs.Sweep.{RootRule}
-use Rattle.weld_pass.specs.Either.{either}
+use Rattle.weld_rewriting.specs.Sweep.{RootRule}
+use Rattle.weld_rewriting.specs.Either.{either}
 use Rattle.weld_passes.specs.Normal.{spare_legs_rule}
 use Rattle.weld_passes.proofs.laws.all_rules_may_be_tried.Goals as goal
 

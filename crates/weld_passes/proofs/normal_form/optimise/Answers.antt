@@ -1,7 +1,7 @@
 use Rattle.std.proofs.Common.{◌∙◌, subst}
 use Rattle.weld_tree.specs.Program.{ProgramTree, IsProgram}
 use Rattle.weld_meaning.specs.Accepted.{IsAccepted}
-use Rattle.weld_pass.proofs.Spelled.{spelled_by}
+use Rattle.weld_rewriting.proofs.Spelled.{spelled_by}
 use Rattle.weld_passes.proofs.Bodies.{Rewritten, program_rewritten}
 use Rattle.weld_passes.proofs.normal_form.optimise.Goals as goal
 

@@ -1,5 +1,5 @@
 use Rattle.std.proofs.Common.{◌∙◌, ap}
-use Rattle.weld_sweep.specs.Sweep.{swept_times}
+use Rattle.weld_rewriting.specs.Sweep.{swept_times}
 use Rattle.weld_passes.specs.Normal.{all_rules}
 use Rattle.weld_passes.proofs.normal_form.optimise_body.Goals as goal
 

@@ -1,4 +1,4 @@
-use Rattle.weld_guarded.specs.Guard.{is_guard, unguarded}
+use Rattle.weld_predicate.specs.Guard.{is_guard, unguarded}
 use Rattle.weld_predicate.proofs.Falling.{lighter}
 use Rattle.weld_predicate.proofs.laws.guards_may_be_rewritten.Goals as goal
 

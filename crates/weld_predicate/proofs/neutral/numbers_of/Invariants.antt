@@ -1,5 +1,5 @@
 use Rattle.std.proofs.Common.{◌≡◌, take, map}
-use Rattle.weld_guarded.specs.Neutral.{neutral}
+use Rattle.weld_predicate.specs.Neutral.{neutral}
 use Rattle.weld_predicate.proofs.neutral.numbers_of.Given as goal
 
 abbrev pub invariant-loop-ty : goal.invariant-loop-ty

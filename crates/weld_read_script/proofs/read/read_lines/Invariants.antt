@@ -1,5 +1,5 @@
 use Rattle.std.proofs.Common.{◌≡◌}
-use Rattle.weld_steps.specs.Keeping.{IsKnown}
+use Rattle.weld_read_script.specs.Keeping.{IsKnown}
 use Rattle.weld_read_script.proofs.Lines.{GivesTo}
 use Rattle.weld_read_script.proofs.read.read_lines.Given as goal
 

@@ -64,13 +64,13 @@ values::value_over-count_rows-requires-clause-some t c = over_count _ _ _ _ _ _ 
 
 pub acts::act_over-reach-requires : goal.acts::act_over-reach-requires
 acts::act_over-reach-requires t c =
-    let is = sym c.e.view_is ∙ ap (λ (f : Form). view_form f (record { place = c.e.inside.place; ty = c.e.inside.ty })) c.in-For.is ∙ (λ i. loop (record { place = c.e.inside.place; ty = c.e.inside.ty }) (pack_legs c.in-For.field-0) (sym c.deref.ensures i) c.in-For.field-2 c.in-For.field-3 c.in-For.field-4 c.in-For.field-5.value) in
+    let is = sym c.e.view_is ∙ ap (λ (f : Form). view_form f (record { place = c.e.inside.place; ty = c.e.inside.ty })) c.in-For.is ∙ (λ i. loop (record { place = c.e.inside.place; ty = c.e.inside.ty }) (pack_legs c.in-For.field-0) (sym c.deref.ensures i) c.in-For.field-2.value c.in-For.field-3.value c.in-For.field-4.value c.in-For.field-5.value) in
     let less = reach_less _ _ _ _ _ _ _ (env_of c.args.frame.now) c.args.e.now c.args.vectors.now (sym c.e.view_is ∙ ap (λ (f : Form). view_form f (record { place = c.e.inside.place; ty = c.e.inside.ty })) c.in-For.is) c.requires.legs in
     (omega arith, (act_over_ready _ _ c.deref.result.now _ _ _ _ (env_of c.args.frame.now) c.args.e.now (thing_of c.args.builder.now) (thing_of c.act.new.builder) (leg_lists c.args.vectors.now) c.in-Ok.count is c.requires.acts c.requires.legs c.in-Ok.ensures c.in-Ok-act.ensures, (c.requires.acts.direct, (c.requires.form, (omega arith, (c.no_legs-end.ensures ∙ all_linked c.args.vectors.now, c.requires.vectors))))))
 
 pub values::value_over-fill-requires : goal.values::value_over-fill-requires
 values::value_over-fill-requires t c =
-    let is = sym c.e.view_is ∙ ap (λ (f : Form). view_form f (record { place = c.e.inside.place; ty = c.e.inside.ty })) c.in-For.is ∙ (λ i. loop (record { place = c.e.inside.place; ty = c.e.inside.ty }) (pack_legs c.in-For.field-0) (sym c.deref.ensures i) c.in-For.field-2 c.in-For.field-3 c.in-For.field-4 c.in-For.field-5.value) in
+    let is = sym c.e.view_is ∙ ap (λ (f : Form). view_form f (record { place = c.e.inside.place; ty = c.e.inside.ty })) c.in-For.is ∙ (λ i. loop (record { place = c.e.inside.place; ty = c.e.inside.ty }) (pack_legs c.in-For.field-0) (sym c.deref.ensures i) c.in-For.field-2.value c.in-For.field-3.value c.in-For.field-4.value c.in-For.field-5.value) in
     let less = reach_less _ _ _ _ _ _ _ (env_of c.args.frame.now) c.args.e.now c.args.vectors.now (sym c.e.view_is ∙ ap (λ (f : Form). view_form f (record { place = c.e.inside.place; ty = c.e.inside.ty })) c.in-For.is) c.requires.legs in
     (omega arith, (over_ready _ _ c.deref.result.now _ _ _ _ (env_of c.args.frame.now) c.args.e.now (leg_lists c.args.vectors.now) c.in-Ok.count (held_of c.in-Ok-value.builder) is c.requires.runs c.requires.legs c.in-Ok.ensures c.in-Ok-value.ensures, (c.requires.runs.direct, (c.requires.form, (as_many _ _ _ _ _ _ _ (env_of c.args.frame.now) c.args.e.now c.args.vectors.now (sym c.e.view_is ∙ ap (λ (f : Form). view_form f (record { place = c.e.inside.place; ty = c.e.inside.ty })) c.in-For.is) c.requires.legs, c.requires.vectors)))))
 
@@ -102,18 +102,18 @@ values::reach-reach-requires t c = (omega arith, (c.requires.rows, (c.requires.d
 
 pub rows::run_row-act-requires : goal.rows::run_row-act-requires
 rows::run_row-act-requires t c =
-    let is : c.args.e.now ≡ loop (record { place = c.e.inside.place; ty = c.e.inside.ty }) (pack_legs c.in-For.field-0) c.in-For.field-1.value c.in-For.own_binder c.in-For.count_binder c.in-For.row_binder c.deref.result.now = sym c.e.view_is ∙ ap (λ (f : Form). view_form f (record { place = c.e.inside.place; ty = c.e.inside.ty })) c.in-For.is ∙ (λ i. loop (record { place = c.e.inside.place; ty = c.e.inside.ty }) (pack_legs c.in-For.field-0) c.in-For.field-1.value c.in-For.own_binder c.in-For.count_binder c.in-For.row_binder (sym c.deref.ensures i)) in
+    let is : c.args.e.now ≡ loop (record { place = c.e.inside.place; ty = c.e.inside.ty }) (pack_legs c.in-For.field-0) c.in-For.field-1.value c.in-For.own_binder.value c.in-For.count_binder.value c.in-For.row_binder.value c.deref.result.now = sym c.e.view_is ∙ ap (λ (f : Form). view_form f (record { place = c.e.inside.place; ty = c.e.inside.ty })) c.in-For.is ∙ (λ i. loop (record { place = c.e.inside.place; ty = c.e.inside.ty }) (pack_legs c.in-For.field-0) c.in-For.field-1.value c.in-For.own_binder.value c.in-For.count_binder.value c.in-For.row_binder.value (sym c.deref.ensures i)) in
     let same : row_value c.new-row.result ≡ row_in (lists_of c.args.legs.now) c.args.number = row_same c.new-row.result (lists_of c.args.legs.now) c.args.number (row_value c.new-row.result) refl c.new-row.ensures.number c.new-row.ensures.lists in
-    let names : env_of c.with_row-inner.result ≡ ((c.in-For.row_binder.sym.0, plain (row_in (lists_of c.args.legs.now) c.args.number)) ∷ (c.in-For.count_binder.sym.0, plain (whole_number c.args.number)) ∷ (c.in-For.own_binder.sym.0, thing_of c.args.own.now) ∷ (env_of c.args.frame.now)) = row_names _ _ _ _ _ _ _ _ _ _ _ _ c.with_row-inner.ensures c.with_number-middle.ensures c.with_builder-outer.ensures same c.whole_number.ensures in (
+    let names : env_of c.with_row-inner.result ≡ ((c.in-For.row_binder.value.sym.0, plain (row_in (lists_of c.args.legs.now) c.args.number)) ∷ (c.in-For.count_binder.value.sym.0, plain (whole_number c.args.number)) ∷ (c.in-For.own_binder.value.sym.0, thing_of c.args.own.now) ∷ (env_of c.args.frame.now)) = row_names _ _ _ _ _ _ _ _ _ _ _ _ c.with_row-inner.ensures c.with_number-middle.ensures c.with_builder-outer.ensures same c.whole_number.ensures in (
       omega (arith, ap body_nodes is),
       subst (λ (g : Env). ActFits c.deref.result.now g (thing_of c.args.builder.now)) (sym names) (subst (λ k. RowActFits k (env_of c.args.frame.now) (thing_of c.args.own.now) (c.args.number, row_in (lists_of c.args.legs.now) c.args.number) (thing_of c.args.builder.now)) is c.requires.fits),
     )
 
 pub rows::run_row-returns : goal.rows::run_row-returns
 rows::run_row-returns t c =
-    let is : c.args.e.now ≡ loop (record { place = c.e.inside.place; ty = c.e.inside.ty }) (pack_legs c.in-For.field-0) c.in-For.field-1.value c.in-For.own_binder c.in-For.count_binder c.in-For.row_binder c.deref.result.now = sym c.e.view_is ∙ ap (λ (f : Form). view_form f (record { place = c.e.inside.place; ty = c.e.inside.ty })) c.in-For.is ∙ (λ i. loop (record { place = c.e.inside.place; ty = c.e.inside.ty }) (pack_legs c.in-For.field-0) c.in-For.field-1.value c.in-For.own_binder c.in-For.count_binder c.in-For.row_binder (sym c.deref.ensures i)) in
+    let is : c.args.e.now ≡ loop (record { place = c.e.inside.place; ty = c.e.inside.ty }) (pack_legs c.in-For.field-0) c.in-For.field-1.value c.in-For.own_binder.value c.in-For.count_binder.value c.in-For.row_binder.value c.deref.result.now = sym c.e.view_is ∙ ap (λ (f : Form). view_form f (record { place = c.e.inside.place; ty = c.e.inside.ty })) c.in-For.is ∙ (λ i. loop (record { place = c.e.inside.place; ty = c.e.inside.ty }) (pack_legs c.in-For.field-0) c.in-For.field-1.value c.in-For.own_binder.value c.in-For.count_binder.value c.in-For.row_binder.value (sym c.deref.ensures i)) in
     let same : row_value c.new-row.result ≡ row_in (lists_of c.args.legs.now) c.args.number = row_same c.new-row.result (lists_of c.args.legs.now) c.args.number (row_value c.new-row.result) refl c.new-row.ensures.number c.new-row.ensures.lists in
-    let names : env_of c.with_row-inner.result ≡ ((c.in-For.row_binder.sym.0, plain (row_in (lists_of c.args.legs.now) c.args.number)) ∷ (c.in-For.count_binder.sym.0, plain (whole_number c.args.number)) ∷ (c.in-For.own_binder.sym.0, thing_of c.args.own.now) ∷ (env_of c.args.frame.now)) = row_names _ _ _ _ _ _ _ _ _ _ _ _ c.with_row-inner.ensures c.with_number-middle.ensures c.with_builder-outer.ensures same c.whole_number.ensures in
+    let names : env_of c.with_row-inner.result ≡ ((c.in-For.row_binder.value.sym.0, plain (row_in (lists_of c.args.legs.now) c.args.number)) ∷ (c.in-For.count_binder.value.sym.0, plain (whole_number c.args.number)) ∷ (c.in-For.own_binder.value.sym.0, thing_of c.args.own.now) ∷ (env_of c.args.frame.now)) = row_names _ _ _ _ _ _ _ _ _ _ _ _ c.with_row-inner.ensures c.with_number-middle.ensures c.with_builder-outer.ensures same c.whole_number.ensures in
     subst (λ k. Acts c.act.result (row_act k (env_of c.args.frame.now) (thing_of c.args.own.now) (c.args.number, row_in (lists_of c.args.legs.now) c.args.number) (thing_of c.args.builder.now)) (thing_of c.act.new.builder)) (sym is)
     (subst (λ (g : Env). Acts c.act.result (act c.deref.result.now g (thing_of c.args.builder.now)) (thing_of c.act.new.builder)) names c.act.ensures)
 

@@ -3,7 +3,7 @@ use Rattle.std.specs.Vec.Iter.{into_iter_items}
 use Rattle.weld_eval.specs.ThingView.{thing_of}
 use Rattle.weld_eval.specs.declared.thing.Owned.{Owned}
 use Rattle.weld_exec.specs.Run.{rows_at}
-use Rattle.weld_workers.specs.Spans.{AreSpans}
+use Rattle.weld_board.specs.Spans.{AreSpans}
 use Rattle.weld_share.specs.Shared.{HasMade}
 use Rattle.weld_share.proofs.Spanning.{end_first, behind_all, none_spanned}
 use Rattle.weld_share.proofs.sharing.enter_spans.Goals as goal

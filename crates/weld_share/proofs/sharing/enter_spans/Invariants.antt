@@ -3,7 +3,7 @@ use Rattle.std.specs.Vec.Iter.{into_iter_items}
 use Rattle.weld_eval.specs.ThingView.{thing_of}
 use Rattle.weld_tile_parts.specs.Parts.{joined_evaluation, IsWhole}
 use Rattle.weld_exec.specs.Run.{evaluation_of}
-use Rattle.weld_workers.specs.Spans.{AreSpans}
+use Rattle.weld_board.specs.Spans.{AreSpans}
 use Rattle.weld_share.specs.Shared.{HasMade, row_of}
 use Rattle.weld_share.proofs.sharing.enter_spans.Given as goal
 

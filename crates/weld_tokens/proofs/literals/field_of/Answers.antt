@@ -1,5 +1,5 @@
 use Rattle.std.proofs.Common.{◌≡◌, ◌≤◌, Some, None, sym, ap, ◌∙◌, arith}
-use Rattle.weld_terminals.specs.declared.class.Class.TheVariants as classes
+use Rattle.weld_grammar.specs.declared.terminals.class.Class.TheVariants as classes
 use Rattle.weld_tokens.specs.Words.{class_of}
 use Rattle.weld_tokens.specs.Literals.{number_value, field_value}
 use Rattle.weld_tokens.proofs.Numbers.{field-small, no-class}

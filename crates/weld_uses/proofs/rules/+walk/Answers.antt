@@ -335,11 +335,11 @@ walk-returns-in-Let t c =
 
 pub walk-walk_for-requires : goal.walk-walk_for-requires
 walk-walk_for-requires t c =
-    (search rules, clear_loop _ (sym c.e.view_is ∙ ap (λ f. view_form f (record { place = c.e.inside.place; ty = c.e.inside.ty })) c.in-For.is) c.deref-in-For.ensures c.deref-in-For-2.ensures c.requires)
+    (search rules, clear_loop _ (sym c.e.view_is ∙ ap (λ f. view_form f (record { place = c.e.inside.place; ty = c.e.inside.ty })) c.in-For.is) c.deref-in-For.ensures c.deref-in-For-2.ensures c.deref-in-For-3.ensures c.deref-in-For-4.ensures c.deref-in-For-5.ensures c.requires)
 
 pub walk-returns-in-For : goal.walk-returns-in-For
 walk-returns-in-For t c =
-    loop_node _ _ _ _ (sym c.e.view_is ∙ ap (λ f. view_form f (record { place = c.e.inside.place; ty = c.e.inside.ty })) c.in-For.is) c.deref-in-For.ensures c.deref-in-For-2.ensures c.walk_for.ensures
+    loop_node _ _ _ _ (sym c.e.view_is ∙ ap (λ f. view_form f (record { place = c.e.inside.place; ty = c.e.inside.ty })) c.in-For.is) c.deref-in-For.ensures c.deref-in-For-2.ensures c.deref-in-For-3.ensures c.deref-in-For-4.ensures c.deref-in-For-5.ensures c.walk_for.ensures
 
 pub walk-walk_iterate-requires : goal.walk-walk_iterate-requires
 walk-walk_iterate-requires t c =

@@ -2,7 +2,7 @@ use Rattle.std.proofs.Common.{◌≤◌, map, get_or, arith}
 use Rattle.weld_tree.specs.ExprTree.{pack_legs}
 use Rattle.weld_tree.specs.ExprFalls.{leg_nodes, legs_nodes}
 use Rattle.weld_tree.specs.ExprView.{view_leg}
-use Rattle.weld_sweep.proofs.Lists.{all_changed, and_so, leg_changed, leg_falls, no_leg_left}
+use Rattle.weld_rewriting.proofs.Lists.{all_changed, and_so, leg_changed, leg_falls, no_leg_left}
 use Rattle.weld_vertical.specs.Chains.{leg_fused}
 use Rattle.weld_vertical.proofs.Chaining.{list_fused}
 use Rattle.weld_vertical.proofs.chain.+chaining.Goals as goal

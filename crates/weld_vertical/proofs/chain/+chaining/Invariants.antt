@@ -3,7 +3,7 @@ use Rattle.weld_tree.specs.ExprTree.{pack_legs}
 use Rattle.weld_tree.specs.ExprFalls.{expr_nodes, leg_nodes, legs_nodes}
 use Rattle.weld_tree.specs.ExprView.{view_form, view_leg}
 use Rattle.weld_tree.specs.Blank.{blank_at}
-use Rattle.weld_sweep.proofs.Lists.{up_to}
+use Rattle.weld_rewriting.proofs.Lists.{up_to}
 use Rattle.weld_vertical.specs.Chains.{leg_fused}
 use Rattle.weld_vertical.proofs.chain.+chaining.Given as goal
 

@@ -1,4 +1,4 @@
-use Rattle.weld_sinking.specs.Sinking.{is_consumer, fused}
+use Rattle.weld_vertical.specs.Sinking.{is_consumer, fused}
 use Rattle.weld_vertical.proofs.Falling.{lighter}
 use Rattle.weld_vertical.proofs.laws.loops_may_be_fused.Goals as goal
 

@@ -1,6 +1,6 @@
 use Rattle.std.proofs.Common.{List, ap, ◌∙◌}
 use Rattle.weld_tree.specs.ExprTree.{LegTree, pack_legs}
-use Rattle.weld_sinking.specs.Sinking.{is_only_leg}
+use Rattle.weld_vertical.specs.Sinking.{is_only_leg}
 use Rattle.weld_vertical.proofs.Legs.{more_legs_no}
 use Rattle.weld_vertical.proofs.producers.is_only_leg.Goals as goal
 

@@ -1,4 +1,4 @@
-use Rattle.weld_zipping.specs.Zipping.{is_zipped}
+use Rattle.weld_vertical_zip.specs.Zipping.{is_zipped}
 use Rattle.weld_vertical_zip.specs.Zips.{spliced}
 use Rattle.weld_vertical_zip.proofs.Falling.{lighter, spliced_rewrites}
 use Rattle.weld_vertical_zip.proofs.laws.made_legs_may_be_spliced.Goals as goal

@@ -1,8 +1,8 @@
 use Rattle.std.proofs.Common.{◌≡◌, ◌+◌, ◌∷◌, ◌++◌, IfOk, ap, sym, subst, ◌∙◌, arith}
 use Rattle.weld_tree.specs.TypeTree.{pack}
 use Rattle.weld_tree.specs.ExprTree.{more_exprs, pack_exprs}
-use Rattle.weld_twice.specs.Twice.{items_from}
-use Rattle.weld_zipping.specs.Zipping.{exprs_behind}
+use Rattle.weld_horizontal.specs.Twice.{items_from}
+use Rattle.weld_vertical_zip.specs.Zipping.{exprs_behind}
 use Rattle.weld_vertical_zip.proofs.RowLists.{counted, packed_row}
 use Rattle.weld_vertical_zip.proofs.rows.fields_from.Goals as goal
 

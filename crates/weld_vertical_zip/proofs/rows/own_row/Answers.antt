@@ -1,6 +1,6 @@
 use Rattle.std.proofs.Common.{◌≡◌, IfOk, sym, subst, ◌∙◌, arith}
 use Rattle.weld_tree.specs.TypeTree.{pack}
-use Rattle.weld_zipping.specs.Zipping.{own_row, part_of_row}
+use Rattle.weld_vertical_zip.specs.Zipping.{own_row, part_of_row}
 use Rattle.weld_vertical_zip.specs.Zips.{of_sides}
 use Rattle.weld_vertical_zip.proofs.RowLists.{counted}
 use Rattle.weld_vertical_zip.proofs.rows.own_row.Goals as goal

@@ -13,6 +13,6 @@ returns c =
     IfOk-weaker c.over_all.result _ _
     (λ form h at here noted.
     h at
-    ∙ join_is at c.args.ty.now c.args.place (pack_legs c.args.legs) (pack_legs (map view_leg cut.others.before.items)) (pack_legs (map view_leg cut.others.after.items)) cut.producer.value c.deref_mut.result.now _ outer.start.value outer.builder consumer.number consumer.row consumer.body.value
+    ∙ join_is at c.args.ty.now c.args.place (pack_legs c.args.legs) (pack_legs (map view_leg cut.others.before.items)) (pack_legs (map view_leg cut.others.after.items)) cut.producer.value c.deref_mut.result.now _ outer.start.value outer.builder.value consumer.number consumer.row consumer.body.value
     c.in_ok-others.ensures c.deref_mut.ensures.value c.in_ok-splice_producer.ensures here noted)
     c.over_all.ensures

@@ -4,7 +4,7 @@ use Rattle.weld_tree.specs.Types.{IsWithinLimits}
 use Rattle.weld_tree.specs.ExprTree.{pack_legs}
 use Rattle.weld_tree.specs.ExprView.{view_leg}
 use Rattle.weld_tree.specs.declared.expr.Leg.{Leg}
-use Rattle.weld_twice.specs.Twice.{items}
+use Rattle.weld_horizontal.specs.Twice.{items}
 use Rattle.weld_vertical_zip.proofs.Finding.{rest_all, fits_is}
 use Rattle.weld_vertical_zip.proofs.zips.fits.Goals as goal
 

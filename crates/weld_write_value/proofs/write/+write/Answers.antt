@@ -6,7 +6,7 @@ use Rattle.weld_data.specs.Operation.{truth}
 use Rattle.weld_data.specs.Value.{Value, number, list, values, dict, entries}
 use Rattle.weld_data.specs.View.{view_val, view_column, view_pair}
 use Rattle.weld_tree.specs.TypeTree.{TypeTree, vec, dict as dict_of, pack, type_nodes, types_nodes}
-use Rattle.weld_fits.specs.HasValue.{HasValue, HaveValues, AllAre}
+use Rattle.weld_tree.specs.HasValue.{HasValue, HaveValues, AllAre}
 use Rattle.weld_write_value.specs.Showing.{IsI8}
 use Rattle.weld_write_value.specs.Showing.{shown_elements, shown_entries, show}
 use Rattle.weld_write_value.proofs.Texts.{cells_shown, vec_shown, on_ok, all_at, have_length, field_typed, field_written, dict_shown, entry_typed, entry_written, dict_end}

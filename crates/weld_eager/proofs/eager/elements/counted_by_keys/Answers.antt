@@ -1,8 +1,8 @@
 use Rattle.std.proofs.Common.{refl, subst, arith}
 use Rattle.weld_data.specs.View.{view_val}
-use Rattle.weld_eval_values.specs.Answers.{Answers}
-use Rattle.weld_lists.specs.Lists.{items}
-use Rattle.weld_lists.specs.CallMeaning.{group_count_meaning}
+use Rattle.weld_eval.specs.Answers.{Answers}
+use Rattle.weld_calls.specs.Lists.{items}
+use Rattle.weld_calls.specs.CallMeaning.{group_count_meaning}
 use Rattle.weld_eager.proofs.ByNumber.{enough, keys_as}
 use Rattle.weld_eager.proofs.eager.elements.counted_by_keys.Goals as goal
 

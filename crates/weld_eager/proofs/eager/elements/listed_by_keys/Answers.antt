@@ -1,7 +1,7 @@
 use Rattle.std.proofs.Common.{ap, refl, subst, arith, length}
 use Rattle.weld_data.specs.View.{view_val}
-use Rattle.weld_eval_values.specs.Answers.{Answers}
-use Rattle.weld_lists.specs.CallMeaning.{group_list_meaning}
+use Rattle.weld_eval.specs.Answers.{Answers}
+use Rattle.weld_calls.specs.CallMeaning.{group_list_meaning}
 use Rattle.weld_eager.proofs.ByNumber.{enough, kept_as, keys_as}
 use Rattle.weld_eager.proofs.eager.elements.listed_by_keys.Goals as goal
 

@@ -1,7 +1,7 @@
 use Rattle.std.proofs.Common.{refl, subst, arith}
 use Rattle.weld_data.specs.View.{view_val}
-use Rattle.weld_eval_values.specs.Answers.{Answers}
-use Rattle.weld_lists.specs.CallMeaning.{slice_meaning}
+use Rattle.weld_eval.specs.Answers.{Answers}
+use Rattle.weld_calls.specs.CallMeaning.{slice_meaning}
 use Rattle.weld_eager.proofs.ByNumber.{enough, has_type, is_list}
 use Rattle.weld_eager.proofs.eager.elements.sliced.Goals as goal
 

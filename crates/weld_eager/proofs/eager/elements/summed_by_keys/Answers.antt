@@ -2,8 +2,8 @@ use Rattle.std.proofs.Common.{◌∙◌, ap, sym, refl, subst, arith, length}
 use Rattle.weld_data.specs.Kind.{IsInteger}
 use Rattle.weld_data.specs.View.{view_val}
 use Rattle.weld_tree.specs.TypeTree.{scalar, vec}
-use Rattle.weld_eval_values.specs.Answers.{Answers}
-use Rattle.weld_lists.specs.CallMeaning.{kind_at, group_sum_meaning}
+use Rattle.weld_eval.specs.Answers.{Answers}
+use Rattle.weld_calls.specs.CallMeaning.{kind_at, group_sum_meaning}
 use Rattle.weld_eager.proofs.ByNumber.{enough, has_type, keys_as}
 use Rattle.weld_eager.proofs.eager.elements.summed_by_keys.Goals as goal
 

@@ -4,10 +4,10 @@ use Rattle.weld_data.specs.View.{view_val}
 use Rattle.weld_data.specs.Value.{number}
 use Rattle.weld_tree.specs.TypeTree.{scalar, vec}
 use Rattle.weld_builders.specs.Outcome.{done}
-use Rattle.weld_eval_values.specs.Answers.{Answers}
-use Rattle.weld_lists.specs.Lists.{numbers}
-use Rattle.weld_lists.specs.CallMeaning.{kind_at}
-use Rattle.weld_call_laws.specs.Folds.{combined_all}
+use Rattle.weld_eval.specs.Answers.{Answers}
+use Rattle.weld_calls.specs.Lists.{numbers}
+use Rattle.weld_calls.specs.CallMeaning.{kind_at}
+use Rattle.weld_calls.specs.Folds.{combined_all}
 use Rattle.weld_data.specs.Operation.{start_of}
 use Rattle.weld_eager.proofs.ByNumber.{enough, has_type}
 use Rattle.weld_eager.proofs.eager.vectors.combined.Goals as goal

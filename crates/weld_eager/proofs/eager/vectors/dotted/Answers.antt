@@ -4,9 +4,9 @@ use Rattle.weld_data.specs.View.{view_val}
 use Rattle.weld_data.specs.Value.{number}
 use Rattle.weld_tree.specs.TypeTree.{scalar, vec}
 use Rattle.weld_builders.specs.Outcome.{map_out}
-use Rattle.weld_eval_values.specs.Answers.{Answers}
-use Rattle.weld_lists.specs.Lists.{numbers, dot}
-use Rattle.weld_lists.specs.CallMeaning.{kind_at}
+use Rattle.weld_eval.specs.Answers.{Answers}
+use Rattle.weld_calls.specs.Lists.{numbers, dot}
+use Rattle.weld_calls.specs.CallMeaning.{kind_at}
 use Rattle.weld_eager.proofs.ByNumber.{enough, has_type}
 use Rattle.weld_eager.proofs.eager.vectors.dotted.Goals as goal
 

@@ -3,8 +3,8 @@ use Rattle.weld_data.specs.Kind.{IsInteger}
 use Rattle.weld_data.specs.View.{view_val}
 use Rattle.weld_tree.specs.TypeTree.{scalar, vec}
 use Rattle.weld_builders.specs.Outcome.{done}
-use Rattle.weld_eval_values.specs.Answers.{Answers}
-use Rattle.weld_lists.specs.CallMeaning.{kind_at, scale_meaning}
+use Rattle.weld_eval.specs.Answers.{Answers}
+use Rattle.weld_calls.specs.CallMeaning.{kind_at, scale_meaning}
 use Rattle.weld_eager.proofs.ByNumber.{enough, has_type}
 use Rattle.weld_eager.proofs.eager.vectors.scaled.Goals as goal
 

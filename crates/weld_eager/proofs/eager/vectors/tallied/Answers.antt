@@ -1,8 +1,8 @@
 use Rattle.std.proofs.Common.{refl, subst, arith}
 use Rattle.weld_data.specs.View.{view_val}
-use Rattle.weld_eval_values.specs.Answers.{Answers}
-use Rattle.weld_lists.specs.Lists.{numbers}
-use Rattle.weld_lists.specs.CallMeaning.{histogram_meaning}
+use Rattle.weld_eval.specs.Answers.{Answers}
+use Rattle.weld_calls.specs.Lists.{numbers}
+use Rattle.weld_calls.specs.CallMeaning.{histogram_meaning}
 use Rattle.weld_eager.proofs.ByNumber.{enough, has_type}
 use Rattle.weld_eager.proofs.eager.vectors.tallied.Goals as goal
 

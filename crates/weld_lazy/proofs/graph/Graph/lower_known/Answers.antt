@@ -1,6 +1,6 @@
 use Rattle.std.proofs.Common.{◌≡◌, ◌+◌, ◌<◌, map, refl, arith}
 use Rattle.weld_tree.specs.Program.{ProgramTree}
-use Rattle.weld_renaming.specs.Numbering.{number_in}
+use Rattle.weld_objects.specs.Numbering.{number_in}
 use Rattle.weld_lazy.specs.View.{view_object, view_ids}
 use Rattle.weld_lazy.specs.Lowering.{marks_of, binders_from}
 use Rattle.weld_lazy.proofs.Whole.{Laws, steps_of, room_of, counts_of, may_be, program_is, inputs_are, is_program, is_accepted, is_lowered}

@@ -1,5 +1,0 @@
-use Rattle.std.proofs.Common.{length}
-use Rattle.weld_answer_type.proofs.answer.+under_params.Given as goal
-
-abbrev pub decreases-under_params : goal.decreases-under_params
-decreases-under_params l = length l.params.now

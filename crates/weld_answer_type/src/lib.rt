@@ -1,7 +1,0 @@
-//! The type of an accepted program, which has one and doesn't carry it.
-#![tactic(auto)]
-
-mod answer;
-mod nodes;
-
-pub use answer::answer_type;

@@ -1,6 +1,0 @@
-use Rattle.weld_call_laws.proofs.EachCall.{each_call}
-use Rattle.weld_call_laws.proofs.laws.each_call_means_its_list.Goals as goal
-
-pub returns : goal.returns
-returns c = λ call types vs operator fits arguments.
-    each_call call types operator (c.rows_are_a_table.ensures.table call types fits) vs arguments

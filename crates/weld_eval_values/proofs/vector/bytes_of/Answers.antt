@@ -1,7 +1,0 @@
-use Rattle.weld_eval_values.proofs.ByteLemmas.{bytes_more}
-use Rattle.weld_eval_values.proofs.vector.bytes_of.Goals as goal
-
-pub loop-byte-preserved : goal.loop-byte-preserved
-loop-byte-preserved c =
-    bytes_more c.as_slice-byte-items.result.now c.loop-byte.items.items c.push.new.self.items c.loop-byte.byte-index c.cast_signed.result c.loop-byte.invariant c.loop-byte-test.true
-    c.in_ok-push.ensures.items (c.type_inv.byte-items c.loop-byte.byte-index) (record { sfits = c.cast_signed.type_inv }) c.cast_signed.ensures

@@ -1,5 +1,0 @@
-use Rattle.std.proofs.Common.{◌≡◌, take, drop}
-use Rattle.weld_eval_values.proofs.vector.values_from.Given as goal
-
-abbrev pub invariant-loop-place : goal.invariant-loop-place
-invariant-loop-place l = l.part ≡ take l.place (drop l.start l.items)

@@ -1,4 +1,0 @@
-pub mod Answers
-pub mod Bounds
-pub mod Elements
-pub mod Fits

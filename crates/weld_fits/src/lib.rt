@@ -1,4 +1,0 @@
-//! Which values are of which types: the definition, and its laws.
-#![tactic(auto)]
-
-pub mod laws;

@@ -1,6 +1,0 @@
-mod Parts
-mod Has
-mod Calls
-mod Whole
-mod Legs
-mod Arguments

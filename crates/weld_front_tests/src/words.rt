@@ -1,0 +1,4 @@
+//! Tests of the words of the command line.
+
+#[cfg(test)]
+mod tests;

@@ -1,5 +1,0 @@
-use Rattle.weld_guarded.proofs.GuardRule.{guard_rewrites}
-use Rattle.weld_guarded.proofs.laws.guarded_merges_may_always_merge.Goals as goal
-
-pub returns : goal.returns
-returns c = guard_rewrites (record { total = c.values_are_ordered.ensures.total; alike = c.keys_are_ordered_alike.ensures })

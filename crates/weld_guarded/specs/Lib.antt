@@ -1,2 +1,0 @@
-pub mod Neutral
-pub mod Guard

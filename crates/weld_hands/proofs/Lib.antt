@@ -1,3 +1,0 @@
-mod Machines
-mod Once
-pub mod Dealt

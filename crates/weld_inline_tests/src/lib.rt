@@ -1,8 +1,0 @@
-//! Tests of `weld_inline`: programs, and what is printed of them when lets have been put in their place.
-//!
-//! They stand in a crate of their own, since a crate with tests is proved twice.
-#![tactic(auto)]
-
-pub mod passing;
-#[cfg(test)]
-mod programs;

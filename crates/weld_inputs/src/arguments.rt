@@ -1,0 +1,9 @@
+//! The arguments of a program: read from the blocks of a job's data, one for each parameter.
+
+mod arguments;
+mod block;
+pub mod laws;
+mod stop;
+
+pub use arguments::read_arguments;
+pub use stop::DataStop;

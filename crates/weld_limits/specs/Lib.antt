@@ -1,3 +1,0 @@
-pub mod Lets
-pub mod Depth
-pub mod Lists

@@ -1,5 +1,0 @@
-use Rattle.weld_measures.proofs.Fields.{fields-by-the-tree}
-use Rattle.weld_measures.proofs.laws.fields_by_the_tree.Goals as goal
-
-pub returns : goal.returns
-returns c = λ tree h. fields-by-the-tree tree h

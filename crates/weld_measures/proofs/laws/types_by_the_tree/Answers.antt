@@ -1,5 +1,0 @@
-use Rattle.weld_measures.proofs.Written.{types-by-the-tree}
-use Rattle.weld_measures.proofs.laws.types_by_the_tree.Goals as goal
-
-pub returns : goal.returns
-returns c = λ tree h. types-by-the-tree tree h

@@ -1,8 +1,0 @@
-use Rattle.std.proofs.Common.{arith}
-use Rattle.weld_parse_tests.proofs.forms.read_of.Goals as goal
-
-pub read_program-requires : goal.read_program-requires
-read_program-requires c = record {
-  classes = c.classes_of_tokens.ensures c.args.text.now c.args.tokens.now c.requires;
-  few = omega (arith, c.if-tokens-gt262144.false);
-}

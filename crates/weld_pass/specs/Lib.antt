@@ -1,4 +1,0 @@
-pub mod Either
-pub mod Followed
-pub mod Passed
-pub mod Tested

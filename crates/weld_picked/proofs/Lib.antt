@@ -1,2 +1,0 @@
-pub mod PickRule
-pub mod Cases

@@ -1,6 +1,0 @@
-//! The one printed spelling of types.
-#![tactic(auto)]
-
-pub mod write;
-
-pub use write::{kind_word, print_ty, write_build, write_type};

@@ -1,5 +1,0 @@
-use Rattle.weld_programs.proofs.Flows.{numbers-by-the-tree}
-use Rattle.weld_programs.proofs.laws.numbers_by_the_tree.Goals as goal
-
-pub returns : goal.returns
-returns c = λ tree h. numbers-by-the-tree tree h

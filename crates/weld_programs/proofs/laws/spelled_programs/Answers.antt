@@ -1,5 +1,0 @@
-use Rattle.weld_programs.proofs.Sound.{spelled-program}
-use Rattle.weld_programs.proofs.laws.spelled_programs.Goals as goal
-
-pub returns : goal.returns
-returns c = λ tree h ranged named few. spelled-program c.binders_count_up.ensures.distinct tree h ranged named few

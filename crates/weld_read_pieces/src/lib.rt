@@ -1,9 +1,0 @@
-//! Values read by several threads: a long list of scalars, of lists of them or of structs of both is cut at commas into pieces, which are read side by side and joined.
-#![tactic(auto)]
-
-mod cutting;
-mod joining;
-mod nested;
-mod reading;
-
-pub use reading::read_value;

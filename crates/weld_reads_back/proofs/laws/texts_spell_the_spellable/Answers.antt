@@ -1,5 +1,0 @@
-use Rattle.weld_reads_back.proofs.SpelledPrograms.{text_spells_spellable}
-use Rattle.weld_reads_back.proofs.laws.texts_spell_the_spellable.Goals as goal
-
-pub returns : goal.returns
-returns c = text_spells_spellable c.classes_of_tokens.ensures

@@ -1,2 +1,0 @@
-pub mod Spellable
-pub mod Texts

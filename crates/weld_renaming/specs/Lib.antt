@@ -1,3 +1,0 @@
-pub mod Renamed
-pub mod RenamedOrigins
-pub mod Numbering

@@ -1,5 +1,0 @@
-use Rattle.weld_replacing.proofs.Rewriting.{rewrites_through}
-use Rattle.weld_replacing.proofs.laws.rewriting_goes_through_every_node.Goals as goal
-
-pub returns : goal.returns
-returns c = rewrites_through (record { total = c.values_are_ordered.ensures.total; alike = c.keys_are_ordered_alike.ensures })

@@ -1,5 +1,0 @@
-use Rattle.weld_requests.proofs.Sound.{resolved_sound, objects_sound, request_sound}
-use Rattle.weld_requests.proofs.laws.requests_are_sound.Goals as goal
-
-pub returns : goal.returns
-returns c = record { resolved = resolved_sound; shown = objects_sound; requests = request_sound }

@@ -1,6 +1,0 @@
-use Rattle.std.proofs.Common.{◌≡◌, drop}
-use Rattle.weld_requests.specs.Names.{object_of}
-use Rattle.weld_requests.proofs.names.object_of.Given as goal
-
-abbrev pub invariant-loop-bound : goal.invariant-loop-bound
-invariant-loop-bound l = object_of l.name l.bindings ≡ object_of l.name (drop l.bound-index l.bindings)

@@ -1,4 +1,0 @@
-pub mod Callees
-pub mod Names
-pub mod Requests
-pub mod Sound

@@ -1,0 +1,15 @@
+pub mod Nodes
+pub mod Sweep
+pub mod Forms
+pub mod Placed
+pub mod Replacing
+pub mod Within
+pub mod Tidy
+pub mod Shape
+pub mod Rewriting
+pub mod Weight
+pub mod Rules
+pub mod Either
+pub mod Followed
+pub mod Passed
+pub mod Tested

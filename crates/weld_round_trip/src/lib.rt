@@ -1,4 +1,0 @@
-//! The law of the round trip: what is printed of a program that was parsed, is parsed as it.
-#![tactic(auto)]
-
-pub mod laws;

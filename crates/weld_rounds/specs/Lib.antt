@@ -1,2 +1,0 @@
-pub mod Weight
-pub mod Rules

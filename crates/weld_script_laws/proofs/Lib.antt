@@ -1,6 +1,0 @@
-pub mod Cases
-pub mod Trees
-pub mod Decided
-pub mod SpelledTypes
-pub mod Sayings
-pub mod Texts

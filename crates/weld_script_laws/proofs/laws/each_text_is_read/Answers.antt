@@ -1,5 +1,0 @@
-use Rattle.weld_script_laws.proofs.Texts.{text_some}
-use Rattle.weld_script_laws.proofs.laws.each_text_is_read.Goals as goal
-
-pub returns : goal.returns
-returns c = λ text. text_some c.each_line_says_one_thing.ensures.some text

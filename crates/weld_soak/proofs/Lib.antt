@@ -1,2 +1,0 @@
-mod Fixed
-mod Rows

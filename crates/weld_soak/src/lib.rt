@@ -1,9 +1,0 @@
-//! A table made from a number, and the fixed script on it.
-#![tactic(auto)]
-
-pub mod laws;
-mod script;
-mod soak;
-mod table;
-
-pub use soak::{Soak, make_soak};

@@ -1,7 +1,0 @@
-use Rattle.std.proofs.Common.{◌≡◌, drop}
-use Rattle.weld_statements.specs.Arguments.{argument_of}
-use Rattle.weld_statements.proofs.Reading.{behind, lent_read}
-use Rattle.weld_statements.proofs.arguments.read_arguments.Given as goal
-
-abbrev pub invariant-loop-part : goal.invariant-loop-part
-invariant-loop-part l = lent_read argument_of l.parts ≡ behind l.arguments (lent_read argument_of (drop l.part-index l.parts))

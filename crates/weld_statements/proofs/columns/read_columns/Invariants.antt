@@ -1,5 +1,0 @@
-use Rattle.weld_statements.proofs.Joining.{ReadTo}
-use Rattle.weld_statements.proofs.columns.read_columns.Given as goal
-
-abbrev pub invariant-loop-part : goal.invariant-loop-part
-invariant-loop-part l = ReadTo l.parts l.part-index l.names l.cells

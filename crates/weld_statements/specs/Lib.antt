@@ -1,5 +1,0 @@
-pub mod Parts
-pub mod Arguments
-pub mod Columns
-pub mod Statements
-pub mod Sound

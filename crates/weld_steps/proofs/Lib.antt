@@ -1,5 +1,0 @@
-pub mod Keeping
-pub mod Lists
-pub mod Few
-pub mod Placing
-pub mod Calling

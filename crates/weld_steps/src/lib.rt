@@ -1,9 +1,0 @@
-//! What is known behind some lines of a script, and what a statement makes of it.
-#![tactic(auto)]
-
-mod call;
-pub mod known;
-pub mod laws;
-mod table;
-
-pub use known::{Known, LineFault};

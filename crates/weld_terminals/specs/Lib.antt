@@ -1,3 +1,0 @@
-pub mod Symbols
-pub mod ReservedWords
-pub mod Words

@@ -1,0 +1,4 @@
+mod Commas
+mod Whole
+mod Fields
+mod Pieces

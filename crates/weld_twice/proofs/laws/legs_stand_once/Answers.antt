@@ -1,5 +1,0 @@
-use Rattle.weld_twice.proofs.TwiceRule.{once_rewrites}
-use Rattle.weld_twice.proofs.laws.legs_stand_once.Goals as goal
-
-pub returns : goal.returns
-returns c = once_rewrites (record { total = c.values_are_ordered.ensures.total; alike = c.keys_are_ordered_alike.ensures })

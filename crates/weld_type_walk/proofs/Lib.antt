@@ -1,4 +1,0 @@
-pub mod Left
-pub mod Params
-pub mod Answered
-pub mod Noting

@@ -1,2 +1,0 @@
-mod Uses
-mod Sameness

@@ -1,7 +1,0 @@
-//! Tests of weld_values: what texts read as, and what is written of what was read.
-//!
-//! They stand in a crate of their own, since a crate with tests is proved twice.
-#![tactic(auto)]
-
-#[cfg(test)]
-mod texts;

@@ -1,4 +1,0 @@
-mod Done
-mod Ending
-mod Sorting
-mod Seats
