@@ -1,7 +1,7 @@
 //! Values read by several threads: a long list of scalars, of lists of them or of structs of both is cut at commas into pieces, which are read side by side and joined.
 
 mod cutting;
-mod joining;
+mod filling;
 mod nested;
 mod reading;
 

@@ -1,5 +1,6 @@
 -- Pieces of lists, and such a list in brackets.
-use Rattle.std.proofs.Common.{◌≡◌, sym, ◌∙◌, ℕ, List, [], ◌∷◌, ◌++◌, Some, None, Option, refl, ap, subst, append_assoc, All, inl}
+use Rattle.std.proofs.Common.{◌≡◌, sym, ◌∙◌, ℕ, ◌+◌, List, [], ◌∷◌, ◌++◌, Some, None, Option, refl, ap, subst, append_assoc, map, length, take, arith, All, inl}
+use Rattle.std.proofs.lemmas.List.{take_all}
 use Rattle.std.proofs.lemmas.List.Elements.{All-nil, All-head, All-tail, All-cons, All-append}
 use Rattle.weld_data.specs.Value.{Value, values, list}
 use Rattle.weld_tree.specs.TypeTree.{TypeTree, vec}
@@ -59,6 +60,12 @@ pub taken_last : (t : TypeTree) → IsPlain t → (text rest after : List ℕ) (
 taken_last t p text rest after old new s i b =
     let g = got t p rest after old new i in
     ((after, subst (λ (x : List Value). Listed (At t) x text after) (sym g.appended) (s.found (g.v ∷ []) after (after, g.at, refl)), b), all_typed t old new rest after s.typed g)
+
+-- the same where all places have what was read
+pub filled : {A : Type 0} (value : A → Value) (t : TypeTree) → IsPlain t → (text rest after : List ℕ) (place : ℕ) (old new : List A) → place + 1 ≡ length new → Taken t text rest (map value (take place old)) → IsReadInto (At t) rest Fine (map value (take place old)) (map value (take (place + 1) new)) after → after_blanks after ≡ [] → Separated (At t) (map value new) text × All (HasValue t) (map value new)
+filled value t p text rest after place old new e s i b =
+    subst (λ (xs : List _). Separated (At t) (map value xs) text × All (HasValue t) (map value xs)) (take_all (place + 1) new (omega (arith, e)))
+    (taken_last t p text rest after (map value (take place old)) (map value (take (place + 1) new)) s i b)
 
 all_are : (P : Value → Type 0) (vs : List Value) → All P vs → AllAre P (values vs)
 all_are P [] h = tt

@@ -1,42 +1,56 @@
 //! Lists of scalars, of lists of them or of structs of these, in pieces that are cut at commas.
 
-ghost use Rattle.std.specs.Prelude.{◌≡◌, ◌++◌, ◌∷◌, [], List, ℕ, true, map, IfOk, IfSome, All};
+ghost use Rattle.std.specs.Prelude.{◌≡◌, ◌<◌, ◌+◌, ◌++◌, ◌∷◌, [], List, ℕ, true, map, length, take, IfOk, IfSome, All};
 ghost use Rattle.std.specs.List.{list_all};
 ghost use Rattle.weld_tree.specs.TypeTree.{scalar, pack};
 ghost use Rattle.weld_tree.specs.HasValue.{HasValue};
 ghost use Rattle.weld_values.specs.Tokens as tokens;
 ghost use Rattle.weld_values.specs.Grammar.{scalar_at, At, Found};
 ghost use Rattle.weld_values.specs.Pieces.{Separated, InBrackets, is_scalar, is_row};
-ghost use Rattle.weld_values.specs.Judging.{IsPlain, ArePlain};
+ghost use Rattle.weld_values.specs.declared.flaw.Flaw.TheVariants as flaws;
+ghost use Rattle.weld_values.specs.Judging.{IsPlain, ArePlain, IsReadInto};
 
-use crate::cell::{Cell, append_cell};
+use crate::cell::Cell;
 use crate::flaw::Flaw;
 use crate::read::read_into;
 use crate::tokens::{after_blanks, byte_at, is_blank};
 use std::alloc::{AllocError, Global};
-use weld_data::{Items, Vals};
+use weld_data::Vals;
 use weld_tree::{Ty, TyForm, Tys};
 
-/// The scalars of one kind that the text is, one or more with a comma between each two, if it is nothing else and all are in
-/// range. It fails for want of memory alone.
-pub fn read_piece<T: Cell>(alloc: Global, text: &[u8]) -> Result<Option<Items<T>>, AllocError>
-    ensures separated { IfOk result (λ found. IfSome found (λ items. Separated (Found (scalar_at T.kind)) (map T.value items) text.now)) }
-    ensures typed { IfOk result (λ found. IfSome found (λ items. All (HasValue (scalar T.kind)) (map T.value items))) }
+/// Puts the scalar at the front of the text in this place, and answers what follows it; none where no scalar stands there, it
+/// is out of range, or there is no such place.
+#[inline(always)]
+fn put_cell<'a, T: Cell>(places: &mut [T], place: usize, text: &'a [u8]) -> Option<&'a [u8]>
+    ensures length { length places.new ≡ length places.old }
+    ensures within { IfSome result (λ rest. place < length places.old) }
+    ensures found { IfSome result (λ rest. IsReadInto (Found (scalar_at T.kind)) text.now flaws.Fine (map T.value (take place places.old)) (map T.value (take (place + 1) places.new)) rest.now) }
+    ensures less { IfSome result (λ rest. length rest.now < length text.now) }
 {
-    let mut items = Items::new(alloc);
+    match T::read(text) {
+        Some((value, Flaw::Fine, rest)) if place < places.len() => {
+            places[place] = value;
+            Some(rest)
+        }
+        _ => None,
+    }
+}
+
+/// Fills the places with the scalars of one kind that the text is, with a comma between each two; tells whether it is just so
+/// many and nothing else, and all are in range.
+pub fn fill_piece<T: Cell>(text: &[u8], places: &mut [T]) -> bool
+    ensures separated { result ≡ true → Separated (Found (scalar_at T.kind)) (map T.value places.new) text.now }
+    ensures typed { result ≡ true → All (HasValue (scalar T.kind)) (map T.value places.new) }
+{
     let mut rest = text;
-    loop {
-        let Some((flaw, after)) = append_cell(&mut items, rest)? else {
-            return Ok(None);
+    let mut place = 0;
+    'scalars: loop {
+        let Some(after) = put_cell(places, place, rest) else {
+            return false;
         };
-        let Flaw::Fine = flaw else {
-            return Ok(None);
-        };
+        place += 1;
         let Some(more) = byte_at(after, b',') else {
-            if !after_blanks(after).is_empty() {
-                return Ok(None);
-            }
-            return Ok(Some(items));
+            return place == places.len() && after_blanks(after).is_empty();
         };
         rest = more;
     }

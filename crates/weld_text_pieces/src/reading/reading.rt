@@ -8,7 +8,7 @@ ghost use Rattle.weld_values.specs.Reading.{ReadsAs, WhyNot};
 ghost use Rattle.weld_values.specs.Judging.{IsReadable};
 ghost use Rattle.weld_text_pieces.specs.Joined.{AreValues};
 
-use crate::reading::joining::read_joined;
+use crate::reading::filling::read_filled;
 use crate::reading::nested::read_nested;
 use std::alloc::{AllocError, Global};
 use std::thread::Threads;
@@ -35,39 +35,39 @@ fn read_column(
     ensures { IfOk result (λ found. IfSome found (λ column. AreValues (scalar kind) text.now (view_column column))) }
 {
     match kind {
-        Kind::Bool => Ok(match read_joined::<bool>(rt, alloc, text, workers)? {
+        Kind::Bool => Ok(match read_filled::<bool>(rt, alloc, text, workers)? {
             Some(items) => Some(Column::Bool(items)),
             None => None,
         }),
-        Kind::I8 => Ok(match read_joined::<i8>(rt, alloc, text, workers)? {
+        Kind::I8 => Ok(match read_filled::<i8>(rt, alloc, text, workers)? {
             Some(items) => Some(Column::I8(items)),
             None => None,
         }),
-        Kind::I16 => Ok(match read_joined::<i16>(rt, alloc, text, workers)? {
+        Kind::I16 => Ok(match read_filled::<i16>(rt, alloc, text, workers)? {
             Some(items) => Some(Column::I16(items)),
             None => None,
         }),
-        Kind::I32 => Ok(match read_joined::<i32>(rt, alloc, text, workers)? {
+        Kind::I32 => Ok(match read_filled::<i32>(rt, alloc, text, workers)? {
             Some(items) => Some(Column::I32(items)),
             None => None,
         }),
-        Kind::I64 => Ok(match read_joined::<i64>(rt, alloc, text, workers)? {
+        Kind::I64 => Ok(match read_filled::<i64>(rt, alloc, text, workers)? {
             Some(items) => Some(Column::I64(items)),
             None => None,
         }),
-        Kind::U8 => Ok(match read_joined::<u8>(rt, alloc, text, workers)? {
+        Kind::U8 => Ok(match read_filled::<u8>(rt, alloc, text, workers)? {
             Some(items) => Some(Column::U8(items)),
             None => None,
         }),
-        Kind::U16 => Ok(match read_joined::<u16>(rt, alloc, text, workers)? {
+        Kind::U16 => Ok(match read_filled::<u16>(rt, alloc, text, workers)? {
             Some(items) => Some(Column::U16(items)),
             None => None,
         }),
-        Kind::U32 => Ok(match read_joined::<u32>(rt, alloc, text, workers)? {
+        Kind::U32 => Ok(match read_filled::<u32>(rt, alloc, text, workers)? {
             Some(items) => Some(Column::U32(items)),
             None => None,
         }),
-        Kind::U64 => Ok(match read_joined::<u64>(rt, alloc, text, workers)? {
+        Kind::U64 => Ok(match read_filled::<u64>(rt, alloc, text, workers)? {
             Some(items) => Some(Column::U64(items)),
             None => None,
         }),
