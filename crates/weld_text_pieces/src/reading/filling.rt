@@ -14,13 +14,23 @@ use weld_data::Items;
 use weld_values::laws::scalars_join_at_commas;
 use weld_values::{Cell, fill_piece};
 
+/// The commas of so many bytes are counted in one byte.
+const BLOCK: usize = 128;
+
+/// How many commas a block has.
+fn count_commas(block: &[u8]) -> u8 {
+    let mut count: u8 = 0;
+    for byte in block {
+        count = count.wrapping_add(u8::from(*byte == b','));
+    }
+    count
+}
+
 /// How many scalars the text has if it is nothing else: one more than commas.
 fn count_scalars(text: &[u8]) -> usize {
     let mut count: usize = 1;
-    for byte in text {
-        if *byte == b',' {
-            count = count.wrapping_add(1);
-        }
+    for block in text.chunks(BLOCK) {
+        count = count.wrapping_add(usize::from(count_commas(block)));
     }
     count
 }

@@ -1,4 +1,4 @@
-use Rattle.std.proofs.Common.{◌≡◌, ◌<◌, List, length, rules, sym, subst, ap, arith}
+use Rattle.std.proofs.Common.{◌<◌, List, length, rules, sym, subst, ap, arith}
 use Rattle.weld_data.specs.Value.{values}
 use Rattle.weld_data.specs.View.{view_val}
 use Rattle.weld_tree.specs.TypeTree.{TypeTree, pack}
