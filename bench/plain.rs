@@ -165,10 +165,17 @@ fn run(name: &str) {
 }
 
 fn main() {
-    let words: Vec<String> = std::env::args().collect();
-    match words[1].as_str() {
-        "make" => { let name = words[2].as_str(); make(name, words.get(3).map_or_else(|| JOBS.iter().find(|j| j.0 == name).unwrap().2, |n| n.parse().unwrap())) }
-        "names" => for j in JOBS { println!("{}", j.0) },
-        _ => run(&words[2]),
+    let words: Vec<String> = std::env::args().skip(1).collect();
+    let words: Vec<&str> = words.iter().map(String::as_str).collect();
+    let rows_of = |name| JOBS.iter().find(|j| j.0 == name).map(|j| j.2);
+    match (&words[..], words.get(1).and_then(|name| rows_of(*name))) {
+        (["names"], _) => for j in JOBS { println!("{}", j.0) },
+        (["make", name], Some(rows)) => make(name, rows),
+        (["make", name, rows], Some(_)) if rows.parse::<usize>().is_ok() => make(name, rows.parse().unwrap()),
+        (["run", name], Some(_)) => run(name),
+        _ => {
+            eprintln!("usage: plain names | make NAME [ROWS] | run NAME");
+            std::process::exit(2);
+        }
     }
 }
