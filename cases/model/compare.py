@@ -21,11 +21,16 @@ LINE = b"\n%%"
 
 def jobs():
     here = os.path.dirname(os.path.abspath(__file__))
+    found = []
     for file in sorted(glob.glob(f"{here}/../*/*.job") + glob.glob(f"{here}/../../examples/*.job")):
         with open(file, "rb") as opened:
-            job = opened.read()
-        if len(job) < 1500:
-            yield job
+            found.append(opened.read())
+    for file in sorted(glob.glob(f"{here}/../*.cases")):
+        with open(file, "rb") as opened:
+            rows = re.split(rb"(?m)^### (?!answer$)\w+\n", opened.read())
+        rows = [it.partition(b"### answer")[0] for it in rows if not re.search(rb"(?m)^### words: (session|soak)", it)]
+        found += [re.sub(rb"(?m)^### .*\n", b"", it) for it in rows]
+    return [it for it in found if len(it) < 1500]
 
 
 def changed(pick, job, texts, pool):
