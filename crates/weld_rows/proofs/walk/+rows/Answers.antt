@@ -102,20 +102,20 @@ values::reach-reach-requires t c = (omega arith, (c.requires.rows, (c.requires.d
 
 pub rows::run_row-act-requires : goal.rows::run_row-act-requires
 rows::run_row-act-requires t c =
-    let is : c.args.e.now ≡ loop (record { place = c.e.inside.place; ty = c.e.inside.ty }) (pack_legs c.in-For.field-0) c.in-For.field-1.value c.in-For.own_binder.value c.in-For.count_binder.value c.in-For.row_binder.value c.deref.result.now = sym c.e.view_is ∙ ap (λ (f : Form). view_form f (record { place = c.e.inside.place; ty = c.e.inside.ty })) c.in-For.is ∙ (λ i. loop (record { place = c.e.inside.place; ty = c.e.inside.ty }) (pack_legs c.in-For.field-0) c.in-For.field-1.value c.in-For.own_binder.value c.in-For.count_binder.value c.in-For.row_binder.value (sym c.deref.ensures i)) in
+    let is : c.args.e.now ≡ loop (record { place = c.e.inside.place; ty = c.e.inside.ty }) (pack_legs c.in-For.field-0) c.in-For.field-1.value c.deref.result.now c.deref-in-For.result.now c.deref-in-For-2.result.now c.deref-in-For-3.result.now = sym c.e.view_is ∙ ap (λ (f : Form). view_form f (record { place = c.e.inside.place; ty = c.e.inside.ty })) c.in-For.is ∙ (λ i. loop (record { place = c.e.inside.place; ty = c.e.inside.ty }) (pack_legs c.in-For.field-0) c.in-For.field-1.value (sym c.deref.ensures i) (sym c.deref-in-For.ensures i) (sym c.deref-in-For-2.ensures i) (sym c.deref-in-For-3.ensures i)) in
     let same : row_value c.new-row.result ≡ row_in (lists_of c.args.legs.now) c.args.number = row_same c.new-row.result (lists_of c.args.legs.now) c.args.number (row_value c.new-row.result) refl c.new-row.ensures.number c.new-row.ensures.lists in
-    let names : env_of c.with_row-inner.result ≡ ((c.in-For.row_binder.value.sym.0, plain (row_in (lists_of c.args.legs.now) c.args.number)) ∷ (c.in-For.count_binder.value.sym.0, plain (whole_number c.args.number)) ∷ (c.in-For.own_binder.value.sym.0, thing_of c.args.own.now) ∷ (env_of c.args.frame.now)) = row_names _ _ _ _ _ _ _ _ _ _ _ _ c.with_row-inner.ensures c.with_number-middle.ensures c.with_builder-outer.ensures same c.whole_number.ensures in (
+    let names : env_of c.with_row-inner.result ≡ ((c.deref-in-For-2.result.now.sym.0, plain (row_in (lists_of c.args.legs.now) c.args.number)) ∷ (c.deref-in-For.result.now.sym.0, plain (whole_number c.args.number)) ∷ (c.deref.result.now.sym.0, thing_of c.args.own.now) ∷ (env_of c.args.frame.now)) = row_names _ _ _ _ _ _ _ _ _ _ _ _ c.with_row-inner.ensures c.with_number-middle.ensures c.with_builder-outer.ensures same c.whole_number.ensures in (
       omega (arith, ap body_nodes is),
-      subst (λ (g : Env). ActFits c.deref.result.now g (thing_of c.args.builder.now)) (sym names) (subst (λ k. RowActFits k (env_of c.args.frame.now) (thing_of c.args.own.now) (c.args.number, row_in (lists_of c.args.legs.now) c.args.number) (thing_of c.args.builder.now)) is c.requires.fits),
+      subst (λ (g : Env). ActFits c.deref-in-For-3.result.now g (thing_of c.args.builder.now)) (sym names) (subst (λ k. RowActFits k (env_of c.args.frame.now) (thing_of c.args.own.now) (c.args.number, row_in (lists_of c.args.legs.now) c.args.number) (thing_of c.args.builder.now)) is c.requires.fits),
     )
 
 pub rows::run_row-returns : goal.rows::run_row-returns
 rows::run_row-returns t c =
-    let is : c.args.e.now ≡ loop (record { place = c.e.inside.place; ty = c.e.inside.ty }) (pack_legs c.in-For.field-0) c.in-For.field-1.value c.in-For.own_binder.value c.in-For.count_binder.value c.in-For.row_binder.value c.deref.result.now = sym c.e.view_is ∙ ap (λ (f : Form). view_form f (record { place = c.e.inside.place; ty = c.e.inside.ty })) c.in-For.is ∙ (λ i. loop (record { place = c.e.inside.place; ty = c.e.inside.ty }) (pack_legs c.in-For.field-0) c.in-For.field-1.value c.in-For.own_binder.value c.in-For.count_binder.value c.in-For.row_binder.value (sym c.deref.ensures i)) in
+    let is : c.args.e.now ≡ loop (record { place = c.e.inside.place; ty = c.e.inside.ty }) (pack_legs c.in-For.field-0) c.in-For.field-1.value c.deref.result.now c.deref-in-For.result.now c.deref-in-For-2.result.now c.deref-in-For-3.result.now = sym c.e.view_is ∙ ap (λ (f : Form). view_form f (record { place = c.e.inside.place; ty = c.e.inside.ty })) c.in-For.is ∙ (λ i. loop (record { place = c.e.inside.place; ty = c.e.inside.ty }) (pack_legs c.in-For.field-0) c.in-For.field-1.value (sym c.deref.ensures i) (sym c.deref-in-For.ensures i) (sym c.deref-in-For-2.ensures i) (sym c.deref-in-For-3.ensures i)) in
     let same : row_value c.new-row.result ≡ row_in (lists_of c.args.legs.now) c.args.number = row_same c.new-row.result (lists_of c.args.legs.now) c.args.number (row_value c.new-row.result) refl c.new-row.ensures.number c.new-row.ensures.lists in
-    let names : env_of c.with_row-inner.result ≡ ((c.in-For.row_binder.value.sym.0, plain (row_in (lists_of c.args.legs.now) c.args.number)) ∷ (c.in-For.count_binder.value.sym.0, plain (whole_number c.args.number)) ∷ (c.in-For.own_binder.value.sym.0, thing_of c.args.own.now) ∷ (env_of c.args.frame.now)) = row_names _ _ _ _ _ _ _ _ _ _ _ _ c.with_row-inner.ensures c.with_number-middle.ensures c.with_builder-outer.ensures same c.whole_number.ensures in
+    let names : env_of c.with_row-inner.result ≡ ((c.deref-in-For-2.result.now.sym.0, plain (row_in (lists_of c.args.legs.now) c.args.number)) ∷ (c.deref-in-For.result.now.sym.0, plain (whole_number c.args.number)) ∷ (c.deref.result.now.sym.0, thing_of c.args.own.now) ∷ (env_of c.args.frame.now)) = row_names _ _ _ _ _ _ _ _ _ _ _ _ c.with_row-inner.ensures c.with_number-middle.ensures c.with_builder-outer.ensures same c.whole_number.ensures in
     subst (λ k. Acts c.act.result (row_act k (env_of c.args.frame.now) (thing_of c.args.own.now) (c.args.number, row_in (lists_of c.args.legs.now) c.args.number) (thing_of c.args.builder.now)) (thing_of c.act.new.builder)) (sym is)
-    (subst (λ (g : Env). Acts c.act.result (act c.deref.result.now g (thing_of c.args.builder.now)) (thing_of c.act.new.builder)) names c.act.ensures)
+    (subst (λ (g : Env). Acts c.act.result (act c.deref-in-For-3.result.now g (thing_of c.args.builder.now)) (thing_of c.act.new.builder)) names c.act.ensures)
 
 pub acts::act_fields-act-requires : goal.acts::act_fields-act-requires
 acts::act_fields-act-requires t c =
