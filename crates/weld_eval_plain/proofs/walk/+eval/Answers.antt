@@ -178,21 +178,21 @@ run_rows-returns-in-Err-run_row t c =
 
 pub run_row-run_body-answer-requires : goal.run_row-run_body-answer-requires
 run_row-run_body-answer-requires t c =
-    let is : c.args.e.now ≡ loop (record { place = c.e.inside.place; ty = c.e.inside.ty }) (pack_legs c.in-For.field-0) c.in-For.field-1.value c.deref.result.now c.deref-in-Ok.result.now c.deref-in-Ok-2.result.now c.deref-in-Ok-3.result.now = sym c.e.view_is ∙ ap (λ (f : Form). view_form f (record { place = c.e.inside.place; ty = c.e.inside.ty })) c.in-For.is ∙ (λ i. loop (record { place = c.e.inside.place; ty = c.e.inside.ty }) (pack_legs c.in-For.field-0) c.in-For.field-1.value (sym c.deref.ensures i) (sym c.deref-in-Ok.ensures i) (sym c.deref-in-Ok-2.ensures i) (sym c.deref-in-Ok-3.ensures i)) in
-    let names : env_of c.bind-inner.result ≡ ((c.deref-in-Ok-2.result.now.sym.0, plain (view_val c.args.row)) ∷ (c.deref-in-Ok.result.now.sym.0, plain (whole_number c.args.number)) ∷ (c.deref.result.now.sym.0, bare_thing (thing_of c.args.builder.now)) ∷ env_of c.args.frame.now) = row_env _ _ _ _ _ _ _ (whole_number c.args.number) _ _ _ _ c.bind-inner.ensures c.bind-middle.ensures c.bind-outer.ensures (ap plain c.whole_number.ensures) c.in-Ok.ensures in (
+    let is : c.args.e.now ≡ loop (record { place = c.e.inside.place; ty = c.e.inside.ty }) (pack_legs c.in-For.field-0) c.in-For.field-1.value c.deref.result.now c.deref-in-For.result.now c.deref-in-For-2.result.now c.deref-in-For-3.result.now = sym c.e.view_is ∙ ap (λ (f : Form). view_form f (record { place = c.e.inside.place; ty = c.e.inside.ty })) c.in-For.is ∙ (λ i. loop (record { place = c.e.inside.place; ty = c.e.inside.ty }) (pack_legs c.in-For.field-0) c.in-For.field-1.value (sym c.deref.ensures i) (sym c.deref-in-For.ensures i) (sym c.deref-in-For-2.ensures i) (sym c.deref-in-For-3.ensures i)) in
+    let names : env_of c.bind-inner.result ≡ ((c.deref-in-For-2.result.now.sym.0, plain (view_val c.args.row)) ∷ (c.deref-in-For.result.now.sym.0, plain (whole_number c.args.number)) ∷ (c.deref.result.now.sym.0, bare_thing (thing_of c.args.builder.now)) ∷ env_of c.args.frame.now) = row_env _ _ _ _ _ _ _ (whole_number c.args.number) _ _ _ _ c.bind-inner.ensures c.bind-middle.ensures c.bind-outer.ensures (ap plain c.whole_number.ensures) c.in-Ok.ensures in (
       omega (arith, ap expr_nodes is),
       (
-        subst (λ (g : Env). IsFit c.deref-in-Ok-3.result.now g) (sym names) (row_body_fits _ _ _ _ _ _ c.deref-in-Ok-3.result.now (env_of c.args.frame.now) c.args.e.now c.args.number (thing_of c.args.builder.now) (view_val c.args.row) is c.requires.holds),
-        subst (λ (g : Env). Joins c.deref-in-Ok-3.result.now g (thing_of c.args.builder.now)) (sym names) (body_joins _ _ _ _ _ _ c.deref-in-Ok-3.result.now (env_of c.args.frame.now) c.args.e.now c.args.number (thing_of c.args.builder.now) (view_val c.args.row) is c.requires.holds),
+        subst (λ (g : Env). IsFit c.deref-in-For-3.result.now g) (sym names) (row_body_fits _ _ _ _ _ _ c.deref-in-For-3.result.now (env_of c.args.frame.now) c.args.e.now c.args.number (thing_of c.args.builder.now) (view_val c.args.row) is c.requires.holds),
+        subst (λ (g : Env). Joins c.deref-in-For-3.result.now g (thing_of c.args.builder.now)) (sym names) (body_joins _ _ _ _ _ _ c.deref-in-For-3.result.now (env_of c.args.frame.now) c.args.e.now c.args.number (thing_of c.args.builder.now) (view_val c.args.row) is c.requires.holds),
       ),
     )
 
 pub run_row-returns : goal.run_row-returns
 run_row-returns t c =
-    let is : c.args.e.now ≡ loop (record { place = c.e.inside.place; ty = c.e.inside.ty }) (pack_legs c.in-For.field-0) c.in-For.field-1.value c.deref.result.now c.deref-in-Ok.result.now c.deref-in-Ok-2.result.now c.deref-in-Ok-3.result.now = sym c.e.view_is ∙ ap (λ (f : Form). view_form f (record { place = c.e.inside.place; ty = c.e.inside.ty })) c.in-For.is ∙ (λ i. loop (record { place = c.e.inside.place; ty = c.e.inside.ty }) (pack_legs c.in-For.field-0) c.in-For.field-1.value (sym c.deref.ensures i) (sym c.deref-in-Ok.ensures i) (sym c.deref-in-Ok-2.ensures i) (sym c.deref-in-Ok-3.ensures i)) in
-    let names : env_of c.bind-inner.result ≡ ((c.deref-in-Ok-2.result.now.sym.0, plain (view_val c.args.row)) ∷ (c.deref-in-Ok.result.now.sym.0, plain (whole_number c.args.number)) ∷ (c.deref.result.now.sym.0, bare_thing (thing_of c.args.builder.now)) ∷ env_of c.args.frame.now) = row_env _ _ _ _ _ _ _ (whole_number c.args.number) _ _ _ _ c.bind-inner.ensures c.bind-middle.ensures c.bind-outer.ensures (ap plain c.whole_number.ensures) c.in-Ok.ensures in
-    row_by_body c.run_body-answer.result _ _ _ _ _ _ c.deref-in-Ok-3.result.now (env_of c.args.frame.now) c.args.e.now c.args.number (thing_of c.args.builder.now) (thing_of c.run_body-answer.new.builder) (view_val c.args.row) is c.requires.holds
-    (subst (λ (g : Env). BodyAnswer c.run_body-answer.result c.deref-in-Ok-3.result.now g (thing_of c.args.builder.now) (thing_of c.run_body-answer.new.builder)) names c.run_body-answer.ensures)
+    let is : c.args.e.now ≡ loop (record { place = c.e.inside.place; ty = c.e.inside.ty }) (pack_legs c.in-For.field-0) c.in-For.field-1.value c.deref.result.now c.deref-in-For.result.now c.deref-in-For-2.result.now c.deref-in-For-3.result.now = sym c.e.view_is ∙ ap (λ (f : Form). view_form f (record { place = c.e.inside.place; ty = c.e.inside.ty })) c.in-For.is ∙ (λ i. loop (record { place = c.e.inside.place; ty = c.e.inside.ty }) (pack_legs c.in-For.field-0) c.in-For.field-1.value (sym c.deref.ensures i) (sym c.deref-in-For.ensures i) (sym c.deref-in-For-2.ensures i) (sym c.deref-in-For-3.ensures i)) in
+    let names : env_of c.bind-inner.result ≡ ((c.deref-in-For-2.result.now.sym.0, plain (view_val c.args.row)) ∷ (c.deref-in-For.result.now.sym.0, plain (whole_number c.args.number)) ∷ (c.deref.result.now.sym.0, bare_thing (thing_of c.args.builder.now)) ∷ env_of c.args.frame.now) = row_env _ _ _ _ _ _ _ (whole_number c.args.number) _ _ _ _ c.bind-inner.ensures c.bind-middle.ensures c.bind-outer.ensures (ap plain c.whole_number.ensures) c.in-Ok.ensures in
+    row_by_body c.run_body-answer.result _ _ _ _ _ _ c.deref-in-For-3.result.now (env_of c.args.frame.now) c.args.e.now c.args.number (thing_of c.args.builder.now) (thing_of c.run_body-answer.new.builder) (view_val c.args.row) is c.requires.holds
+    (subst (λ (g : Env). BodyAnswer c.run_body-answer.result c.deref-in-For-3.result.now g (thing_of c.args.builder.now) (thing_of c.run_body-answer.new.builder)) names c.run_body-answer.ensures)
 
 pub run_body-append-requires : goal.run_body-append-requires
 run_body-append-requires t c = c.requires.joins.joins (held_of c.in-Ok.merged) c.in-Ok.ensures
