@@ -1,0 +1,14 @@
+//! Lanes: plain arithmetic on the numbers of one or two columns of one kind, worked out for many rows at once.
+#![tactic(auto)]
+
+mod block;
+pub mod kernels;
+pub mod kinds;
+pub mod room;
+pub mod steps;
+mod works;
+
+pub use kernels::{fold_lanes, map_lanes};
+pub use kinds::Lane;
+pub use room::Scratch;
+pub use steps::{LaneProgram, LaneStep};

@@ -1,0 +1,42 @@
+//! Room for the answers of steps on a block of rows.
+
+use crate::kinds::Lane;
+use crate::steps::LaneProgram;
+use std::alloc::{AllocError, Global};
+use std::marker::Model;
+
+/// How many rows a block has at most: few enough for the answers of some steps to stay in the nearest cache.
+pub(crate) const BLOCK: usize = 512;
+
+/// Room for the answers of steps. Contracts see how many numbers it has room for.
+#[derive(Drop)]
+pub struct Scratch<L> {
+    pub(crate) items: Vec<L>,
+}
+
+impl<L> Model for Scratch<L> {
+    ghost use Rattle.std.specs.Prelude.{ℕ, length};
+
+    ghost Value = { ℕ };
+
+    ghost view = { λ s. length s.items.items };
+}
+
+impl<L: Lane> Scratch<L> {
+    ghost use Rattle.std.specs.Prelude.{◌≤◌, length, IfOk};
+    ghost use Rattle.weld_lanes.specs.Answers.{room_of};
+
+    /// Room for the steps of a program.
+    pub fn new(program: &LaneProgram, alloc: Global) -> Result<Scratch<L>, AllocError>
+        ensures { IfOk result (λ scratch. room_of (length program.now.steps.items) ≤ scratch) }
+    {
+        let count = match program.steps.len().checked_mul(BLOCK) {
+            Some(count) => count,
+            None => return Err(AllocError),
+        };
+        let zero = L::of_truth(false);
+        Ok(Scratch {
+            items: vec![in alloc; zero; count]?,
+        })
+    }
+}
