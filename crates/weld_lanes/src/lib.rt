@@ -2,12 +2,14 @@
 #![tactic(auto)]
 
 mod block;
+pub mod formed;
 pub mod kernels;
 pub mod kinds;
 pub mod room;
 pub mod steps;
 mod works;
 
+pub use formed::{are_steps, is_arithmetic, is_comparison};
 pub use kernels::{fold_lanes, map_lanes};
 pub use kinds::Lane;
 pub use room::Scratch;
