@@ -1,4 +1,4 @@
--- What an expression of builder type does, in place, to the builder that it acts on (this project's profile of the Weld papers).
+-- What an expression of builder type does, in place, to the builder that it acts on.
 use Rattle.std.specs.Prelude.{◌≡◌, ◌≢◌, ℕ, zero, suc, [], ◌∷◌, Some, Result, Ok, Err}
 use Rattle.weld_data.specs.declared.stop.Stop.{Stop}
 use Rattle.weld_data.specs.declared.stop.Stop.TheVariants.{Fault, Memory}

@@ -13,8 +13,8 @@ use weld_tree::{Binder, Expr, Exprs, Form, Leg, Legs, ManyForm, Sym, ThreeForm, 
 
 /// Whether the body of each loop in the expression acts on the loop's own builder: it is that builder,
 /// or a merge into it of a value that doesn't use it, an `if` or a `let` around such, a loop that goes
-/// on in it, or a struct of such, field by field (this project's profile). Such a body merges in place
-/// what it means. It takes no memory.
+/// on in it, or a struct of such, field by field. Such a body merges in place what it means. It takes
+/// no memory.
 #[tactic(auto, using(crate::proofs::Decided::direct_at_test))]
 pub fn is_direct(e: &Expr) -> bool
     ensures direct { Decides result (AreDirect e.now) }

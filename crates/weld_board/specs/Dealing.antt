@@ -1,4 +1,4 @@
--- How tiles are dealt to the hands of workers (this project's profile).
+-- How tiles are dealt to the hands of workers.
 use Rattle.std.specs.Prelude.{ℕ, zero, suc, ◌+◌, ◌-◌, ◌*◌, ◌/◌, List, [], ◌∷◌, ◌++◌, length, take, drop}
 
 -- where hand k begins, of so many tiles dealt to so many workers

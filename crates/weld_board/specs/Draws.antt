@@ -1,4 +1,4 @@
--- What seats drew on hands (this project's profile).
+-- What seats drew on hands.
 use Rattle.std.specs.Prelude.{ℕ, zero, suc, ◌+◌, cond, eqb, ltb, leb, List, [], ◌∷◌, ◌++◌}
 use Rattle.weld_board.specs.Dealing.{start, size}
 use Rattle.weld_board.specs.declared.dealt.Dealt.{Dealt}

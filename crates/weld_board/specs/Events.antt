@@ -1,4 +1,4 @@
--- The state of a board's words and views as that of the pure core, and the steps at it as the core's events (this project's profile).
+-- The state of a board's words and views as that of the pure core, and the steps at it as the core's events.
 use Rattle.std.specs.Prelude.{◌≡◌, ℕ, ◌+◌, ◌%◌, ◌^◌, ◌<◌, ◌≤◌, ◌≢◌, false, cond, eqb, List, [], ◌∷◌, ◌++◌, length, map, drop, replicate, slice_index, slice_index_or, slice_set}
 use mathlib.Core.Option.{some}
 use lib.ListN.{get_elem?}

@@ -1,4 +1,4 @@
--- The machine as the plain core, and what one step of it answers (this project's profile).
+-- The machine as the plain core, and what one step of it answers.
 use Rattle.std.specs.Prelude.{◌≡◌, ℕ, List, [], ◌∷◌, map, reverse, Vec, vec_items}
 use Rattle.weld_tiles.specs.declared.tile.Tile.{Tile}
 use Rattle.weld_board.specs.Sharing.{Core, left_in, moved, after}

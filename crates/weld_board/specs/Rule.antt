@@ -1,4 +1,4 @@
--- What holds of the words and of all views between any two steps (this project's profile).
+-- What holds of the words and of all views between any two steps.
 use Rattle.std.specs.Prelude.{◌≡◌, ℕ, ◌+◌, ◌<◌, ◌≤◌, List, [], ◌∷◌, ◌++◌, length, take, drop}
 use Rattle.atomic_table.specs.Table.{State, Me, Step}
 use Rattle.weld_board.specs.declared.dealt.Dealt.{Dealt}

@@ -1,4 +1,4 @@
--- Tiles shared by seats that take them from hands: plain data, one event at a time (this project's profile).
+-- Tiles shared by seats that take them from hands: plain data, one event at a time.
 use Rattle.std.specs.Prelude.{◌≡◌, ◌≢◌, ◌≤◌, ◌<◌, ℕ, Bool, true, false, List, [], ◌∷◌, ◌++◌, length, slice_index_or, slice_set, replicate, IsPermutation}
 use Rattle.weld_tiles.specs.declared.tile.Tile.{Tile}
 use Rattle.weld_board.specs.Dealing.{hands_below, joined}

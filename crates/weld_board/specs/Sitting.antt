@@ -1,4 +1,4 @@
--- Boards, and seats at them (this project's profile).
+-- Boards, and seats at them.
 use Rattle.std.specs.Prelude.{◌≡◌, ℕ, zero, suc, ◌+◌, ◌%◌, ◌<◌, ◌≤◌, List, [], ◌∷◌, ◌++◌, length, map, slice_index_or, vec_capacity, Option, Some, None}
 use Rattle.weld_tiles.specs.declared.tile.Tile.{Tile}
 use Rattle.weld_board.specs.declared.dealt.Dealt.{Dealt}

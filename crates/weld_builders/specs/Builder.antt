@@ -1,4 +1,4 @@
--- Builders: one of the five, or a struct of builders; as plain data (the Weld papers). An evaluator's things may hold parts in a tree of their own; this one is for code that keeps builders alone.
+-- Builders: one of the five, or a struct of builders; as plain data. An evaluator's things may hold parts in a tree of their own; this one is for code that keeps builders alone.
 use Rattle.std.specs.Prelude.{◌≡◌, ℕ, zero, suc}
 use Rattle.weld_data.specs.Value.{Value, struct, Values, no_values, and_value}
 use Rattle.weld_builders.specs.Outcome.{Outcome, stuck, map_out}

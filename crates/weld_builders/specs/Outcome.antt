@@ -1,4 +1,4 @@
--- What an evaluation comes to: it is done with a thing, it faults, or it is stuck, where a part isn't of the form that is asked for (the Weld papers).
+-- What an evaluation comes to: it is done with a thing, it faults, or it is stuck, where a part isn't of the form that is asked for.
 use Rattle.std.specs.Prelude.{Option, Some, None}
 
 pub data Outcome (A : Type 0) : Type 0 where

@@ -1,5 +1,5 @@
--- The five builders as plain data, and what is done with them (the Weld papers).
--- A part carries its operator and kind, so that none of this needs types.
+-- The five builders as plain data, and what is done with them. A part carries its operator and
+-- kind, so that none of this needs types.
 use Rattle.std.specs.Prelude.{ℕ, zero, suc, ℤ, pos, negsuc, Option, Some, None, List, [], ◌∷◌, ◌++◌, map, length, slice_get}
 use Rattle.std.specs.List.{slice_set}
 use Rattle.std.specs.FinMap as finite

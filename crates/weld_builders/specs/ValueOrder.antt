@@ -1,4 +1,4 @@
--- One total order of all values, in which dictionaries and groups have their keys (this project's profile of Weld).
+-- One total order of all values, in which dictionaries and groups have their keys.
 use Rattle.std.specs.Prelude.{ℤ, pos, List, [], ◌∷◌}
 use Rattle.std.specs.Ordering.{int_cmp}
 use Rattle.std.specs.Cmp.Lexicographic.{slice_cmp}

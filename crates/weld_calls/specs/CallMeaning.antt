@@ -1,4 +1,4 @@
--- What each library call answers, by plain lists, or that it faults (the Weld papers).
+-- What each library call answers, by plain lists, or that it faults.
 use Rattle.std.specs.Prelude.{Bool, ℕ, zero, suc, if◌then◌else◌, ℤ, pos, ◌*ℤ◌, List, [], ◌∷◌, map, length}
 use Rattle.std.specs.List.{list_all}
 use Rattle.weld_data.specs.declared.kind.Kind.{Kind}

@@ -1,4 +1,4 @@
--- The program that a call stands for (this project's profile). Its binders are numbered from 0 in the order of the text, so its
+-- The program that a call stands for. Its binders are numbered from 0 in the order of the text, so its
 -- parameters come first.
 use Rattle.std.specs.Prelude.{ℕ, suc, ◌+◌, pos, List, [], ◌∷◌, Option, Some, None}
 use Rattle.weld_data.specs.declared.kind.Kind.TheVariants as kinds

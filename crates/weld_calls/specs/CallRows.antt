@@ -1,4 +1,4 @@
--- The rows of the calls as a table (this project's profile): K is an integer kind, T any type of elements, Q a type of keys.
+-- The rows of the calls as a table: K is an integer kind, T any type of elements, Q a type of keys.
 use Rattle.std.specs.Prelude.{◌≡◌, List, [], ◌∷◌, Some}
 use Rattle.weld_data.specs.declared.kind.Kind.{Kind}
 use Rattle.weld_data.specs.Kind.{IsInteger}

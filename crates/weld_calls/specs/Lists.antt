@@ -1,4 +1,4 @@
--- Plain lists, by which the library calls are told (the Weld papers): no loop and no builder.
+-- Plain lists, by which the library calls are told: no loop and no builder.
 use Rattle.std.specs.Prelude.{ℕ, suc, Bool, false, not, if◌then◌else◌, ℤ, pos, negsuc, ◌+ℤ◌, ◌*ℤ◌, int_lt, int_le, List, [], ◌∷◌, map, length, filter, leb, Option, Some, None}
 use Rattle.std.specs.Int.{int_min, int_max}
 use Rattle.std.specs.Ordering.{int_eq}

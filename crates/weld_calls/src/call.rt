@@ -5,7 +5,7 @@ use crate::pattern::Pattern;
 use weld_data::BinOp;
 
 /// A call of one of the two libraries, of vectors and of columns, without its arguments. `Sum`, `Min`
-/// and `Max` are calls of both (the Weld papers; which calls, by this project's profile).
+/// and `Max`.
 #[derive(Clone, Copy, Debug, PartialEq, Eq)]
 pub enum Call {
     /// The sums of the elements of two vectors, place by place.

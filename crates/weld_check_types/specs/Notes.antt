@@ -11,7 +11,7 @@ abbrev pub HasNote : At → ExprTree → Types → Type 0
 HasNote a e g = (t : TypeTree) × (a.ty ≡ Is t) × HasType e g t
 
 abbrev mutual
-  -- each node has its note, by the types of names (this project's profile)
+  -- each node has its note, by the types of names
   pub AreNoted : ExprTree → Types → Type 0
   AreNoted (leaf a l) g = HasNote a (leaf a l) g
   AreNoted (one a o e) g = AreNoted e g × HasNote a (one a o e) g

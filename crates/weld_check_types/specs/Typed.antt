@@ -16,8 +16,8 @@ pub record TypedTree : Type 0 where
 abbrev pub coded_typed : Coded TypedTree
 coded_typed = code_by (ProgramTree × TypeTree) (coded× coded_program coded_type) (λ t. (t.program, t.ty)) (λ c. record { program = c.0; ty = c.1 }) (λ _. refl)
 
--- the program has the type by the rules (the Weld papers), its types keep the limits, and each node of its body has its
--- type noted (this project's profile)
+-- the program has the type by the rules, its types keep the limits, and each node of its body has its
+-- type noted
 pub record IsTyped (p : ProgramTree) (t : TypeTree) : Type 0 where
   pub has : ProgramHas p t
   pub keeps : ProgramKeepsSize p

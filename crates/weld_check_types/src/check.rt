@@ -12,8 +12,8 @@ use weld_tree::{Program, Refusal};
 use weld_types::laws::the_walk_is_typing;
 
 /// The program with its type, if it has one by the typing rules; each node of its body has its type noted then, and
-/// nothing else of the program is changed. Refusals: `At` with the first rule that it breaks in the order of the walk, and
-/// the place (Y1 to Y30; this project's profile of Weld); want of memory. Never `Size`. A program that is refused is spent.
+/// nothing else of the program is changed. Refusals: `At` with the first rule that it breaks in the order of the walk,
+/// and the place (Y1 to Y30); want of memory. Never `Size`. A program that is refused is spent.
 pub fn check_types(alloc: Global, p: Program) -> Result<Typed, Refusal>
     ensures same { IfOk result (λ typed. IsSameButNotes typed.program p) }
     ensures found { IfOk result (λ typed. program_type p ≡ found typed.ty) }

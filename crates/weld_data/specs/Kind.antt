@@ -1,4 +1,4 @@
--- Kinds of numbers: their bits and their ranges, by this project's profile of Weld.
+-- Kinds of numbers: their bits and their ranges.
 use Rattle.std.specs.Prelude.{ℕ, ◌^◌, ℤ, pos, neg_ℤ, ◌≤ℤ◌}
 use Rattle.weld_data.specs.declared.kind.Kind.{Kind}
 use Rattle.weld_data.specs.declared.kind.Kind.TheVariants.{Bool, I8, I16, I32, I64, U8, U16, U32, U64}

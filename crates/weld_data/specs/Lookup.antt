@@ -1,4 +1,4 @@
--- Looking a key up in a dictionary, by this project's profile of Weld.
+-- Looking a key up in a dictionary.
 use Rattle.std.specs.Prelude.{◌≡◌, ℕ, slice_get, Bool, true, false, ◌&&◌, if◌then◌else◌, List, [], ◌∷◌, Option, Some, None}
 use Rattle.std.specs.Ordering.{int_eq}
 use Rattle.weld_data.specs.declared.kind.Kind.{Kind}

@@ -1,4 +1,4 @@
--- What the operators do with whole numbers of one kind, by this project's profile of Weld.
+-- What the operators do with whole numbers of one kind.
 use Rattle.std.specs.Prelude.{Bool, true, false, not, if◌then◌else◌, ℤ, pos, ◌+ℤ◌, ◌-ℤ◌, ◌*ℤ◌, int_lt, int_le, int_div, int_rem, Option, Some, None}
 use Rattle.std.specs.Int.{int_min, int_max}
 use Rattle.std.specs.Ordering.{int_eq}

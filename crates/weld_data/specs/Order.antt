@@ -1,4 +1,4 @@
--- The order of keys, by this project's profile of Weld, and which values are keys of one type.
+-- The order of keys, and which values are keys of one type.
 use Rattle.std.specs.Prelude.{◌≡◌, ◌⊎◌, ◌<ℤ◌, List, [], ◌∷◌, All, AllPairs}
 use Rattle.std.specs.Ordering.{MatchOrdering}
 use Rattle.std.specs.declared.cmp.Ordering.{Ordering}

@@ -1,4 +1,4 @@
--- Values of Weld programs as plain data, by this project's profile of Weld: numbers, lists, structs and dictionaries.
+-- Values of Weld programs as plain data: numbers, lists, structs and dictionaries.
 use Rattle.std.specs.Prelude.{◌≡◌, ℤ, List, [], ◌∷◌, refl}
 use Rattle.std.proofs.Common.{ap}
 use Rattle.weld_data.specs.declared.kind.Kind.{Kind}

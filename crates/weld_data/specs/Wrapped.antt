@@ -1,4 +1,4 @@
--- Wrapping, by this project's profile of Weld: the number of a kind that stands for a whole number.
+-- Wrapping: the number of a kind that stands for a whole number.
 use Rattle.std.specs.Prelude.{◌≡◌, ℕ, ◌^◌, ℤ, pos, ◌+ℤ◌, ◌*ℤ◌}
 use Rattle.std.specs.Int.{w8, w16, w32, w64, int_rem_euclid, int_wrap}
 use Rattle.weld_data.specs.declared.kind.Kind.{Kind}

@@ -6,7 +6,7 @@ use weld_meaning::laws::loops_join_in_order;
 use weld_meaning::{Accepted, LoopId};
 
 /// The action of the body of a loop, which it names: what the body makes, over rows, of a builder
-/// that has nothing merged (the Weld papers).
+/// that has nothing merged.
 #[derive(Clone, Copy, Debug, PartialEq, Eq, Hash)]
 pub struct Action {
     pub at: LoopId,

@@ -1,4 +1,4 @@
--- Where a run of a plan stands (this project's profile).
+-- Where a run of a plan stands.
 use Rattle.std.specs.Prelude.{◌≡◌, ℕ, ◌+◌, ◌-◌, List, [], ◌∷◌, ◌++◌, drop, length, Result, Ok, Err}
 use Rattle.weld_data.specs.Value.{Value}
 use Rattle.weld_data.specs.View.{view_val}

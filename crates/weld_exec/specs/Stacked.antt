@@ -1,4 +1,4 @@
--- What a step makes of the stack (this project's profile).
+-- What a step makes of the stack.
 use Rattle.std.specs.Prelude.{◌≡◌, ℕ, zero, suc, Bool, List, length, Result, Ok, Err}
 use Rattle.weld_data.specs.declared.stop.Stop.{Stop}
 use Rattle.weld_data.specs.declared.stop.Stop.TheVariants.{Fault, Memory}

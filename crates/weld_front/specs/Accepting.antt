@@ -1,4 +1,4 @@
--- Which texts are accepted, and what the others are refused for first (the Weld papers; the order of the rules is this project's profile).
+-- Which texts are accepted, and what the others are refused for first.
 use Rattle.std.specs.Prelude.{◌≡◌, ◌⊎◌, ℕ, Option, Some, None, List}
 use Rattle.weld_tree.specs.TypeTree.{TypeTree}
 use Rattle.weld_tree.specs.Program.{ProgramTree}

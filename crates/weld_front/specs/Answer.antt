@@ -1,4 +1,4 @@
--- What the program answers to a job: a status and a text. From the Weld papers' meaning; the texts and the order of refusals by this project's profile.
+-- What the program answers to a job: a status and a text.
 use Rattle.std.specs.Prelude.{◌≡◌, ℕ, ◌+◌, ◌⊎◌, ◌&&◌, if◌then◌else◌, Bool, false, nat_lt, List, [], Option, Some, length, take, IfSome}
 use Rattle.std.specs.Bool.{MatchBool}
 use Rattle.std.specs.Io.KnownBytes.{Appends, IsAtEnd}

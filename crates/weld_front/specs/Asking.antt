@@ -1,4 +1,4 @@
--- What words ask for (this project's profile).
+-- What words ask for.
 use Rattle.std.specs.Prelude.{◌≡◌, ℕ, Bool, true, false, List}
 use Rattle.weld_words.specs.Words.{IsForm}
 use Rattle.weld_words.specs.declared.options.Options.{Options}

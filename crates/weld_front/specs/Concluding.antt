@@ -1,4 +1,4 @@
--- What is answered where something comes to a value or to a fault, and what a report tells (this project's profile).
+-- What is answered where something comes to a value or to a fault, and what a report tells.
 use Rattle.std.specs.Prelude.{◌≡◌, ℕ, ◌++◌, Bool, true, false, List}
 use Rattle.weld_data.specs.Value.{Value}
 use Rattle.weld_builders.specs.Outcome.{Outcome, done, fault}

@@ -1,4 +1,4 @@
--- The exit numbers of the program, by this project's profile.
+-- The exit numbers of the program.
 use Rattle.std.specs.Prelude.{ℕ}
 use Rattle.weld_front.specs.declared.status.Status.{Status}
 use Rattle.weld_front.specs.declared.status.Status.TheVariants.{Done, Fault, Words, Refused, Unfit, Read, Write, Memory}

@@ -1,4 +1,4 @@
--- What `weld session` and `weld soak` answer, by what a script comes to, call by call and by plain lists (this project's profile).
+-- What `weld session` and `weld soak` answer, by what a script comes to, call by call and by plain lists.
 use Rattle.std.specs.Prelude.{◌≡◌, ◌≢◌, ◌⊎◌, ℕ, List, [], ◌∷◌, Ok, Err}
 use Rattle.weld_data.specs.Value.{Value}
 use Rattle.weld_tree.specs.Program.{ProgramTree}

@@ -1,4 +1,4 @@
--- The texts that the program writes (this project's profile).
+-- The texts that the program writes.
 use Rattle.std.specs.Prelude.{ℕ, List, [], ◌∷◌, ◌++◌, codes}
 use Rattle.std.specs.Fmt.{decimal}
 use Rattle.weld_data.specs.Value.{Value}

@@ -1,4 +1,4 @@
--- What may begin an item, and what can be empty (the Weld papers).
+-- What may begin an item, and what can be empty.
 use Rattle.std.specs.Prelude.{Bool, true, false, ◌||◌}
 use Rattle.weld_grammar.specs.declared.terminals.class.Class.{Class}
 use Rattle.weld_grammar.specs.declared.terminals.class.Class.TheVariants as classes

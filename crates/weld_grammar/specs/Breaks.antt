@@ -1,4 +1,4 @@
--- Whether a rule derives tokens, and where they break it first (the Weld papers). A text is a program where its tokens
+-- Whether a rule derives tokens, and where they break it first. A text is a program where its tokens
 -- are derived by the rule `Program`.
 use Rattle.std.specs.Prelude.{◌≡◌, ℕ, ◌+◌, ◌<◌, IsFalse, Some, None, List, length, take}
 use Rattle.weld_grammar.specs.declared.terminals.class.Class.{Class}

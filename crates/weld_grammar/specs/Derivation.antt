@@ -1,4 +1,4 @@
--- What tokens derive, as trees (the Weld papers).
+-- What tokens derive, as trees.
 use Rattle.std.specs.Prelude.{IsTrue, IsFalse, List, [], ◌∷◌, ◌++◌}
 use Rattle.weld_grammar.specs.declared.terminals.class.Class.{Class}
 use Rattle.weld_grammar.specs.declared.item.Item.{Item}

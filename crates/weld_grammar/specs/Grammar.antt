@@ -1,5 +1,5 @@
--- The grammar of Weld programs, as a table (the Weld papers): one line for each production, and for each
--- alternative and each optional or repeated part of one.
+-- The grammar of Weld programs, as a table: one line for each production, and for each alternative
+-- and each optional or repeated part of one.
 use Rattle.std.specs.Prelude.{Bool, true, false, List, [], ◌∷◌}
 use Rattle.weld_grammar.specs.declared.terminals.class.Class.{Class}
 use Rattle.weld_grammar.specs.declared.terminals.class.Class.TheVariants as classes

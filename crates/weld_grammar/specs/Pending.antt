@@ -1,4 +1,4 @@
--- What is still to be derived after some tokens (the Weld papers). It knows nothing of trees.
+-- What is still to be derived after some tokens. It knows nothing of trees.
 use Rattle.std.specs.Prelude.{ℕ, suc, zero, Bool, true, ◌&&◌, if◌then◌else◌, Option, Some, None, option_and_then, List, [], ◌∷◌, ◌++◌}
 use Rattle.weld_grammar.specs.declared.terminals.class.Class.{Class}
 use Rattle.weld_grammar.specs.declared.terminal.Terminal.TheVariants.{Word}

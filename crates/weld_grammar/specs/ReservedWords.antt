@@ -1,4 +1,4 @@
--- The reserved words of Weld programs: how they are written (the Weld papers).
+-- The reserved words of Weld programs: how they are written.
 use Rattle.std.specs.Prelude.{ℕ, Bool, ◌==◌, List, codes}
 use Rattle.weld_grammar.specs.declared.terminals.reserved.Reserved.{Reserved}
 use Rattle.weld_grammar.specs.declared.terminals.reserved.Reserved.TheVariants.{Let, If, Select, Lookup, Keyexists, Len, Slice, Merge, Result, For, Iterate, Zip, Iter, Vec, Dict, Bool as BoolWord, I8, I16, I32, I64, U8, U16, U32, U64, Vecbuilder, Appender, Merger, Dictmerger, Vecmerger, Groupbuilder, Groupmerger, True, False, Min, Max, Macro}

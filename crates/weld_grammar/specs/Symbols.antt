@@ -1,4 +1,4 @@
--- The symbols of Weld programs: how they are written (the Weld papers).
+-- The symbols of Weld programs: how they are written.
 use Rattle.std.specs.Prelude.{ℕ, Bool, ◌==◌, List, codes}
 use Rattle.weld_grammar.specs.declared.terminals.symbol.Symbol.{Symbol}
 use Rattle.weld_grammar.specs.declared.terminals.symbol.Symbol.TheVariants.{LeftParen, RightParen, LeftBracket, RightBracket, LeftBrace, RightBrace, Comma, Semicolon, Colon, Dot, Bar, BarBar, AndAnd, Bang, Equals, EqualsEquals, BangEquals, Less, LessEquals, Greater, GreaterEquals, Plus, Minus, Star, Slash, Percent}

@@ -1,4 +1,4 @@
-/// A production of the grammar, or an alternative or a repeated part of one (the Weld papers).
+/// A production of the grammar, or an alternative or a repeated part of one.
 #[derive(Clone, Copy)]
 pub enum Rule {
     Program,

@@ -1,4 +1,4 @@
--- A field of a struct that is made there is what was put in, where all that was put in is plain (this project's profile).
+-- A field of a struct that is made there is what was put in, where all that was put in is plain.
 use Rattle.std.specs.Prelude.{ℕ, zero, suc, Bool, true, false, ◌&&◌, Option, Some, None}
 use Rattle.weld_tree.specs.ExprTree.{ExprTree, leaf, one, two, three, many, let_in, loop, iterate, ExprTrees, no_exprs, more_exprs, One, neg, not, cast, len, field, finish, started, Many, make_vec, make_struct}
 use Rattle.weld_substitution.specs.Redex.{is_plain}

@@ -1,4 +1,4 @@
--- A leg that stands twice in one loop: the second goes, and the row is rebuilt from the others (this project's profile).
+-- A leg that stands twice in one loop: the second goes, and the row is rebuilt from the others.
 use Rattle.std.specs.Prelude.{◌≡◌, ℕ, ◌<◌, ◌^◌, zero, suc, ◌==◌, if◌then◌else◌, Bool, false, Option, Some, None, option_map}
 use Rattle.weld_tree.specs.declared.binder.Binder.{Binder}
 use Rattle.weld_tree.specs.declared.known.Known.{Known}

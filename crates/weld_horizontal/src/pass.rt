@@ -11,12 +11,11 @@ use std::alloc::{AllocError, Global};
 use weld_meaning::Accepted;
 use weld_rewriting::pass::run_pass;
 
-/// The program with each leg once (the Weld papers): where a leg of a loop is a name that stands
-/// again, whole, in the same loop, the second goes; in the body a field of the row is the field of
-/// the legs that are left, and the row where it stands alone is the struct rebuilt, and where one
-/// leg is left the loop runs over it alone. It asks for a program whose nodes have their types
-/// noted, as the checker leaves it. It fails for want of memory alone, and the program is spent
-/// then.
+/// The program with each leg once: where a leg of a loop is a name that stands again, whole, in the
+/// same loop, the second goes; in the body a field of the row is the field of the legs that are
+/// left, and the row where it stands alone is the struct rebuilt, and where one leg is left the
+/// loop runs over it alone. It asks for a program whose nodes have their types noted, as the
+/// checker leaves it. It fails for want of memory alone, and the program is spent then.
 pub fn join_legs(alloc: Global, p: Accepted) -> Result<Accepted, AllocError>
     requires { ProgramIsNoted p }
     ensures passed { IfOk result (λ q. IsPassed q p) }

@@ -11,13 +11,13 @@ use std::alloc::{AllocError, Global};
 use weld_meaning::Accepted;
 use weld_rewriting::pass::run_pass;
 
-/// The program with lets put in their place (the Weld papers): those of a plain value, which is a
-/// name, a name followed by field accesses, or a number or truth literal; and those whose name is
-/// used once, where the way from the body to the use passes no lambda, no arm of an `if` and no
-/// right side of `&&` or `||`. A value in which a loop stands is put in place as a leg or under
-/// `result` alone, and a builder not under a field access. An unused `let` stays, since its value
-/// may fault, unless that is plain. It asks for a program whose nodes have their types noted, as
-/// the checker leaves it. It fails for want of memory alone, and the program is spent then.
+/// The program with lets put in their place: those of a plain value, which is a name, a name
+/// followed by field accesses, or a number or truth literal; and those whose name is used once,
+/// where the way from the body to the use passes no lambda, no arm of an `if` and no right side of
+/// `&&` or `||`. A value in which a loop stands is put in place as a leg or under `result` alone,
+/// and a builder not under a field access. An unused `let` stays, since its value may fault, unless
+/// that is plain. It asks for a program whose nodes have their types noted, as the checker leaves
+/// it. It fails for want of memory alone, and the program is spent then.
 pub fn inline_lets(alloc: Global, p: Accepted) -> Result<Accepted, AllocError>
     requires { ProgramIsNoted p }
     ensures passed { IfOk result (λ q. IsPassed q p) }

@@ -1,4 +1,4 @@
--- Which arguments a job's data give a program, and else what is wrong with them first, by this project's profile of Weld.
+-- Which arguments a job's data give a program, and else what is wrong with them first.
 use Rattle.std.specs.Prelude.{◌≡◌, ◌⊎◌, ℕ, ◌+◌, Bool, true, false, List, [], ◌∷◌, Option, Some, None}
 use Rattle.weld_data.specs.Value.{Value}
 use Rattle.weld_tree.specs.TypeTree.{TypeTree}

@@ -1,5 +1,4 @@
--- Which values a job's data give the declarations of a script, and else what is wrong with them first, by this project's profile of
--- Weld.
+-- Which values a job's data give the declarations of a script, and else what is wrong with them first.
 use Rattle.std.specs.Prelude.{◌≡◌, ◌⊎◌, ℕ, ◌+◌, Bool, true, false, List, [], ◌∷◌}
 use Rattle.weld_data.specs.Value.{Value}
 use Rattle.weld_tree.specs.declared.code.Code.{Code}

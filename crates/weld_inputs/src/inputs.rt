@@ -77,7 +77,7 @@ fn read_blocks(
 }
 
 /// The values that a job's data give the declarations of a script: block by block in order, the first block that doesn't
-/// fit being told (this project's profile of Weld). An input is a value block; a table is a table block, of which each
+/// fit being told. An input is a value block; a table is a table block, of which each
 /// declared column is the first whose name in the first record equals its own, other columns being ignored.
 ///
 /// `Unfit` tells of stray bytes before the blocks by the number 0 and FORM; of a declaration without a block by its number,

@@ -1,4 +1,4 @@
--- What a job is: its text, its blocks and its stray mark, by its lines. From the Weld papers.
+-- What a job is: its text, its blocks and its stray mark, by its lines.
 use Rattle.std.specs.Prelude.{ℕ, ◌==◌, Bool, false, not, ◌&&◌, ◌||◌, if◌then◌else◌, List, [], ◌∷◌, length, drop, nat_eq, codes}
 use Rattle.std.specs.List.{concat, before_first, after_first, onto_first, starts_with, list_all, list_any}
 use Rattle.weld_job.specs.declared.block.BlockForm.{BlockForm}

@@ -1,4 +1,4 @@
--- A job's parts by their places among its bytes. By this project's profile.
+-- A job's parts by their places among its bytes.
 use Rattle.std.specs.Prelude.{ℕ, ◌-◌, ◌≤◌, Bool, List, map, length, take, drop}
 use Rattle.std.specs.List.{All}
 use Rattle.weld_job.specs.declared.block.Block.{Block as Found}

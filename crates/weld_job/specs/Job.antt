@@ -1,4 +1,4 @@
--- A job and a block of its data as plain data. From the Weld papers.
+-- A job and a block of its data as plain data.
 use Rattle.std.specs.Prelude.{ℕ, Bool, List}
 use Rattle.weld_job.specs.declared.block.BlockForm.{BlockForm}
 

@@ -1,4 +1,4 @@
--- What reading a job does to the bytes that a source has left. By this project's profile.
+-- What reading a job does to the bytes that a source has left.
 use Rattle.std.specs.Prelude.{◌≡◌, ℕ, ◌≤◌, List, Option, length}
 use Rattle.std.specs.Io.KnownBytes.{Consumes}
 use Rattle.weld_job.specs.Job.{Job}

@@ -1,4 +1,4 @@
--- A job put together again from its parts. By this project's profile.
+-- A job put together again from its parts.
 use Rattle.std.specs.Prelude.{ℕ, List, [], ◌∷◌, ◌++◌, take, drop}
 use Rattle.std.specs.List.{concat, before_first, position_or_len, filter}
 use Rattle.weld_job.specs.Job.{Block}

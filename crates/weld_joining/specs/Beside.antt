@@ -1,5 +1,4 @@
--- Two neighbouring lets, each of a loop over one name or of the result of one, and the one loop that takes the place of both (this
--- project's profile).
+-- Two neighbouring lets, each of a loop over one name or of the result of one, and the one loop that takes the place of both.
 use Rattle.std.specs.Prelude.{◌≡◌, ℕ, Option, Some, None}
 use Rattle.weld_data.specs.declared.kind.Kind.TheVariants as kinds
 use Rattle.weld_tree.specs.declared.binder.Binder.{Binder}

@@ -1,5 +1,4 @@
--- Lets between two others: results of a name with field accesses, which may stand behind any `let` that doesn't use them (this
--- project's profile).
+-- Lets between two others: results of a name with field accesses, which may stand behind any `let` that doesn't use them.
 use Rattle.std.specs.Prelude.{ℕ, ◌==◌, if◌then◌else◌, Bool, true, false, ◌&&◌}
 use Rattle.weld_tree.specs.ExprTree.{ExprTree, one, let_in, finish}
 use Rattle.weld_substitution.specs.Redex.{is_chain}

@@ -1,4 +1,4 @@
--- What a library answers to a call (the Weld papers).
+-- What a library answers to a call.
 use Rattle.std.specs.Prelude.{◌≡◌, ℕ, List, [], ◌∷◌, ◌++◌, length, ⊤, Option, Some, None, Ok, Err}
 use Rattle.std.specs.declared.result.Result.{Result}
 use Rattle.weld_tree.specs.TypeTree.{TypeTree}

@@ -1,4 +1,4 @@
--- The rule on the arms of an `if`, by whatever builders stand before it (the Weld papers).
+-- The rule on the arms of an `if`, by whatever builders stand before it.
 use Rattle.std.specs.Prelude.{◌≡◌, ℕ}
 use Rattle.weld_tree.specs.ExprTree.{ExprTree}
 use Rattle.weld_meaning.specs.Environment.{Named}

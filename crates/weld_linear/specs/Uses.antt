@@ -1,4 +1,4 @@
--- How often a builder is used on a control path (the Weld papers).
+-- How often a builder is used on a control path.
 use Rattle.std.specs.Prelude.{◌≡◌, ◌⊎◌, ℕ, zero, suc, ◌+◌, ◌==◌, Bool, true, false, ◌∷◌, Option, Some, None}
 use Rattle.weld_tree.specs.ExprTree.{ExprTree, leaf, one, two, three, many, let_in, loop, iterate, ExprTrees, no_exprs, more_exprs, LegTree, whole, strided, LegTrees, no_legs, more_legs, Two, binary, and, or, look_up, key_exists, merge, Three, if_else, select, slice}
 use Rattle.weld_meaning.specs.Environment.{Named}

@@ -1,4 +1,4 @@
--- Programs that are accepted: they have a type and use builders linearly (the Weld papers).
+-- Programs that are accepted: they have a type and use builders linearly.
 use Rattle.std.specs.Prelude.{[]}
 use Rattle.weld_tree.specs.TypeTree.{TypeTree}
 use Rattle.weld_tree.specs.Program.{ProgramTree}

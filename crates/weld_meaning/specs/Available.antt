@@ -1,4 +1,4 @@
--- Which builders an expression takes, and that each is taken once on each control path (the Weld papers).
+-- Which builders an expression takes, and that each is taken once on each control path.
 use Rattle.std.specs.Prelude.{◌≡◌, ℕ, ◌==◌, if◌then◌else◌, Bool, true, false, ◌&&◌, ◌||◌, [], ◌∷◌, Option, Some, None, option_map}
 use Rattle.weld_tree.specs.ExprTree.{ExprTree, leaf, one, two, three, many, let_in, loop, iterate, ExprTrees, no_exprs, more_exprs, LegTree, whole, strided, LegTrees, no_legs, more_legs, Leaf, int, truth, chars, name, fresh, One, neg, not, cast, len, field, finish, started, Two, binary, and, or, look_up, key_exists, merge, Three, if_else, select, slice}
 use Rattle.weld_meaning.specs.Environment.{Named}

@@ -1,4 +1,4 @@
--- Evaluation of expressions, one element after another (the Weld papers; wrapping, faults and the limit on turns by this project's profile).
+-- Evaluation of expressions, one element after another (wrapping, faults and the limit on turns).
 use Rattle.std.specs.Prelude.{ℕ, zero, suc, ◌+◌, ◌-◌, ◌/◌, ◌%◌, ◌==◌, leb, Bool, true, false, not, ◌&&◌, if◌then◌else◌, ℤ, pos, negsuc, neg_ℤ, List, [], ◌∷◌, ◌++◌, map, take, drop, length, slice_get, Option, Some, None, is_some, option_map, option_to_list}
 use Rattle.std.specs.Ordering.{int_eq}
 use Rattle.weld_data.specs.declared.kind.Kind.{Kind}
@@ -221,7 +221,7 @@ abbrev pub turns : ℕ → Value → (Value → Outcome Value) → Outcome Value
 turns zero v f = fault
 turns (suc left) v f = and_then (f v) (λ w. next_turn w (λ state. turns left state f))
 
--- how many turns an `iterate` may take (this project's profile)
+-- how many turns an `iterate` may take
 unfoldable pub turn_limit : ℕ
 turn_limit = 1000000
 

@@ -1,5 +1,5 @@
 -- The rules of linear use: a builder is used once on each control path, and the body of a loop gives
--- its own builder back (the Weld papers). What the rules say of origins stands first.
+-- its own builder back. What the rules say of origins stands first.
 use Rattle.std.specs.Prelude.{◌≡◌, ◌∷◌}
 use Rattle.weld_tree.specs.ExprTree.{ExprTree, leaf, one, two, three, many, let_in, loop, iterate, ExprTrees, no_exprs, more_exprs, LegTree, whole, strided, LegTrees, no_legs, more_legs, Leaf, int, truth, chars, name, fresh, One, neg, not, cast, len, field, finish, started, Three, if_else, select, slice}
 use Rattle.weld_meaning.specs.Environment.{Named}

@@ -1,4 +1,4 @@
--- The first refusal of the rules of linear use, in the order of evaluation (this project's profile).
+-- The first refusal of the rules of linear use, in the order of evaluation.
 use Rattle.std.specs.Prelude.{ℕ, zero, suc, ◌==◌, if◌then◌else◌, Bool, true, false, not, ◌&&◌, ◌||◌, List, [], ◌∷◌, ◌++◌, map, Option, Some, None}
 use Rattle.weld_tree.specs.declared.code.Code.{Code}
 use Rattle.weld_tree.specs.declared.code.Code.TheVariants.{L1, L2, L3, L4, L5, L6}

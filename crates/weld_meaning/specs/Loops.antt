@@ -1,4 +1,4 @@
--- The loops of a program, and the law of loops: a loop is its parts joined in order (the Weld papers).
+-- The loops of a program, and the law of loops: a loop is its parts joined in order.
 use Rattle.std.specs.Prelude.{◌≡◌, ◌⊎◌, ℕ, ◌+◌, List, [], ◌∷◌, ◌++◌}
 use Rattle.weld_tree.specs.declared.binder.Binder.{Binder}
 use Rattle.weld_tree.specs.TypeTree.{TypeTree, TypeTrees}

@@ -1,4 +1,4 @@
--- What a program means on arguments (the Weld papers).
+-- What a program means on arguments.
 use Rattle.std.specs.Prelude.{List, [], ◌∷◌}
 use Rattle.weld_data.specs.Value.{Value}
 use Rattle.weld_tree.specs.declared.binder.Binder.{Binder}

@@ -1,4 +1,4 @@
--- The names that occur free, and answers apart from why there is none (the Weld papers).
+-- The names that occur free, and answers apart from why there is none.
 use Rattle.std.specs.Prelude.{◌≡◌, ◌≢◌, ◌⊎◌, ℕ, ◌==◌, if◌then◌else◌, Option, Some, None}
 use Rattle.weld_tree.specs.ExprTree.{At, ExprTree, leaf, one, two, three, many, let_in, loop, iterate, ExprTrees, no_exprs, more_exprs, LegTree, whole, strided, LegTrees, no_legs, more_legs, Leaf, int, truth, chars, name, fresh}
 use Rattle.weld_builders.specs.Outcome.{Outcome, done, fault, stuck}

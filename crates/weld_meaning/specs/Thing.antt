@@ -4,7 +4,7 @@ use Rattle.weld_data.specs.Value.{Value, number, list, struct, dict, Values, no_
 use Rattle.weld_builders.specs.Outcome.{Outcome, done, fault, stuck, and_then, map_out}
 use Rattle.weld_builders.specs.Part.{Part, bare, after_part}
 
--- a value, a builder, or a struct of builders (the Weld papers); a struct of values is a value
+-- a value, a builder, or a struct of builders; a struct of values is a value
 mutual
   pub data Thing : Type 0 where
     plain : Value → Thing

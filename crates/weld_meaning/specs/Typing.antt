@@ -1,4 +1,4 @@
--- Which types expressions have (the Weld papers; which of them by this project's profile). The tables read like the rules.
+-- Which types expressions have. The tables read like the rules.
 use Rattle.std.specs.Prelude.{◌≡◌, ◌⊎◌, ℕ, zero, suc, List, [], ◌∷◌, Option, Some, None}
 use Rattle.weld_data.specs.declared.kind.Kind.{Kind}
 use Rattle.weld_data.specs.declared.kind.Kind.TheVariants as kinds

@@ -1,4 +1,4 @@
--- When a call isn't added, and what it is refused for (this project's profile).
+-- When a call isn't added, and what it is refused for.
 use Rattle.std.specs.Prelude.{◌≡◌, ◌≢◌, ℕ, zero, suc, List, [], ◌∷◌, length, Option, Some, None}
 use Rattle.weld_tree.specs.declared.binder.Binder.{Binder}
 use Rattle.weld_tree.specs.TypeTree.{TypeTree}

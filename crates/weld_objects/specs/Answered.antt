@@ -1,4 +1,4 @@
--- The type of an expression that has one, found by going only where it is decided (this project's profile).
+-- The type of an expression that has one, found by going only where it is decided.
 use Rattle.std.specs.Prelude.{ℕ, zero, suc, ◌∷◌, Option, Some, None}
 use Rattle.weld_data.specs.declared.kind.Kind.TheVariants as kinds
 use Rattle.weld_data.specs.declared.op.BinOp.{BinOp}

@@ -1,4 +1,4 @@
--- The one program that objects are lowered to (this project's profile).
+-- The one program that objects are lowered to.
 use Rattle.std.specs.Prelude.{ℕ, suc, ◌+◌, ◌<◌, ◌==◌, Bool, if◌then◌else◌, List, [], ◌∷◌, map, length, Option, Some, None}
 use Rattle.weld_data.specs.Value.{Value, struct, values}
 use Rattle.weld_tree.specs.declared.binder.Binder.{Binder}

@@ -1,4 +1,4 @@
--- Objects that wait: values, and calls of programs on objects before them (this project's profile).
+-- Objects that wait: values, and calls of programs on objects before them.
 use Rattle.std.specs.Prelude.{◌≡◌, ℕ, suc, ◌==◌, if◌then◌else◌, List, [], ◌∷◌, map, Option, Some, None, option_map, slice_get, ◌<◌}
 use Rattle.weld_data.specs.Value.{Value}
 use Rattle.weld_tree.specs.declared.binder.Binder.{Binder}

@@ -1,4 +1,4 @@
--- Which objects are reached from those that are shown (this project's profile).
+-- Which objects are reached from those that are shown.
 use Rattle.std.specs.Prelude.{ℕ, suc, ◌==◌, ◌||◌, Bool, false, if◌then◌else◌, List, [], ◌∷◌, Option, Some, None, slice_get}
 use Rattle.weld_tree.specs.Program.{IsOneOf}
 use Rattle.weld_objects.specs.Objects.{Object, given, call}

@@ -1,4 +1,4 @@
--- What the grammar finds in the tokens of a text (the Weld papers).
+-- What the grammar finds in the tokens of a text.
 use Rattle.std.specs.Prelude.{◌≡◌, ℕ, zero, suc, false, List, [], ◌∷◌, Some, None}
 use Rattle.weld_tree.specs.declared.place.Place.{Place}
 use Rattle.weld_grammar.specs.declared.terminals.token.Token.{Token}

@@ -1,4 +1,4 @@
--- Which program a text is, or which rule refuses it first (the Weld papers).
+-- Which program a text is, or which rule refuses it first.
 use Rattle.std.specs.Prelude.{◌≡◌, ℕ, true, false, List, Some, None}
 use Rattle.weld_tree.specs.declared.place.Place.{Place}
 use Rattle.weld_tree.specs.declared.code.Code.TheVariants.{X1, M2}

@@ -24,8 +24,7 @@ pub enum Unread {
     Memory,
 }
 
-/// The program that tokens spell, each of which has the class of its bytes, with the first of its names that is refused
-/// (the Weld papers). There are fewer tokens than binders have numbers.
+/// The program that tokens spell, each of which has the class of its bytes, with the first of its names that is refused. There are fewer tokens than binders have numbers.
 pub fn read_program(alloc: Global, tokens: &[Token]) -> Result<Read, Unread>
     requires classes { AreOfTheirClasses tokens.now }
     requires few { length tokens.now < 4294967296 }

@@ -19,8 +19,8 @@ use weld_tokens::{end_of, first_refusal, has_too_many_bytes, has_too_many_tokens
 use weld_tree::{Code, Program, Refusal};
 
 /// The program that a text spells, its binders numbered in the order of the text. The text is refused by the first rule
-/// that speaks, with its place where it has one: M2; X1; M3; X2; X3; M4 to M9; N1 and N2, the first in the text (the Weld
-/// papers, with the limits of this project's profile). Only want of memory may come in place of that.
+/// that speaks, with its place where it has one: M2; X1; M3; X2; X3; M4 to M9; N1 and N2, the first in the text (with
+/// the limits). Only want of memory may come in place of that.
 pub fn parse(alloc: Global, text: &[u8]) -> Result<Program, Refusal>
     ensures program { IfOk result (λ program. Parses text.now program) }
     ensures refused { IfErr result (λ refusal. refusal ≢ Refusal.Memory → IsRefused text.now refusal) }

@@ -31,10 +31,10 @@ all_rules = either lets_rule (either guards_rule (either loops_rule (either doub
 abbrev pub optimised_body : ℕ → ExprTree → ExprTree
 optimised_body n e = swept_times n all_rules (chain_fused e)
 
--- nothing stands in the program that a pass would rewrite (the Weld papers, as far as this project goes): no `let` that can be
--- put in place, no guarded merge that can be merged always, no loop over what another loop makes row by row, no such list on a leg
--- of a `zip`, no leg that stands twice in one loop, and no two lets of loops over one name or of their results with none but
--- results of names between them
+-- nothing stands in the program that a pass would rewrite (as far as this project goes): no `let` that can be put in
+-- place, no guarded merge that can be merged always, no loop over what another loop makes row by row, no such list on a
+-- leg of a `zip`, no leg that stands twice in one loop, and no two lets of loops over one name or of their results with
+-- none but results of names between them
 pub record IsNormal (q : ProgramTree) : Type 0 where
   pub no_let : HasNoSuchLet q.body
   pub no_guard : HasNoGuard q.body

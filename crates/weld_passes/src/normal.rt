@@ -4,10 +4,10 @@ ghost use Rattle.weld_passes.specs.Normal.{IsNormal};
 use std::marker::Model;
 use weld_meaning::Accepted;
 
-/// An accepted program in normal form: nothing stands in it that a pass would rewrite (the Weld papers, as
-/// far as this project goes). Contracts see it as its program, and whoever makes one shows that
-/// `IsNormal` holds of it. Its marks, which loops are of the sized form and which of the lane form, are
-/// questions about each loop's node (`weld_sizes`), and so nothing that it has to keep.
+/// An accepted program in normal form: nothing stands in it that a pass would rewrite (as far as this
+/// project goes). Contracts see it as its program, and whoever makes one shows that `IsNormal` holds of
+/// it. Its marks, which loops are of the sized form and which of the lane form, are questions about
+/// each loop's node (`weld_sizes`), and so nothing that it has to keep.
 #[derive(Drop)]
 pub struct Normal {
     pub program: Accepted,

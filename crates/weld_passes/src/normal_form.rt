@@ -27,14 +27,14 @@ use weld_rewriting::rounds::sweep_until_still;
 use weld_tree::{Expr, Program};
 use weld_vertical::{Loops, fuse_chain};
 
-/// The program in normal form (the Weld papers, as far as this project goes): no `let` stands in it
-/// that can be put in place, no guarded merge that can be merged always, no loop over what another
-/// loop makes row by row, no such list on a leg of a `zip`, no leg that stands twice in one loop, and no
-/// two lets of loops over one name or of their results with none but results of names between them. It
-/// means the same on all arguments that fit, faults included, and has no more legs and loops; where it
-/// was a chain of loops, each but the first is gone; and where some text spelled it, noted types apart,
-/// its printed text spells it. It asks for a program whose nodes have their types noted, as the checker
-/// leaves it. It fails for want of memory alone, and the program is spent then.
+/// The program in normal form (as far as this project goes): no `let` stands in it that can be put in
+/// place, no guarded merge that can be merged always, no loop over what another loop makes row by row,
+/// no such list on a leg of a `zip`, no leg that stands twice in one loop, and no two lets of loops over
+/// one name or of their results with none but results of names between them. It means the same on all
+/// arguments that fit, faults included, and has no more legs and loops; where it was a chain of loops,
+/// each but the first is gone; and where some text spelled it, noted types apart, its printed text
+/// spells it. It asks for a program whose nodes have their types noted, as the checker leaves it. It
+/// fails for want of memory alone, and the program is spent then.
 pub fn optimise(alloc: Global, p: Accepted) -> Result<Normal, AllocError>
     requires { ProgramIsNoted p }
     ensures optimised { IfOk result (λ q. IsOptimised q p) }

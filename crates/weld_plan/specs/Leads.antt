@@ -1,4 +1,4 @@
--- What the steps of a plan come to (this project's profile).
+-- What the steps of a plan come to.
 use Rattle.std.specs.Prelude.{◌≡◌, ℕ, zero, suc, Bool, true, false, not, if◌then◌else◌, List, [], ◌∷◌, ◌++◌}
 use Rattle.weld_data.specs.Value.{Value}
 use Rattle.weld_tree.specs.ExprTree.{ExprTree, loop, LegTrees, no_legs, more_legs, Two, binary, and, or, look_up, key_exists, merge}

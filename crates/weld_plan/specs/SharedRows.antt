@@ -1,4 +1,4 @@
--- The rows of the shared loops that an evaluation comes to (this project's profile). A loop is shared where it stands in no
+-- The rows of the shared loops that an evaluation comes to. A loop is shared where it stands in no
 -- lambda but the program's own, so each is evaluated once at most.
 use Rattle.std.specs.Prelude.{ℕ, Bool, if◌then◌else◌, List, [], ◌∷◌, ◌++◌, length}
 use Rattle.weld_data.specs.Value.{Value}

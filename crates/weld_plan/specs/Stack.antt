@@ -1,4 +1,4 @@
--- What the steps that work on the stack alone make of it (this project's profile).
+-- What the steps that work on the stack alone make of it.
 use Rattle.std.specs.Prelude.{ℕ, zero, suc}
 use Rattle.weld_data.specs.Value.{list, values}
 use Rattle.weld_tree.specs.ExprTree.{One, Two, Three, Many}

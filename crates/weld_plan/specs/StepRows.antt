@@ -1,4 +1,4 @@
--- The rows of the shared loops that steps come to (this project's profile).
+-- The rows of the shared loops that steps come to.
 use Rattle.std.specs.Prelude.{ℕ, zero, suc, Bool, if◌then◌else◌, List, [], ◌∷◌, ◌++◌, drop, length}
 use Rattle.weld_builders.specs.Outcome.{Outcome, and_then}
 use Rattle.weld_meaning.specs.Thing.{plain, Things, more_things, first_of, rest_of, as_value}

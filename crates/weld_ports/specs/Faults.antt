@@ -1,4 +1,4 @@
--- What the failures of a source or a sink say, by this project's profile.
+-- What the failures of a source or a sink say.
 use Rattle.std.specs.Prelude.{◌≡◌, ℕ, ◌+◌, ◌-◌, ◌^◌, ◌≤◌, List, Option, length, min, IfSome}
 
 -- The count of failures rose. One that stands at its type's last value counts as risen.

@@ -1,4 +1,4 @@
--- Sources and sinks over memory, as contracts see them, by this project's profile.
+-- Sources and sinks over memory, as contracts see them.
 use Rattle.std.specs.Prelude.{ℕ, ◌+◌, ◌-◌, ◌^◌, ◌==◌, min, Bool, List}
 use Rattle.std.specs.List.{list_any}
 

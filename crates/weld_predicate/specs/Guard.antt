@@ -1,5 +1,5 @@
--- Guarded merges: an `if` that merges a number or a struct of numbers or leaves the builder, and the merge that takes its
--- place (this project's profile): `if(c, merge(b, v), b)` becomes `merge(b, select(c, v, n))`, n being the neutral value.
+-- Guarded merges: an `if` that merges a number or a struct of numbers or leaves the builder, and the merge that takes
+-- its place: `if(c, merge(b, v), b)` becomes `merge(b, select(c, v, n))`, n being the neutral value.
 use Rattle.std.specs.Prelude.{ℕ, ◌==◌, if◌then◌else◌, Bool, true, false, ◌&&◌, ◌||◌, Option, Some, None}
 use Rattle.weld_data.specs.declared.op.MergeOp.{MergeOp}
 use Rattle.weld_tree.specs.declared.known.Known.{Known}

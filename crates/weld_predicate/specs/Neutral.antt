@@ -1,4 +1,4 @@
--- The neutral value of an operator, as an expression (the Weld papers; which literals a text has, by this project's profile).
+-- The neutral value of an operator, as an expression (which literals a text has).
 use Rattle.std.specs.Prelude.{ℤ, pos, negsuc, false}
 use Rattle.weld_data.specs.declared.kind.Kind.{Kind}
 use Rattle.weld_data.specs.declared.kind.Kind.TheVariants.{Bool, I8, I16, I32, I64, U8, U16, U32, U64}

@@ -1,4 +1,4 @@
--- Which operands stand in parentheses (the Weld papers).
+-- Which operands stand in parentheses.
 use Rattle.std.specs.Prelude.{Bool, true, false, not, ◌||◌, pos, int_lt}
 use Rattle.weld_tree.specs.ExprTree.{ExprTree, leaf, one, two, three, many, let_in, loop, iterate, Leaf, int, truth, chars, name, fresh, One, neg, not as bang, cast, len, field, finish, started, Two, binary, and, or, look_up, key_exists, merge}
 

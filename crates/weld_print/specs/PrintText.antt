@@ -1,4 +1,4 @@
--- The one printed spelling of a program (the Weld papers).
+-- The one printed spelling of a program.
 use Rattle.std.specs.Prelude.{◌≡◌, ℕ, Bool, if◌then◌else◌, Option, Some, None, List, [], ◌∷◌, ◌++◌, codes}
 use Rattle.std.specs.Fmt.{decimal, signed_decimal}
 use Rattle.weld_data.specs.declared.kind.Kind.{Kind}

@@ -8,7 +8,7 @@ use Rattle.weld_tree.specs.Program.{ProgramTree}
 use Rattle.weld_tree.specs.TypeTree.{TypeTree, BuildTree, TypeTrees, scalar, vec, struct, dict, build, list, total, keyed, cells, groups, no_types, more_types}
 use Rattle.weld_tree.specs.Types.{HasTypes}
 
--- no struct in the type is empty (this project's profile)
+-- no struct in the type is empty
 abbrev mutual
   pub HasNoEmptyStruct : TypeTree → Type 0
   HasNoEmptyStruct (scalar k) = Unit {0}
@@ -67,7 +67,7 @@ abbrev pub NoteIsSpellable : Option TypeTree → Type 0
 NoteIsSpellable None = Unit {0}
 NoteIsSpellable (Some t) = HasNoEmptyStruct t
 
--- a text can spell every part of it, where each node is well made and each name is bound (this project's profile)
+-- a text can spell every part of it, where each node is well made and each name is bound
 abbrev mutual
   pub IsSpellable : ExprTree → Type 0
   IsSpellable (leaf a l) = LeafIsSpellable l

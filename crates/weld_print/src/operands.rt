@@ -50,7 +50,7 @@ fn is_binary(form: TwoForm) -> bool
     matches!(form, TwoForm::Binary(_) | TwoForm::And | TwoForm::Or)
 }
 
-/// Whether an operand of a binary operator, of `!` or of `.` stands in parentheses (the Weld papers).
+/// Whether an operand of a binary operator, of `!` or of `.` stands in parentheses.
 pub fn in_parens(e: &Expr) -> bool
     ensures { result ≡ operands.in_parens e.now }
 {
@@ -74,7 +74,7 @@ fn is_natural_or_field(e: &Expr) -> bool
     }
 }
 
-/// Whether the operand of a `-` stands in parentheses (the Weld papers).
+/// Whether the operand of a `-` stands in parentheses.
 pub fn in_parens_behind_minus(e: &Expr) -> bool
     ensures { result ≡ operands.in_parens_behind_minus e.now }
 {

@@ -18,7 +18,7 @@ use weld_tree::{
     Binder, Expr, Exprs, Form, Leg, Legs, ManyForm, OneForm, Program, ThreeForm, TwoForm,
 };
 
-/// The text of a program, as the one printed spelling has it (the Weld papers). It fails for want of memory alone.
+/// The text of a program, as the one printed spelling has it. It fails for want of memory alone.
 pub fn print(alloc: Global, program: &Program) -> Result<Text, AllocError>
     ensures { IfOk result (Print program.now) }
 {

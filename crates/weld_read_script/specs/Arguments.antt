@@ -1,4 +1,4 @@
--- The arguments of a call of a script, by their tokens (this project's profile).
+-- The arguments of a call of a script, by their tokens.
 use Rattle.std.specs.Prelude.{Bool, true, false, ◌&&◌, if◌then◌else◌, List, [], ◌∷◌, Option, Some, None, pos}
 use Rattle.weld_data.specs.declared.kind.Kind.{Kind}
 use Rattle.weld_data.specs.declared.kind.Kind.TheVariants as kinds

@@ -1,4 +1,4 @@
--- The calls of the two libraries by their words in scripts (this project's profile).
+-- The calls of the two libraries by their words in scripts.
 use Rattle.std.specs.Prelude.{ℕ, if◌then◌else◌, List, [], ◌∷◌, codes, Option, Some, None}
 use Rattle.std.specs.Str.{bytes_eq}
 use Rattle.weld_data.specs.declared.op.BinOp.{BinOp}

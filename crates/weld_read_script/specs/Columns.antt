@@ -1,4 +1,4 @@
--- The columns of a table that a script declares, by their tokens (this project's profile).
+-- The columns of a table that a script declares, by their tokens.
 use Rattle.std.specs.Prelude.{◌≡◌, ℕ, if◌then◌else◌, List, [], ◌∷◌, Option, Some, None, option_map, MatchOption, MatchBool}
 use Rattle.weld_grammar.specs.declared.terminals.token.Token.{Token}
 use Rattle.weld_grammar.specs.declared.terminals.symbol.Symbol.TheVariants.{Colon}

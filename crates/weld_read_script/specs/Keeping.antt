@@ -1,4 +1,4 @@
--- What is always known of the objects and names of a script that is being read (this project's profile).
+-- What is always known of the objects and names of a script that is being read.
 use Rattle.std.specs.Prelude.{◌≡◌, ◌<◌, ◌≤◌, ◌+◌, ◌*◌, [], length}
 use Rattle.std.specs.List.{AllByRecursion}
 use Rattle.weld_script.specs.Script.{AreMade, AreBelow, made_types, declared_of, calls_of}

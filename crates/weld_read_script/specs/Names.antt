@@ -1,4 +1,4 @@
--- Names that lines of a script bind, and arguments with the objects in the names' place (this project's profile).
+-- Names that lines of a script bind, and arguments with the objects in the names' place.
 use Rattle.std.specs.Prelude.{ℕ, if◌then◌else◌, List, [], ◌∷◌, Option, Some, None, option_map}
 use Rattle.std.specs.Str.{bytes_eq}
 use Rattle.weld_read_script.specs.declared.statements.statement.Argument.{Argument}

@@ -1,4 +1,4 @@
--- The parts of a line of a script, by its tokens (this project's profile).
+-- The parts of a line of a script, by its tokens.
 use Rattle.std.specs.Prelude.{◌≡◌, ℕ, Bool, ◌||◌, if◌then◌else◌, List, [], ◌∷◌, Option, Some, None, option_map, MatchOption, MatchBool}
 use Rattle.std.specs.List.{slice_split}
 use Rattle.weld_grammar.specs.declared.terminals.class.Class.{Class}

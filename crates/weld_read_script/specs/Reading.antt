@@ -1,4 +1,4 @@
--- Which script a text is, or the first line that is refused, with its code (this project's profile).
+-- Which script a text is, or the first line that is refused, with its code.
 use Rattle.std.specs.Prelude.{◌≡◌, ◌==◌, ℕ, suc, if◌then◌else◌, List, [], ◌∷◌, length, Result, Ok, Err, MatchResult, true, false}
 use Rattle.std.specs.List.{slice_split}
 use Rattle.weld_tree.specs.declared.code.Code.{Code}

@@ -1,4 +1,4 @@
--- What a line of a call asks for (this project's profile).
+-- What a line of a call asks for.
 use Rattle.std.specs.Prelude.{◌==◌, if◌then◌else◌, List, [], ◌∷◌, length, Option, Some, None, option_map, option_and_then}
 use Rattle.weld_calls.specs.declared.call.Call.{Call}
 use Rattle.weld_calls.specs.declared.call.Call.TheVariants as calls

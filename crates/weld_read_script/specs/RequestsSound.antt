@@ -1,4 +1,4 @@
--- What is known of what a line of a call asks for (this project's profile).
+-- What is known of what a line of a call asks for.
 use Rattle.std.specs.Prelude.{◌≡◌, ◌<◌, ℕ, length}
 use Rattle.std.specs.List.{AllByRecursion}
 use Rattle.weld_data.specs.Kind.{InRange}

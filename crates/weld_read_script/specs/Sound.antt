@@ -1,4 +1,4 @@
--- What is known of every statement that a line is (this project's profile).
+-- What is known of every statement that a line is.
 use Rattle.std.specs.Prelude.{◌≡◌, ◌<◌, length}
 use Rattle.std.specs.List.{All, AllByRecursion}
 use Rattle.weld_data.specs.Kind.{InRange}

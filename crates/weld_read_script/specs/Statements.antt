@@ -1,4 +1,4 @@
--- What a line of a script says (this project's profile).
+-- What a line of a script says.
 use Rattle.std.specs.Prelude.{◌≡◌, ◌<◌, ◌⊎◌, ℕ, Bool, ◌&&◌, if◌then◌else◌, nat_lt, List, [], ◌∷◌, length, codes, Option, Some, None, option_map, option_and_then, MatchOption, MatchBool}
 use Rattle.std.specs.Str.{bytes_eq}
 use Rattle.weld_tree.specs.declared.place.Place.{Place}

@@ -1,4 +1,4 @@
--- What is known behind some lines of a script, and what a statement makes of it (this project's profile).
+-- What is known behind some lines of a script, and what a statement makes of it.
 use Rattle.std.specs.Prelude.{◌≡◌, ℕ, suc, ◌+◌, ◌==◌, Bool, false, ◌||◌, if◌then◌else◌, nat_lt, List, [], ◌∷◌, ◌++◌, length, take, Option, Some, None, option_map, Result, Ok, Err}
 use Rattle.std.specs.Option.{is_some}
 use Rattle.std.specs.List.{slice_get}

@@ -66,13 +66,13 @@ fn read_lines(alloc: Global, lines: &[&[u8]]) -> Result<Script, ScriptFault>
     finish(known, number)
 }
 
-/// Reads a script of library calls (this project's profile): the objects that its lines make, in order, and
-/// those that it shows. It is refused with `Size` where the text has more than 262,144 bytes (M2), and else at
-/// the first line, from 1, that breaks a rule: S1 where the line has none of the forms, S2 where a name is
-/// bound a second time, S3 where a name isn't bound, S4 where there is no such library or call, S5 where the
-/// arguments have a wrong number or form, S6 where the types don't fit the call, S8 where there are too many
-/// calls, declarations or shown names; of those at one line the lower number comes. S7 comes at the text's
-/// end, where nothing was shown. `Memory` comes for want of memory alone.
+/// Reads a script of library calls: the objects that its lines make, in order, and those that it shows. It is
+/// refused with `Size` where the text has more than 262,144 bytes (M2), and else at the first line, from 1,
+/// that breaks a rule: S1 where the line has none of the forms, S2 where a name is bound a second time, S3
+/// where a name isn't bound, S4 where there is no such library or call, S5 where the arguments have a wrong
+/// number or form, S6 where the types don't fit the call, S8 where there are too many calls, declarations or
+/// shown names; of those at one line the lower number comes. S7 comes at the text's end, where nothing was
+/// shown. `Memory` comes for want of memory alone.
 pub fn read_script(alloc: Global, text: &[u8]) -> Result<Script, ScriptFault>
     ensures { plain.IsRead text.now result }
 {

@@ -1,4 +1,4 @@
--- What lies on the stack behind a rule that binds no names, from what lay on it before (the Weld papers); none where it isn't of the
+-- What lies on the stack behind a rule that binds no names, from what lay on it before; none where it isn't of the
 -- rule's form, or where a number is out of its range.
 use Rattle.std.specs.Prelude.{ℕ, Bool, true, false, if◌then◌else◌, Option, Some, None, option_and_then, List, [], ◌∷◌, ◌++◌}
 use Rattle.weld_data.specs.declared.kind.Kind.{Kind}

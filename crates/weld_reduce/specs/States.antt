@@ -1,5 +1,5 @@
--- The machine that spells a program: a stack of values, the binders that are open, the names in scope, the number of the next
--- binder, the first name refused, and the parameters (the Weld papers).
+-- The machine that spells a program: a stack of values, the binders that are open, the names in scope, the number of
+-- the next binder, the first name refused, and the parameters.
 use Rattle.std.specs.Prelude.{ℕ, ◌+◌, true, false, Option, Some, None, option_and_then, List, [], ◌∷◌, ◌++◌}
 use Rattle.weld_grammar.specs.declared.terminals.symbol.Symbol.TheVariants as s
 use Rattle.weld_grammar.specs.declared.terminals.reserved.Reserved.TheVariants as w

@@ -17,7 +17,7 @@ use weld_spell::programs::numbers_by_the_tree;
 use weld_tree::{Binders, Code, Expr, Place};
 
 /// A program as its tokens spell it: its parameters, its body, and the first of its names that is refused: with N1
-/// where no binder in scope bears it, with N2 where a reserved word stands in the place of a name (the Weld papers).
+/// where no binder in scope bears it, with N2 where a reserved word stands in the place of a name.
 #[derive(Drop)]
 pub struct Read {
     pub params: Binders,

@@ -7,6 +7,6 @@ abbrev pub first_of : Option ExprTree → Option ExprTree → Option ExprTree
 first_of (Some d) o = Some d
 first_of None o = o
 
--- the first rule where it matches, else the second (this project's profile)
+-- the first rule where it matches, else the second
 abbrev pub either : RootRule → RootRule → RootRule
 either r s e = first_of (r e) (s e)

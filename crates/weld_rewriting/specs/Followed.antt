@@ -8,6 +8,6 @@ abbrev pub settled_times : ℕ → RootRule → ExprTree → ExprTree
 settled_times zero r e = e
 settled_times (suc n) r e = settled_times n r (settled r e)
 
--- the first rule, and where it matches, the second tried at its answer, so many times (this project's profile)
+-- the first rule, and where it matches, the second tried at its answer, so many times
 abbrev pub followed : ℕ → RootRule → RootRule → RootRule
 followed n r s e = option_map (settled_times n s) (r e)

@@ -3,7 +3,7 @@ use Rattle.std.specs.Prelude.{◌≡◌, ℕ, zero, suc, Bool, false, ◌||◌, 
 use Rattle.weld_tree.specs.ExprTree.{ExprTree, leaf, one, two, three, many, let_in, loop, iterate, ExprTrees, no_exprs, more_exprs, LegTree, whole, strided, LegTrees, no_legs, more_legs}
 use Rattle.weld_rewriting.specs.Nodes.{EachNode}
 
--- what takes the place of a node, where the rule matches it (this project's profile)
+-- what takes the place of a node, where the rule matches it
 abbrev pub RootRule : Type 0
 RootRule = ExprTree → Option ExprTree
 

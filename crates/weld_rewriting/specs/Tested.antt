@@ -6,7 +6,7 @@ use Rattle.weld_rewriting.specs.Tidy.{IsTidy}
 use Rattle.weld_rewriting.specs.Weight.{weight}
 use Rattle.weld_rewriting.specs.Sweep.{RootRule}
 
--- the rule that matches where the test holds (this project's profile)
+-- the rule that matches where the test holds
 abbrev pub tested : (ExprTree → Bool) → (ExprTree → ExprTree) → RootRule
 tested test answer e = if test e then Some (answer e) else None
 

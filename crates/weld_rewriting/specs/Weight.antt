@@ -8,7 +8,7 @@ choice_weight select = 0
 choice_weight slice = 0
 
 abbrev mutual
-  -- a `let` weighs 1, an `if` 1, a leg 2, a loop 8 (this project's profile): so that each pass of this project makes lighter
+  -- a `let` weighs 1, an `if` 1, a leg 2, a loop 8: so that each pass of this project makes lighter
   -- what it rewrites
   pub weight : ExprTree → ℕ
   weight (leaf a l) = 0

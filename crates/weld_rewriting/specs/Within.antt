@@ -11,7 +11,7 @@ times [] s = 0
 times (t ∷ ts) s = (if s == t then 1 else 0) + times ts s
 
 abbrev mutual
-  -- how many legs the loops in an expression have in all (this project's profile)
+  -- how many legs the loops in an expression have in all
   pub legs : ExprTree → ℕ
   legs (leaf a l) = 0
   legs (one a o e) = legs e

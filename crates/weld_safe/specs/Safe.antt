@@ -1,4 +1,4 @@
--- Safe expressions: in them nothing stands that can fault (the Weld papers).
+-- Safe expressions: in them nothing stands that can fault.
 use Rattle.weld_data.specs.declared.op.BinOp.{BinOp}
 use Rattle.weld_data.specs.declared.op.BinOp.TheVariants as op
 use Rattle.weld_tree.specs.declared.known.Known.{Known}

@@ -11,9 +11,9 @@ use weld_data::BinOp;
 use weld_tree::{BuildTy, Expr, Exprs, Form, Known, Leg, Legs, ThreeForm, TwoForm, Ty, TyForm};
 
 /// Whether none of `/`, `%`, `lookup`, `slice`, `iter`, `zip`, `iterate` and a merge into a
-/// `vecmerger` stands in the expression (the Weld papers); the type noted at a merge tells into
-/// what it merges, and without a note it counts as one into a `vecmerger`. Where its nodes have
-/// their types noted, such an expression has a value. It takes no memory.
+/// `vecmerger` stands in the expression; the type noted at a merge tells into what it merges, and
+/// without a note it counts as one into a `vecmerger`. Where its nodes have their types noted, such
+/// an expression has a value. It takes no memory.
 #[tactic(auto, using(crate::proofs::Decided::safe_at_test))]
 pub fn never_faults(e: &Expr) -> bool
     ensures safe { Decides result (IsSafe e.now) }

@@ -1,4 +1,4 @@
--- Scripts of library calls: objects that are made one after another (this project's profile).
+-- Scripts of library calls: objects that are made one after another.
 use Rattle.std.specs.Prelude.{◌≡◌, ◌<◌, ◌≤◌, ℕ, List, [], ◌∷◌, ◌++◌, map, length}
 use Rattle.std.specs.List.{All}
 use Rattle.weld_data.specs.Kind.{InRange}

@@ -1,4 +1,4 @@
--- The table that is made from a number, and the fixed script on it (this project's profile).
+-- The table that is made from a number, and the fixed script on it.
 use Rattle.std.specs.Prelude.{ℕ, zero, suc, ◌+◌, ◌*◌, ◌/◌, ◌%◌, pos, List, [], ◌∷◌, ◌++◌, map}
 use Rattle.weld_data.specs.declared.kind.Kind.TheVariants.{I64}
 use Rattle.weld_data.specs.declared.op.BinOp.TheVariants as ops

@@ -1,4 +1,4 @@
--- What a script answers on the values of its declarations: call by call, by plain lists (the Weld papers).
+-- What a script answers on the values of its declarations: call by call, by plain lists.
 use Rattle.std.specs.Prelude.{◌≡◌, ℕ, suc, ◌+◌, ◌||◌, Bool, if◌then◌else◌, List, [], ◌∷◌, ◌++◌, map, length, Option, Some, None, slice_get}
 use Rattle.weld_data.specs.Value.{Value, number, struct, values}
 use Rattle.weld_tree.specs.TypeTree.{TypeTree, struct as struct_type, pack}

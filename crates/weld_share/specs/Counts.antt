@@ -1,4 +1,4 @@
--- What a run counts (this project's profile).
+-- What a run counts.
 use Rattle.std.specs.Prelude.{◌≡◌, ℕ, ◌+◌, List, [], ◌∷◌, length}
 use Rattle.std.specs.List.{sum}
 use Rattle.weld_data.specs.Value.{Value}

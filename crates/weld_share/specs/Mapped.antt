@@ -1,4 +1,4 @@
--- What the stretches of a loop answer that are run apart (this project's profile).
+-- What the stretches of a loop answer that are run apart.
 use Rattle.std.specs.Prelude.{◌≡◌, ◌+◌, ℕ, List, [], ◌∷◌, Result, Ok, Err}
 use Rattle.weld_data.specs.declared.stop.Stop.{Stop}
 use Rattle.weld_data.specs.declared.stop.Stop.TheVariants.{Fault, Memory}

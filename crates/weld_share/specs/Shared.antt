@@ -1,4 +1,4 @@
--- Stretches that are shared: what one worker makes of some that follow one another (this project's profile).
+-- Stretches that are shared: what one worker makes of some that follow one another.
 use Rattle.std.specs.Prelude.{◌≡◌, ℕ, zero, suc, ◌≤◌, List, [], ◌∷◌, ◌++◌, length}
 use Rattle.weld_meaning.specs.Thing.{Thing}
 use Rattle.weld_acts.specs.Ranges.{HoldsRange, IsAction}

@@ -1,4 +1,4 @@
--- Neighbouring tiles that are run into one part (this project's profile).
+-- Neighbouring tiles that are run into one part.
 use Rattle.std.specs.Prelude.{◌≡◌, ◌≤◌, ◌+◌, ℕ, List, [], ◌∷◌}
 use Rattle.weld_tiles.specs.Tiling.{Follows, IsRun}
 use Rattle.weld_share.specs.declared.stretch.Stretch.{Stretch}

@@ -1,4 +1,4 @@
--- Loops whose rows are worked out side by side: plain arithmetic on numbers of one kind (the Weld papers).
+-- Loops whose rows are worked out side by side: plain arithmetic on numbers of one kind.
 use Rattle.std.specs.Prelude.{ℕ, ◌==◌, if◌then◌else◌, Bool, true, false, ◌&&◌, ◌||◌, List, [], ◌∷◌}
 use Rattle.weld_data.specs.declared.kind.Kind.{Kind}
 use Rattle.weld_data.specs.declared.kind.Kind.TheVariants as kinds

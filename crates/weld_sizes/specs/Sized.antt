@@ -1,4 +1,4 @@
--- Loops that append to one list once a row, so that the list has as many items as there are rows (the Weld papers).
+-- Loops that append to one list once a row, so that the list has as many items as there are rows.
 use Rattle.std.specs.Prelude.{ℕ, ◌==◌, Bool, true, false, ◌&&◌, List}
 use Rattle.weld_tree.specs.TypeTree.{BuildTree, list, total, keyed, cells, groups}
 use Rattle.weld_tree.specs.ExprTree.{ExprTree, leaf, one, two, three, many, let_in, loop, iterate, Leaf, int, truth, chars, name, fresh, Two, binary, and, or, look_up, key_exists, merge, Three, if_else, select, slice}

@@ -6,8 +6,8 @@ ghost use Rattle.weld_sizes.specs.Sized.{has_sized_form as has_form, is_list, is
 
 use weld_tree::{BuildTy, Expr, Form, LeafForm, Sym, ThreeForm, TwoForm};
 
-/// Whether the expression is a loop of the sized form (the Weld papers): its builder is one
-/// `vecbuilder`, and each row merges into it exactly once. It takes no memory.
+/// Whether the expression is a loop of the sized form: its builder is one `vecbuilder`, and each
+/// row merges into it exactly once. It takes no memory.
 pub fn has_sized_form(e: &Expr) -> bool
     ensures { result ≡ has_form e.now }
 {

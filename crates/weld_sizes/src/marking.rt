@@ -13,9 +13,9 @@ use weld_meaning::Accepted;
 use weld_tree::{Expr, Exprs, Form, Leg, Legs};
 
 /// One mark for each loop of the program, in the order in which the loops begin in the text: whether
-/// it is of the sized form (the Weld papers). Its builder is one `vecbuilder` then, and each row
-/// merges into it exactly once: its body is a `merge` into the loop's builder, perhaps behind lets,
-/// or an `if` both of whose arms are. It fails for want of memory alone.
+/// it is of the sized form. Its builder is one `vecbuilder` then, and each row merges into it
+/// exactly once: its body is a `merge` into the loop's builder, perhaps behind lets, or an `if` both
+/// of whose arms are. It fails for want of memory alone.
 pub fn mark_sizes(alloc: Global, p: &Accepted) -> Result<Marks, AllocError>
     ensures { IfOk result (λ marks. marks ≡ sized_marks p.now.body) }
 {

@@ -1,4 +1,4 @@
--- The first items of a text as one number, by which most texts can be compared (this project's profile).
+-- The first items of a text as one number, by which most texts can be compared.
 use Rattle.std.specs.Prelude.{◌≡◌, ℕ, zero, suc, ℤ, pos, ◌+◌, ◌*◌, ◌<◌, ◌+ℤ◌, List, [], ◌∷◌, drop}
 use Rattle.weld_data.specs.declared.value.Val.{Val}
 use Rattle.weld_data.specs.declared.value.Val.TheVariants as val

@@ -13,8 +13,8 @@ use std::cmp::Ordering;
 use weld_data::{Column, Kind, Num, Val, Vals};
 
 /// How the first value stands to the second in the one total order of all values, by their kinds and
-/// then by their numbers, lists and structs item by item (this project's profile). Both may be keys;
-/// they need not be of one type. It takes no memory.
+/// then by their numbers, lists and structs item by item. Both may be keys; they need not be of one
+/// type. It takes no memory.
 pub fn compare_values(a: &Val, b: &Val) -> Ordering
     requires left { IsKey (view_val a.now) }
     requires right { IsKey (view_val b.now) }

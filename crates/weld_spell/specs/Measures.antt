@@ -1,5 +1,4 @@
--- The limits on parameters, fields, legs and written types, as statements on what tokens spell: by the tree that derives them
--- (this project's profile of Weld).
+-- The limits on parameters, fields, legs and written types, as statements on what tokens spell: by the tree that derives them.
 use Rattle.std.specs.Prelude.{ℕ, zero, suc, Bool, ◌&&◌, nat_le, if◌then◌else◌, Option, Some, None, List, [], ◌∷◌}
 use Rattle.weld_tree.specs.declared.place.Place.{Place}
 use Rattle.weld_tree.specs.declared.binder.Binder.{Binder}

@@ -1,4 +1,4 @@
--- Names that are refused (the Weld papers): one that no binder in scope bears, and a reserved word in the place of one.
+-- Names that are refused: one that no binder in scope bears, and a reserved word in the place of one.
 -- It goes by the table of the grammar, in the order of the text; four rules bind names.
 use Rattle.std.specs.Prelude.{◌≡◌, ◌⊎◌, ℕ, Bool, false, ◌||◌, if◌then◌else◌, Option, Some, None, List, [], ◌∷◌, bytes_eq}
 use Rattle.weld_tree.specs.declared.place.Place.{Place}

@@ -1,5 +1,5 @@
--- The program that a tree of tokens spells (the Weld papers): a clause for each alternative of the grammar, in its order.
--- Binders are numbered in the order of the text, from 0; a name is the number of the newest binder in scope that bears it.
+-- The program that a tree of tokens spells: a clause for each alternative of the grammar, in its order. Binders are
+-- numbered in the order of the text, from 0; a name is the number of the newest binder in scope that bears it.
 use Rattle.std.specs.Prelude.{ℕ, ◌+◌, true, false, if◌then◌else◌, Option, Some, None, List, [], ◌∷◌, bytes_eq}
 use Rattle.weld_data.specs.declared.kind.Kind.{Kind}
 use Rattle.weld_data.specs.declared.kind.Kind.TheVariants as kinds

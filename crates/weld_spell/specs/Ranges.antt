@@ -1,4 +1,4 @@
--- The number that is first out of its range, by the tree of the tokens (the Weld papers).
+-- The number that is first out of its range, by the tree of the tokens.
 use Rattle.std.specs.Prelude.{Bool, true, false, if◌then◌else◌, Option, Some, None, ◌∷◌}
 use Rattle.weld_tree.specs.declared.place.Place.{Place}
 use Rattle.weld_grammar.specs.declared.terminals.token.Token.{Token}

@@ -1,4 +1,4 @@
--- Which program tokens spell (the Weld papers).
+-- Which program tokens spell.
 use Rattle.std.specs.Prelude.{◌≡◌, List}
 use Rattle.weld_grammar.specs.declared.terminals.token.Token.{Token}
 use Rattle.weld_tree.specs.Program.{ProgramTree}

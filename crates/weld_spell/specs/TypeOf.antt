@@ -1,4 +1,4 @@
--- The type that a tree of tokens spells (the Weld papers): a clause for each alternative of the grammar's rule, in
+-- The type that a tree of tokens spells: a clause for each alternative of the grammar's rule, in
 -- its order.
 use Rattle.weld_data.specs.declared.kind.Kind.{Kind}
 use Rattle.weld_data.specs.declared.kind.Kind.TheVariants.{Bool, I8, I16, I32, I64, U8, U16, U32, U64}

@@ -1,4 +1,4 @@
--- Which type tokens spell (the Weld papers, with the limits of this project's profile).
+-- Which type tokens spell.
 use Rattle.std.specs.Prelude.{◌≡◌, ℕ, List}
 use Rattle.weld_grammar.specs.declared.terminals.token.Token.{Token}
 use Rattle.weld_tree.specs.TypeTree.{TypeTree}

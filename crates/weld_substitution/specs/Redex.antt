@@ -1,4 +1,4 @@
--- The lets that are put in their place (this project's profile): those of a plain value, and those whose name is used once, in
+-- The lets that are put in their place: those of a plain value, and those whose name is used once, in
 -- a place where the value is evaluated at most once and wherever the `let` would be.
 use Rattle.std.specs.Prelude.{ℕ, ◌==◌, if◌then◌else◌, Bool, true, false, not, ◌&&◌, ◌||◌, Option, Some, None}
 use Rattle.weld_tree.specs.declared.known.Known.{Known}

@@ -13,9 +13,8 @@ use crate::syms::Syms;
 use std::alloc::{AllocError, Global};
 use weld_tree::{Expr, Exprs, Form, LeafForm, Leg, Legs, Sym};
 
-/// The names that occur free in the expression, each once, in the order of their first uses (the
-/// Weld papers). A `let` binds its name in its body, a lambda its names in its body. It fails for
-/// want of memory alone.
+/// The names that occur free in the expression, each once, in the order of their first uses. A `let` binds its name in
+/// its body, a lambda its names in its body. It fails for want of memory alone.
 pub fn free_syms(alloc: Global, e: &Expr) -> Result<Syms, AllocError>
     ensures order { IfOk result (λ syms. syms ≡ each_once (free_uses e.now)) }
     ensures distinct { IfOk result (λ syms. AreDistinct syms) }

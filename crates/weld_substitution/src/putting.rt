@@ -43,9 +43,9 @@ impl<'a> Rule for Use<'a> {
 }
 
 /// The expression with each use of the name replaced by a copy of the value, and nothing else
-/// changed (the Weld papers). Where each binder in the expression is another number than the name
-/// and than the names that occur free in the value, it means what the expression does where the
-/// name is bound to the value. It fails for want of memory alone.
+/// changed. Where each binder in the expression is another number than the name and than the names
+/// that occur free in the value, it means what the expression does where the name is bound to the
+/// value. It fails for want of memory alone.
 pub fn put_at(alloc: Global, e: Box<Expr>, name: Sym, value: &Expr) -> Result<Box<Expr>, AllocError>
     ensures { IfOk result (λ changed. changed.value ≡ put name.0 value.now e.value) }
 {

@@ -1,5 +1,5 @@
--- Which value a table gives, and else why it gives none, by this project's profile of Weld. A table's content is records of
--- fields, as the library csv reads them; its first record has the names of the columns.
+-- Which value a table gives, and else why it gives none. A table's content is records of fields, as
+-- the library csv reads them; its first record has the names of the columns.
 use Rattle.std.specs.Prelude.{◌≡◌, ◌⊎◌, ◌+◌, ◌==◌, ℕ, pos, if◌then◌else◌, List, [], ◌∷◌, length, map, Option, Some, None}
 use Rattle.std.specs.List.{All}
 use Rattle.std.specs.Str.{bytes_eq}

@@ -110,9 +110,9 @@ fn read_columns(
     }
 }
 
-/// The value of a table: the struct of the wanted columns, each a list of its cells, record by record; or the first reason
-/// of `TableFault` why the content gives none (this project's profile of Weld). Records are those that the library csv reads,
-/// the first of them having the columns' names; of those, one pass keeps the columns alone.
+/// The value of a table: the struct of the wanted columns, each a list of its cells, record by record; or the first
+/// reason of `TableFault` why the content gives none. Records are those that the library csv reads, the first of them
+/// having the columns' names; of those, one pass keeps the columns alone.
 pub fn read_table(alloc: Global, content: &[u8], wanted: &Wanted) -> Result<Val, TableFault>
     requires { AreCells wanted.now }
     ensures value { IfOk result (λ v. TableReads content.now wanted.now (view_val v)) }

@@ -1,4 +1,4 @@
--- Refusals by a limit (this project's profile of Weld).
+-- Refusals by a limit.
 use Rattle.weld_tree.specs.declared.code.Code.{Code}
 use Rattle.weld_tree.specs.declared.code.Code.TheVariants.{M2, M3, M4, M5, M6, M7, M8, M9}
 use Rattle.weld_tree.specs.declared.refusal.Refusal.{Refusal}

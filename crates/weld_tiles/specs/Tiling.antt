@@ -1,4 +1,4 @@
--- How the rows of a loop are cut into tiles, by this project's profile of Weld.
+-- How the rows of a loop are cut into tiles.
 use Rattle.std.specs.Prelude.{◌≡◌, ℕ, ◌+◌, ◌-◌, ◌/◌, ◌<◌, ◌≤◌, List, [], ◌∷◌, ◌++◌, length}
 use Rattle.weld_tiles.specs.declared.tile.Tile.{Tile}
 

@@ -7,7 +7,7 @@ use crate::tile::{Tile, TileList};
 use std::alloc::{AllocError, Global};
 
 #[tactic(auto, using(crate::proofs::Cuts::halves_tile))]
-/// The tiles of a loop's rows: the rows are halved until no range has more than `cut` of them, by this project's profile of Weld.
+/// The tiles of a loop's rows: the rows are halved until no range has more than `cut` of them.
 pub fn tiles(alloc: Global, rows: u64, cut: u32) -> Result<TileList, AllocError>
     requires { 1 ≤ cut }
     ensures halves { IfOk result (AddsHalves cut 0 rows []) }

@@ -1,4 +1,4 @@
--- The bytes of program texts by what they may be part of (the Weld papers).
+-- The bytes of program texts by what they may be part of.
 use Rattle.std.specs.Prelude.{ℕ, Bool, true, ◌||◌, ◌&&◌, ◌==◌, nat_le, List, [], ◌∷◌}
 
 -- space, tab, CR or LF

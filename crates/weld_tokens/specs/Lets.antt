@@ -1,4 +1,4 @@
--- How many `let` nodes a program may have (this project's profile of Weld).
+-- How many `let` nodes a program may have.
 use Rattle.std.specs.Prelude.{ℕ, ◌+◌, Bool, nat_lt}
 use Rattle.weld_tree.specs.ExprTree.{ExprTree, leaf, one, two, three, many, let_in, loop, iterate, ExprTrees, no_exprs, more_exprs, LegTree, whole, strided, LegTrees, no_legs, more_legs}
 

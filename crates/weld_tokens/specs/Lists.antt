@@ -1,5 +1,4 @@
--- Limits of programs that their tokens show: parameters, fields, legs and written types (this project's profile of
--- Weld). They are read of tokens that derive a program.
+-- Limits of programs that their tokens show: parameters, fields, legs and written types. They are read of tokens that derive a program.
 use Rattle.std.specs.Prelude.{ℕ, ◌+◌, ◌-◌, Bool, true, false, ◌||◌, ◌&&◌, ◌==◌, nat_le, if◌then◌else◌, List, [], ◌∷◌, Option, Some, None}
 use Rattle.weld_tree.specs.declared.place.Place.{Place}
 use Rattle.weld_grammar.specs.declared.terminals.symbol.Symbol.TheVariants.{LeftParen, LeftBracket, LeftBrace, Comma, Colon, Bar}

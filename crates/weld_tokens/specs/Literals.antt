@@ -1,4 +1,4 @@
--- What numbers, fields and strings stand for (the Weld papers).
+-- What numbers, fields and strings stand for.
 use Rattle.std.specs.Prelude.{ℕ, ◌+◌, ◌*◌, ◌-◌, Bool, ◌&&◌, ◌==◌, nat_le, if◌then◌else◌, List, [], ◌∷◌, drop, ℤ, pos, neg_ℤ}
 use Rattle.weld_grammar.specs.declared.terminals.class.Class.{Class}
 use Rattle.weld_grammar.specs.declared.terminals.class.Class.TheVariants as classes

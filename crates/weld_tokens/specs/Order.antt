@@ -1,4 +1,4 @@
--- The first refusal of a text, by what its bytes, its tokens and their grammar show (the Weld papers). What the grammar finds is a parameter.
+-- The first refusal of a text, by what its bytes, its tokens and their grammar show. What the grammar finds is a parameter.
 use Rattle.std.specs.Prelude.{ℕ, Bool, true, false, not, ◌&&◌, if◌then◌else◌, List, [], ◌∷◌, Option, Some, None}
 use Rattle.std.specs.Option.{option_map}
 use Rattle.weld_tree.specs.declared.place.Place.{Place}

@@ -1,4 +1,4 @@
--- The limits of a text that its bytes and its tokens show (this project's profile of Weld).
+-- The limits of a text that its bytes and its tokens show.
 use Rattle.std.specs.Prelude.{ℕ, ◌+◌, ◌-◌, Bool, true, false, ◌||◌, ◌&&◌, nat_lt, if◌then◌else◌, List, [], ◌∷◌, length, Option, Some, None}
 use Rattle.weld_tree.specs.declared.place.Place.{Place}
 use Rattle.weld_grammar.specs.declared.terminals.symbol.Symbol.TheVariants.{LeftParen, RightParen, LeftBracket, RightBracket, LeftBrace, RightBrace, Bang, Minus}

@@ -1,4 +1,4 @@
--- The tokens of a text by longest match, with their places, and where no token begins (the Weld papers).
+-- The tokens of a text by longest match, with their places, and where no token begins.
 use Rattle.std.specs.Prelude.{◌≡◌, ◌≢◌, ℕ, suc, zero, ◌+◌, ◌<◌, Bool, ◌==◌, if◌then◌else◌, List, [], ◌∷◌, length, take, drop, Some}
 use Rattle.weld_tree.specs.declared.place.Place.{Place}
 use Rattle.weld_tree.specs.declared.refusal.Refusal.{Refusal}

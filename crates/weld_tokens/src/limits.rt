@@ -4,7 +4,7 @@ ghost use Rattle.weld_tokens.specs.TokenLimits as limits;
 use weld_grammar::terminals::{Class, Symbol, Token};
 use weld_tree::Place;
 
-/// Whether a text has too many bytes: more than 262,144 (M2, by this project's profile of Weld).
+/// Whether a text has too many bytes: more than 262,144 (M2).
 pub fn has_too_many_bytes(text: &[u8]) -> bool
     ensures { result ≡ limits.has_too_many_bytes text.now }
 {
@@ -83,10 +83,10 @@ fn nests_too_deep(tokens: &[Token]) -> bool
     false
 }
 
-/// Whether there are too many tokens, more than 16,384, or some token nests deeper than 100 (M3, by this project's
-/// profile of Weld). The nesting at a token is the number of brackets that are open at it, and the length of the
-/// run of `-` and `!` that ends at it or directly before it. A bracket that opens is open at its own token; one that
-/// closes isn't, and takes one off whatever its shape.
+/// Whether there are too many tokens, more than 16,384, or some token nests deeper than 100 (M3). The nesting at a
+/// token is the number of brackets that are open at it, and the length of the run of `-` and `!` that ends at it or
+/// directly before it. A bracket that opens is open at its own token; one that closes isn't, and takes one off whatever
+/// its shape.
 pub fn has_too_many_tokens(tokens: &[Token]) -> bool
     ensures { result ≡ limits.has_too_many_tokens tokens.now }
 {
@@ -103,7 +103,7 @@ fn is_long_name(token: &Token) -> bool
     }
 }
 
-/// The place of the first name of more than 64 bytes, where there is one (M9, by this project's profile of Weld).
+/// The place of the first name of more than 64 bytes, where there is one (M9).
 pub fn first_long_name(tokens: &[Token]) -> Option<Place>
     ensures { result ≡ limits.first_long_name tokens.now }
 {

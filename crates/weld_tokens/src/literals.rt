@@ -68,9 +68,9 @@ fn negated(value: u64) -> i64
     }
 }
 
-/// The value of a number literal, where it is in the range of its kind: i64 for a token with `L`, i32 for one without
-/// (the Weld papers). `negative` says that the `-` of a negative literal stands before it: then it is negative, and
-/// may be greater by one. None where it is out of its range, which X3 refuses.
+/// The value of a number literal, where it is in the range of its kind: i64 for a token with `L`, i32 for one without.
+/// `negative` says that the `-` of a negative literal stands before it: then it is negative, and may be greater by one.
+/// None where it is out of its range, which X3 refuses.
 pub fn literal_of(word: &[u8], class: Class, negative: bool) -> Option<i64>
     ensures some { IfSome result (λ value. value ≡ literals.literal_value negative word.now) }
     ensures in_range { IfSome result (λ _. literals.is_in_range negative class word.now ≡ true) }
@@ -159,7 +159,7 @@ fn items_value(alloc: Global, items: &[u8]) -> Result<Text, AllocError>
     Ok(chars)
 }
 
-/// The bytes that a string's token stands for (the Weld papers). It fails for want of memory alone.
+/// The bytes that a string's token stands for. It fails for want of memory alone.
 pub fn chars_of(alloc: Global, word: &[u8]) -> Result<Text, AllocError>
     ensures { IfOk result (λ chars. chars ≡ literals.string_value word.now) }
 {
@@ -169,7 +169,7 @@ pub fn chars_of(alloc: Global, word: &[u8]) -> Result<Text, AllocError>
     }
 }
 
-/// The number of a field, whose token this is: `$` and one to nine digits (the Weld papers).
+/// The number of a field, whose token this is: `$` and one to nine digits.
 pub fn field_of(word: &[u8]) -> u32
     requires { class_of word.now ≡ Some Class.Field }
     ensures { result ≡ literals.field_value word.now }

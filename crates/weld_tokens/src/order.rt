@@ -38,7 +38,7 @@ fn out_of_range(class: Class, negative: bool, word: &[u8]) -> bool
     }
 }
 
-/// The place of the first number out of its range, where there is one (X3, by the Weld papers). Beside each token stands
+/// The place of the first number out of its range, where there is one (X3). Beside each token stands
 /// whether it is the number of a negative literal.
 pub fn first_out_of_range(negative: &[bool], tokens: &[Token]) -> Option<Place>
     requires { length negative.now ≡ length tokens.now }
@@ -76,8 +76,7 @@ fn is_minus(class: Class) -> bool
     }
 }
 
-/// The place of the first number out of its range in the tokens of a program, where there is one (X3, by the Weld
-/// papers). A number is that of a negative literal where a `-` stands right before it and no operand before that.
+/// The place of the first number out of its range in the tokens of a program, where there is one (X3). A number is that of a negative literal where a `-` stands right before it and no operand before that.
 pub fn first_number_out_of_range(tokens: &[Token]) -> Option<Place>
     ensures { result ≡ order.first_number_out_of_range tokens.now }
 {
@@ -134,7 +133,7 @@ fn or_else(first: Option<Refusal>, other: Option<Refusal>) -> Option<Refusal>
     }
 }
 
-/// The first refusal of a text behind X1, by its tokens and what their grammar finds (the Weld papers): M3, X2, X3, M4 to
+/// The first refusal of a text behind X1, by its tokens and what their grammar finds: M3, X2, X3, M4 to
 /// M9, and then the names.
 pub fn first_refusal(tokens: &[Token], found: &Findings) -> Option<Refusal>
     ensures { result ≡ order.first_refusal tokens.now found.now }

@@ -13,7 +13,7 @@ use weld_tree::{Code, Place, Refusal};
 /// A list of tokens.
 pub type Tokens = Items<Token>;
 
-/// The class of the token that these bytes are. None where they are no token, or more than one (the Weld papers).
+/// The class of the token that these bytes are. None where they are no token, or more than one.
 pub fn class_of(word: &[u8]) -> Option<Class>
     ensures { result ≡ class_of word.now }
 {
@@ -37,7 +37,7 @@ fn token_of(alloc: Global, class: Class, word: &[u8], place: Place) -> Result<To
     Ok(Token { class, word, place })
 }
 
-/// Reads a program's text of at most 262,144 bytes as tokens, by longest match (the Weld papers). It is refused with X1
+/// Reads a program's text of at most 262,144 bytes as tokens, by longest match. It is refused with X1
 /// at the first byte where no token begins, and for want of memory.
 pub fn read_tokens(alloc: Global, text: &[u8]) -> Result<Tokens, Refusal>
     requires { length text.now ≤ 262144 }

@@ -61,6 +61,6 @@ abbrev mutual
 abbrev pub bare_program : ProgramTree → ProgramTree
 bare_program p = record { params = map blank_binder p.params; body = bare p.body (syms_of p.params) }
 
--- two programs are the same up to places, noted types and binder numbers (this project's profile)
+-- two programs are the same up to places, noted types and binder numbers
 abbrev pub AreSame : ProgramTree → ProgramTree → Type 0
 AreSame p q = bare_program p ≡ bare_program q

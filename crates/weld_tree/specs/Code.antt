@@ -1,4 +1,4 @@
--- The letters of refusal codes, as the program prints them, by this project's profile of Weld.
+-- The letters of refusal codes, as the program prints them.
 use Rattle.std.specs.Prelude.{ℕ, List, codes}
 use Rattle.weld_tree.specs.declared.code.Code.{Code}
 use Rattle.weld_tree.specs.declared.code.Code.TheVariants.{X1, X2, X3, M1, M2, M3, M4, M5, M6, M7, M8, M9, N1, N2, Y1, Y2, Y3, Y4, Y5, Y6, Y7, Y8, Y9, Y10, Y11, Y12, Y13, Y14, Y15, Y16, Y17, Y18, Y19, Y20, Y21, Y22, Y23, Y24, Y25, Y26, Y27, Y28, Y29, Y30, L1, L2, L3, L4, L5, L6, S1, S2, S3, S4, S5, S6, S7, S8, S9, Q1, Q2, Q3, Q4, Q5, Missing, Extra, Form, Length, Syntax, Range, Repeat}

@@ -8,13 +8,13 @@ use Rattle.weld_tree.specs.declared.place.Place.{Place}
 use Rattle.weld_tree.specs.declared.binder.Binder.{Binder}
 use Rattle.weld_tree.specs.declared.known.Known.{Known}
 
--- where a node stands in its text, and the type that is noted at it (this project's profile)
+-- where a node stands in its text, and the type that is noted at it
 pub record At : Type 0 where
   pub place : Place
   pub ty : Known
 
--- the forms without parts (the Weld papers): an integer of a kind, a truth value, the bytes of a
--- string, a use of a name, a builder without a starting value
+-- the forms without parts: an integer of a kind, a truth value, the bytes of a string, a use of a
+-- name, a builder without a starting value
 pub data Leaf : Type 0 where
   int : Kind → ℤ → Leaf
   truth : Bool → Leaf
@@ -22,7 +22,7 @@ pub data Leaf : Type 0 where
   name : ℕ → Leaf
   fresh : BuildTree → Leaf
 
--- the forms of one part (the Weld papers): `-e`, `!e`, `kind(e)`, `len(e)`, `e.$n`, `result(e)`, a builder from a
+-- the forms of one part: `-e`, `!e`, `kind(e)`, `len(e)`, `e.$n`, `result(e)`, a builder from a
 -- starting value
 pub data One : Type 0 where
   neg : One
@@ -33,7 +33,7 @@ pub data One : Type 0 where
   finish : One
   started : BuildTree → One
 
--- the forms of two parts (the Weld papers): an operator between them, `&&`, `||`, `lookup`, `keyexists`, `merge`
+-- the forms of two parts: an operator between them, `&&`, `||`, `lookup`, `keyexists`, `merge`
 pub data Two : Type 0 where
   binary : BinOp → Two
   and : Two
@@ -42,20 +42,19 @@ pub data Two : Type 0 where
   key_exists : Two
   merge : Two
 
--- the forms of three parts (the Weld papers): `if`, `select`, `slice`
+-- the forms of three parts: `if`, `select`, `slice`
 pub data Three : Type 0 where
   if_else : Three
   select : Three
   slice : Three
 
--- the forms of any number of parts (the Weld papers): `[..]`, `{..}`
+-- the forms of any number of parts: `[..]`, `{..}`
 pub data Many : Type 0 where
   make_vec : Many
   make_struct : Many
 
 mutual
-  -- an expression (the Weld papers): a form of no part or more, or one of the three forms that bind
-  -- names
+  -- an expression: a form of no part or more, or one of the three forms that bind names
   pub data ExprTree : Type 0 where
     leaf : At → Leaf → ExprTree
     one : At → One → ExprTree → ExprTree
@@ -74,7 +73,7 @@ mutual
     no_exprs : ExprTrees
     more_exprs : ExprTree → ExprTrees → ExprTrees
 
-  -- a leg of a loop (the Weld papers): a whole vector, or the elements of one from a start below an end by a stride
+  -- a leg of a loop: a whole vector, or the elements of one from a start below an end by a stride
   pub data LegTree : Type 0 where
     whole : ExprTree → LegTree
     strided : ExprTree → ExprTree → ExprTree → ExprTree → LegTree

@@ -1,4 +1,4 @@
--- Which values are of a type, by this project's profile of Weld.
+-- Which values are of a type.
 use Rattle.std.specs.Prelude.{◌≡◌}
 use Rattle.weld_data.specs.declared.kind.Kind.{Kind}
 use Rattle.weld_data.specs.Kind.{InRange}

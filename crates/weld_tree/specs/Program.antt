@@ -8,7 +8,7 @@ use Rattle.weld_tree.specs.ExprTree.{ExprTree, leaf, one, two, three, many, let_
 use Rattle.weld_tree.specs.LabelCode.{coded_binder}
 use Rattle.weld_tree.specs.ExprCode.{coded_expr}
 
--- a program: its parameters and its body (the Weld papers)
+-- a program: its parameters and its body
 pub record ProgramTree : Type 0 where
   pub params : List Binder
   pub body : ExprTree
@@ -16,7 +16,7 @@ pub record ProgramTree : Type 0 where
 abbrev pub coded_program : Coded ProgramTree
 coded_program = code_by (List Binder × ExprTree) (coded× (coded_list coded_binder) coded_expr) (λ p. (p.params, p.body)) (λ c. record { params = c.0; body = c.1 }) (λ _. refl)
 
--- how many loops, `for` nodes, stand in an expression (this project's profile)
+-- how many loops, `for` nodes, stand in an expression
 abbrev mutual
   pub loops : ExprTree → ℕ
   loops (leaf a l) = 0
@@ -40,7 +40,7 @@ abbrev mutual
   loops_in_legs no_legs = 0
   loops_in_legs (more_legs l ls) = loops_in_leg l + loops_in_legs ls
 
--- the numbers that an expression binds, in the order of the text (this project's profile)
+-- the numbers that an expression binds, in the order of the text
 abbrev mutual
   pub bound : ExprTree → List ℕ
   bound (leaf a l) = []
@@ -82,8 +82,8 @@ LeafIsScoped (chars bs) scope = Unit {0}
 LeafIsScoped (name s) scope = IsOneOf scope s
 LeafIsScoped (fresh b) scope = Unit {0}
 
--- each name is used only where its binder binds it (the Weld papers): a `let` in its body, a lambda
--- in its body; the newest in scope stand first
+-- each name is used only where its binder binds it: a `let` in its body, a lambda in its body; the
+-- newest in scope stand first
 abbrev mutual
   pub IsScoped : ExprTree → List ℕ → Type 0
   IsScoped (leaf a l) scope = LeafIsScoped l scope
@@ -151,7 +151,7 @@ abbrev pub HasLegs : LegTrees → Type 0
 HasLegs no_legs = ⊥
 HasLegs (more_legs l ls) = Unit {0}
 
--- each node is one that a text can spell (this project's profile): its numbers are of their kinds, its builders start as they
+-- each node is one that a text can spell: its numbers are of their kinds, its builders start as they
 -- may, and no vector, struct or list of legs is empty
 abbrev mutual
   pub IsWellMade : ExprTree → Type 0
@@ -180,9 +180,9 @@ abbrev mutual
 abbrev pub syms_of : List Binder → List ℕ
 syms_of bs = map (λ b. b.sym.0) bs
 
--- what every program keeps (this project's profile): each binder has a number of its own, each name
--- is used only where its binder binds it, there are fewer than 4,294,967,295 binders, each parameter
--- has its type, and each node is one that a text can spell
+-- what every program keeps: each binder has a number of its own, each name is used only where its
+-- binder binds it, there are fewer than 4,294,967,295 binders, each parameter has its type, and each
+-- node is one that a text can spell
 pub record IsProgram (params : List Binder) (body : ExprTree) : Type 0 where
   pub distinct : AreDistinct (syms_of params ++ bound body)
   pub few : length (syms_of params ++ bound body) < 4294967295

@@ -5,7 +5,7 @@ use Rattle.weld_data.specs.declared.kind.Kind.{Kind}
 use Rattle.weld_data.specs.declared.op.MergeOp.{MergeOp}
 
 -- a type: of a scalar, of a vector of items, of a struct by its fields, of a dictionary by its keys
--- and values, or of a builder (the Weld papers)
+-- and values, or of a builder
 mutual
   pub data TypeTree : Type 0 where
     scalar : Kind → TypeTree
@@ -46,7 +46,6 @@ pack-unpack no_types = refl
 pack-unpack (more_types t ts) = ap (more_types t) (pack-unpack ts)
 
 -- how many type nodes stand in a type, and how deep they nest; a scalar is one node of depth 1
--- (this project's profile)
 abbrev mutual
   pub type_nodes : TypeTree → ℕ
   type_nodes (scalar k) = 1

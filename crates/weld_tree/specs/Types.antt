@@ -4,7 +4,7 @@ use Rattle.weld_data.specs.declared.kind.Kind.TheVariants.{I64}
 use Rattle.weld_data.specs.Kind.{IsInteger}
 use Rattle.weld_tree.specs.TypeTree.{TypeTree, BuildTree, TypeTrees, scalar, vec, struct, dict, build, list, total, keyed, cells, groups, no_types, more_types, type_nodes, type_depth}
 
--- no builder stands in the type (this project's profile)
+-- no builder stands in the type
 abbrev mutual
   pub IsBuilderFree : TypeTree → Type 0
   IsBuilderFree (scalar k) = Unit {0}
@@ -18,7 +18,6 @@ abbrev mutual
   AreBuilderFree (more_types t ts) = IsBuilderFree t × AreBuilderFree ts
 
 -- the type is one of the five builders, or a struct whose fields are all builder types
--- (the Weld papers)
 abbrev mutual
   pub IsBuilder : TypeTree → Type 0
   IsBuilder (scalar k) = ⊥
@@ -69,17 +68,16 @@ HasTypes no_types = ⊥
 HasTypes (more_types t ts) = Unit {0}
 
 -- dictionaries may have keys of the type: a key field, or a struct of such
--- (the Weld papers; which ones, by this project's profile)
 abbrev pub IsKey : TypeTree → Type 0
 IsKey (struct ts) = HasTypes ts × AreKeyFields ts
 IsKey t = IsKeyField t
 
--- the type is an integer kind, or a struct of integer kinds: what a merger combines (the Weld papers; which ones, by this project's profile)
+-- the type is an integer kind, or a struct of integer kinds: what a merger combines
 abbrev pub IsMergerType : TypeTree → Type 0
 IsMergerType (struct ts) = HasTypes ts × AreIntegerTypes ts
 IsMergerType t = IsIntegerType t
 
--- the type is well formed (this project's profile)
+-- the type is well formed
 abbrev mutual
   pub IsWellFormed : TypeTree → Type 0
   IsWellFormed (scalar k) = Unit {0}
@@ -100,7 +98,6 @@ abbrev mutual
   AreWellFormed (more_types t ts) = IsWellFormed t × AreWellFormed ts
 
 -- the type is within the limits on written types: depth 16 and 256 type nodes
--- (this project's profile)
 pub record IsWithinLimits (t : TypeTree) : Type 0 where
   pub depth : type_depth t ≤ 16
   pub nodes : type_nodes t ≤ 256
@@ -109,7 +106,7 @@ pub record IsWithinLimits (t : TypeTree) : Type 0 where
 abbrev pub pair_of : TypeTree → TypeTree → TypeTree
 pair_of s t = struct (more_types s (more_types t no_types))
 
--- the type of what is merged into a builder (the Weld papers)
+-- the type of what is merged into a builder
 abbrev pub takes : BuildTree → TypeTree
 takes (list t) = t
 takes (total t op) = t
@@ -117,7 +114,7 @@ takes (keyed k v op) = pair_of k v
 takes (cells t op) = pair_of (scalar I64) t
 takes (groups k v) = pair_of k v
 
--- the type of a builder's result (the Weld papers)
+-- the type of a builder's result
 abbrev pub gives : BuildTree → TypeTree
 gives (list t) = vec t
 gives (total t op) = t

@@ -1,4 +1,4 @@
--- The rule on the sizes of types, apart from the walk (this project's profile): limits of source text, which passes may leave.
+-- The rule on the sizes of types, apart from the walk: limits of source text, which passes may leave.
 use Rattle.std.specs.Prelude.{◌∷◌}
 use Rattle.weld_tree.specs.TypeTree.{TypeTree, TypeTrees}
 use Rattle.weld_tree.specs.Types.{IsWithinLimits}

@@ -1,4 +1,4 @@
--- The type of a program, or the first refusal of the typing rules, in the order of the walk over it (this project's profile).
+-- The type of a program, or the first refusal of the typing rules, in the order of the walk over it.
 use Rattle.std.specs.Prelude.{ℕ, zero, suc, Bool, true, false, ◌&&◌, ◌||◌, List, [], ◌∷◌, Option, Some, None}
 use Rattle.weld_data.specs.declared.kind.Kind.TheVariants as kinds
 use Rattle.weld_data.specs.declared.op.BinOp.{BinOp}

@@ -11,8 +11,7 @@ use weld_meaning::Accepted;
 use weld_meaning::laws::the_walk_is_linear_use;
 use weld_tree::{Program, Refusal};
 
-/// Whether the program uses builders linearly, by the rules of the Weld papers: a refusal is the first in the walk of
-/// this project's profile, L1 to L6 with its place, or want of memory.
+/// Whether the program uses builders linearly, by the rules: a refusal is the first in the walk, L1 to L6 with its place, or want of memory.
 pub fn check_uses(alloc: Global, p: &Program) -> Result<(), Refusal>
     ensures linear { IfOk result (λ _. linear_refusal p.now ≡ None) }
     ensures first_refusal { IfErr result (λ r. Fails r (linear_refusal p.now)) }
@@ -26,7 +25,7 @@ pub fn check_uses(alloc: Global, p: &Program) -> Result<(), Refusal>
 }
 
 /// The program, which has a type, as an accepted one, where it uses builders linearly. A refusal is the first in the
-/// walk of this project's profile, L1 to L6 with its place, or want of memory; then the program is dropped.
+/// walk, L1 to L6 with its place, or want of memory; then the program is dropped.
 pub fn accept(alloc: Global, p: Program) -> Result<Accepted, Refusal>
     requires { (t : TypeTree) × ProgramHas p t }
     ensures same { IfOk result (λ a. a ≡ p) }

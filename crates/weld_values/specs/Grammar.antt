@@ -1,4 +1,4 @@
--- The data grammar, by this project's profile of Weld: which values stand at the front of a text, and what follows them. Blanks may stand before each part. Numbers may be out of their kind's range here, and the entries of a dictionary stand in the order of the text.
+-- The data grammar: which values stand at the front of a text, and what follows them. Blanks may stand before each part. Numbers may be out of their kind's range here, and the entries of a dictionary stand in the order of the text.
 use Rattle.std.specs.Prelude.{◌≡◌, ◌⊎◌, ℕ, List, [], ◌∷◌, map, codes, Option, Some, None, pos}
 use Rattle.std.specs.Option.{option_map}
 use Rattle.weld_data.specs.declared.kind.Kind.{Kind}

@@ -1,4 +1,4 @@
--- What a text reads as, and why it doesn't, by this project's profile of Weld.
+-- What a text reads as, and why it doesn't.
 use Rattle.std.specs.Prelude.{◌≡◌, ◌⊎◌, ℕ, List, []}
 use Rattle.std.specs.List.Sorted.{IsPermutation}
 use Rattle.weld_data.specs.Kind.{InRange}

@@ -1,4 +1,4 @@
--- The parts of a value's text that are no values themselves: blanks, single bytes, words, numbers and the items of a string, by this project's profile of Weld.
+-- The parts of a value's text that are no values themselves: blanks, single bytes, words, numbers and the items of a string.
 use Rattle.std.specs.Prelude.{ℕ, ◌+◌, ◌*◌, ◌-◌, Bool, ◌||◌, ◌&&◌, ◌==◌, nat_le, if◌then◌else◌, List, [], ◌∷◌, Option, Some, None, option_and_then, ℤ, pos, neg_ℤ}
 use Rattle.std.specs.Option.{option_map}
 

@@ -421,8 +421,8 @@ fn read_dict<'a>(
     }
 }
 
-/// The content of a data block as a value of the type, or why it is none (by this project's profile of Weld). The type is
-/// one without builders whose dictionaries have keys that may be such. `Memory` says that memory was wanting, and nothing of the content.
+/// The content of a data block as a value of the type, or why it is none. The type is one without builders whose
+/// dictionaries have keys that may be such. `Memory` says that memory was wanting, and nothing of the content.
 pub fn read_value(alloc: Global, content: &[u8], ty: &Ty) -> Result<Val, DataFault>
     requires { IsReadable ty.now }
     ensures value { IfOk result (λ v. ReadsAs content.now ty.now (view_val v)) }

@@ -3,7 +3,7 @@
 //! Each call adds one object to the graph and answers its id; nothing is computed until objects are
 //! lowered. `Unknown` names the first id that isn't in the graph; then `Unfit` tells the first argument,
 //! from 1, whose type doesn't fit the call with those before it; where a call isn't added, the graph
-//! stays as it was. K stands for one integer kind, T for any type of elements (this project's profile).
+//! stays as it was. K stands for one integer kind, T for any type of elements.
 #![tactic(auto)]
 
 ghost use Rattle.std.specs.Prelude.{◌<◌, ◌∷◌, [], length};

@@ -24,9 +24,9 @@ abbrev pub loop_before : ExprTree → ExprTree
 loop_before (loop a (more_legs (whole (one m o p)) no_legs) e b n x f) = p
 loop_before e = e
 
--- a loop with so many before it: no body of theirs uses its row number, and each but the first has as its only leg, whole, the
--- `result` of the one before it, which starts with an empty `vecbuilder` and merges once in a row or not at all, at one end of
--- lets and ifs (the Weld papers)
+-- a loop with so many before it: no body of theirs uses its row number, and each but the first has as its only leg,
+-- whole, the `result` of the one before it, which starts with an empty `vecbuilder` and merges once in a row or not at
+-- all, at one end of lets and ifs
 abbrev pub IsChain : ℕ → ExprTree → Type 0
 IsChain zero e = is_unnumbered e ≡ true
 IsChain (suc k) e = (is_unnumbered e ≡ true) × (is_consumer e ≡ true) × IsChain k (loop_before e)

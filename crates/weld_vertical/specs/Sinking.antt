@@ -1,7 +1,7 @@
--- A loop over what another loop made, and the one loop that takes the place of both (the Weld papers; how far, by this project's
--- profile): `for(result(for(R, vecbuilder[T], |b,i,x| lets; merge(b, v))), B, |c,j,y| f)` becomes
--- `for(R, B, |c,i,x| lets; let j = i; let y = v; f)`, and where the first merges on some ways alone, `if(e, merge(b, v), b)`
--- becomes `if(e, let j = i; let y = v; f, c)`.
+-- A loop over what another loop made, and the one loop that takes the place of both: `for(result(for(R,
+-- vecbuilder[T], |b,i,x| lets; merge(b, v))), B, |c,j,y| f)` becomes `for(R, B, |c,i,x| lets; let j = i; let y = v;
+-- f)`, and where the first merges on some ways alone, `if(e, merge(b, v), b)` becomes `if(e, let j = i; let y = v; f,
+-- c)`.
 use Rattle.std.specs.Prelude.{ℕ, ◌+◌, ◌==◌, Bool, true, false, ◌&&◌, ◌||◌}
 use Rattle.weld_tree.specs.declared.binder.Binder.{Binder}
 use Rattle.weld_tree.specs.declared.known.Known.{Known}

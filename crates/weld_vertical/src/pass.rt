@@ -11,13 +11,13 @@ use std::alloc::{AllocError, Global};
 use weld_meaning::Accepted;
 use weld_rewriting::pass::run_pass;
 
-/// The program with loops over what other loops make as one loop (the Weld papers): where a loop's
-/// only leg is the `result` of a loop that starts with an empty `vecbuilder` and merges into it at one
-/// place, behind lets and in arms of ifs or not, the loop runs over that one's legs, and its body
-/// stands in the place of the merge, its row the value that was merged. Where the merge isn't made in
-/// every row, the loop must not use its row number. No list is made in between. It asks for a program
-/// whose nodes have their types noted, as the checker leaves it. It fails for want of memory alone,
-/// and the program is spent then.
+/// The program with loops over what other loops make as one loop: where a loop's only leg is the
+/// `result` of a loop that starts with an empty `vecbuilder` and merges into it at one place, behind
+/// lets and in arms of ifs or not, the loop runs over that one's legs, and its body stands in the
+/// place of the merge, its row the value that was merged. Where the merge isn't made in every row, the
+/// loop must not use its row number. No list is made in between. It asks for a program whose nodes
+/// have their types noted, as the checker leaves it. It fails for want of memory alone, and the
+/// program is spent then.
 pub fn fuse_vertical(alloc: Global, p: Accepted) -> Result<Accepted, AllocError>
     requires { ProgramIsNoted p }
     ensures passed { IfOk result (λ q. IsPassed q p) }

@@ -1,8 +1,7 @@
--- A list that another loop makes, on a leg of a `zip` (the Weld papers; how far, by this project's profile): the other legs go into
--- the loop that makes it, which then makes whole rows, so that
--- `for(zip(A, result(for(R, vecbuilder[T], |d,i,r| lets; merge(d, v))), C), B, |b,n,x| f)` becomes
--- `for(result(for(zip(A, R, C), vecbuilder[{A, T, C}], |d,i,r| lets; merge(d, {A's items, v, C's items}))), B, |b,n,x| f)`,
--- with the producer's row rebuilt for each use of r, and then one loop.
+-- A list that another loop makes, on a leg of a `zip`: the other legs go into the loop that makes it, which
+-- then makes whole rows, so that `for(zip(A, result(for(R, vecbuilder[T], |d,i,r| lets; merge(d, v))), C), B, |b,n,x|
+-- f)` becomes `for(result(for(zip(A, R, C), vecbuilder[{A, T, C}], |d,i,r| lets; merge(d, {A's items, v, C's items}))),
+-- B, |b,n,x| f)`, with the producer's row rebuilt for each use of r, and then one loop.
 use Rattle.std.specs.Prelude.{ℕ, ◌+◌, nat_le, if◌then◌else◌, Bool, true, false, ◌&&◌, Option, Some, None, option_map}
 use Rattle.weld_tree.specs.declared.binder.Binder.{Binder}
 use Rattle.weld_tree.specs.declared.known.Known.TheVariants.{Is}

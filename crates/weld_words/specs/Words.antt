@@ -1,4 +1,4 @@
--- The form of the words that follow the program's name (this project's profile of Weld).
+-- The form of the words that follow the program's name.
 use Rattle.std.specs.Prelude.{◌≡◌, ◌≢◌, ◌⊎◌, ◌≤◌, ◌+◌, ℕ, zero, suc, pos, Bool, true, false, List, [], ◌∷◌, ◌++◌, codes}
 use Rattle.std.specs.Str.Parse.{IsNumeral, without_leading_sign, signed_digits_value}
 use Rattle.weld_words.specs.declared.options.Command.{Command}

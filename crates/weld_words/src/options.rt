@@ -8,7 +8,7 @@ pub enum Command {
     Soak,
 }
 
-/// What the words ask for (this project's profile).
+/// What the words ask for.
 #[derive(Clone, Copy, Debug, PartialEq, Eq)]
 pub struct Options {
     /// What the program is to do.

@@ -33,8 +33,7 @@ fn all_stand(words: &[String]) -> bool
 /// `session` or `soak`, and before or after it, each at most once and in any order, the options
 /// `--workers` (1 to 64, else 4), `--cut` (1 to 2147483647, else 4096), `--seed` (0 to 2147483647,
 /// else 1), `--rows` (0 to 1000000, else 1000), written `--name N` or `--name=N`, and `--report`. A
-/// number is read as std reads an `i64`; where it is a word of its own it doesn't begin with `-`
-/// (this project's profile).
+/// number is read as std reads an `i64`; where it is a word of its own it doesn't begin with `-`.
 ///
 /// `Form` comes exactly where the words aren't of this form, `Memory` where memory is wanting.
 pub fn read_words(alloc: Global, words: &[String]) -> Result<Options, WordsFault>

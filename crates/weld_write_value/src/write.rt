@@ -216,7 +216,7 @@ fn write_dict(key: &Ty, value: &Ty, pairs: &Pairs, out: &mut Text) -> Result<(),
     out.push(b'}')
 }
 
-/// The text of a value of the type (by this project's profile of Weld). It fails for want of memory alone.
+/// The text of a value of the type. It fails for want of memory alone.
 pub fn write_value(alloc: Global, value: &Val, ty: &Ty) -> Result<Text, AllocError>
     requires { HasValue ty.now (view_val value.now) }
     ensures { IfOk result (ShowValue (view_val value.now) ty.now) }

@@ -3,7 +3,7 @@
 use weld_tiles::Tile;
 
 /// What a seat does: it takes the first tile of its own hand; the first seat takes that of the second's hand; it has
-/// finished, its hand being empty. Seats are numbered from 0 (this project's profile).
+/// finished, its hand being empty. Seats are numbered from 0.
 #[derive(Clone, Copy, Debug, PartialEq, Eq)]
 pub enum Event {
     Pop(u32),

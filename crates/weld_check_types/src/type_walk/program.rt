@@ -13,9 +13,9 @@ use std::alloc::Global;
 use weld_tree::{Binder, Expr, Refusal, Ty};
 use weld_types::{Scope, check_answer, check_param};
 
-/// The type of a program of these parameters and this body; each node of the body has its type noted then. Refusals: the
-/// first of the typing rules in the order of the walk: the parameters, then the nodes of the body, children before parents,
-/// last the rule on the body's type (Y1 to Y30; this project's profile of Weld); want of memory.
+/// The type of a program of these parameters and this body; each node of the body has its type noted then. Refusals:
+/// the first of the typing rules in the order of the walk: the parameters, then the nodes of the body, children before
+/// parents, last the rule on the body's type (Y1 to Y30); want of memory.
 #[tactic(auto)]
 pub fn note_program(alloc: Global, params: &[Binder], body: &mut Expr) -> Result<Ty, Refusal>
     requires { All (λ b. IsSome b.note) params.now }

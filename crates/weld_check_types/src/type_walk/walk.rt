@@ -25,9 +25,8 @@ use weld_types::{
     many_type, one_type, row_type, three_type, two_type,
 };
 
-/// The type of the expression, where names have the types of the scope; each node has its type noted then. Refusals: the
-/// first of the typing rules in the order of the walk, children before parents (Y1 to Y30, N1; this project's profile of
-/// Weld); want of memory.
+/// The type of the expression, where names have the types of the scope; each node has its type noted then. Refusals:
+/// the first of the typing rules in the order of the walk, children before parents (Y1 to Y30, N1); want of memory.
 #[cycle(walk)]
 pub fn note_types(alloc: Global, e: &mut Expr, scope: &Scope) -> Result<Ty, Refusal>
     ensures found { Says result (type_of e.old scope.now) }

@@ -1,4 +1,4 @@
-//! The words of the papers' rows, and more.
+//! Words, and what they ask for.
 
 use std::alloc::{AllocError, Global};
 use std::test::Fail;

@@ -1,4 +1,4 @@
-/// A reserved word (the Weld papers). It is no name.
+/// A reserved word. It is no name.
 #[derive(Clone, Copy, Debug, PartialEq, Eq)]
 pub enum Reserved {
     /// `let`

@@ -1,4 +1,4 @@
-/// A token that is a symbol (the Weld papers).
+/// A token that is a symbol.
 #[derive(Clone, Copy, Debug, PartialEq, Eq)]
 pub enum Symbol {
     /// `(`

@@ -77,7 +77,7 @@ fn read_blocks(
 }
 
 /// The arguments that a job's data give the parameters of a program: block by block in order, the first block that
-/// doesn't fit being told (this project's profile of Weld). Each parameter has its type, which is well formed and has no
+/// doesn't fit being told. Each parameter has its type, which is well formed and has no
 /// builder in it.
 ///
 /// `Unfit` tells of stray bytes before the blocks by the number 0 and FORM; of a parameter without a block by its number

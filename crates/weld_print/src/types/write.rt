@@ -9,8 +9,8 @@ use std::alloc::{AllocError, Global};
 use weld_data::{Kind, MergeOp, Text};
 use weld_tree::{BuildTy, Ty, TyForm, Tys};
 
-/// The text of a type, as the one printed spelling has it (the Weld papers): without spaces, the builders of lists
-/// as `vecbuilder` and `groupbuilder`. It fails for want of memory alone.
+/// The text of a type, as the one printed spelling has it: without spaces, the builders of lists as
+/// `vecbuilder` and `groupbuilder`. It fails for want of memory alone.
 pub fn print_ty(alloc: Global, ty: &Ty) -> Result<Text, AllocError>
     ensures { IfOk result (PrintType ty.now) }
 {

@@ -110,8 +110,7 @@ fn is_text(text: &[u8], bytes: &[u8]) -> bool
     text == bytes
 }
 
-/// The call of that word in the library of that word, where there is one (this project's profile). It takes
-/// no memory.
+/// The call of that word in the library of that word, where there is one. It takes no memory.
 pub fn callee_of(library: &[u8], call: &[u8]) -> Option<Callee>
     ensures { result ≡ plain.callee_of library.now call.now }
 {

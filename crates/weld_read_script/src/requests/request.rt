@@ -153,7 +153,7 @@ fn arith(alloc: Global, arguments: &[Resolved]) -> Result<Option<Request>, Alloc
 
 /// What a call asks for on these arguments. None where their number is wrong, or one has the wrong form: a
 /// string where an object is wanted, an object where a string is wanted, a string that is no operator of
-/// the call, or a number out of its range (this project's profile). It fails only for want of memory.
+/// the call, or a number out of its range. It fails only for want of memory.
 pub fn request_of(
     alloc: Global,
     callee: Callee,

@@ -23,7 +23,7 @@ fn read_tokens_of(alloc: Global, tokens: &Tokens) -> Result<Saying, AllocError>
 }
 
 /// What a line of a script of library calls says, without the LF that ends it: nothing, a statement of one
-/// of the four forms, or nothing that has a form (this project's profile). It fails only for want of memory.
+/// of the four forms, or nothing that has a form. It fails only for want of memory.
 pub fn read_line(alloc: Global, line: &[u8]) -> Result<Saying, AllocError>
     requires { length line.now ≤ 262144 }
     ensures { IfOk result (LineSays line.now) }

@@ -33,7 +33,7 @@ pub struct Columns {
     pub cells: Tys,
 }
 
-/// A statement of a script, one of the four forms of a line (this project's profile).
+/// A statement of a script, one of the four forms of a line.
 #[derive(Drop)]
 pub enum Statement {
     /// `input NAME : TYPE`

@@ -169,9 +169,9 @@ fn read_form(alloc: Global, tokens: &[Token]) -> Result<Option<Statement>, Alloc
     }
 }
 
-/// The statement that the tokens of a line are, of the four forms that lines of scripts have; None where
-/// they have none of them: also where a word has more than 64 bytes, or a type is not as it is to be (this
-/// project's profile). It fails only for want of memory.
+/// The statement that the tokens of a line are, of the four forms that lines of scripts have; None where they have none
+/// of them: also where a word has more than 64 bytes, or a type is not as it is to be. It fails only for want of
+/// memory.
 pub fn read_statement(alloc: Global, tokens: &[Token]) -> Result<Option<Statement>, AllocError>
     ensures { IfOk result (plain.Says tokens.now) }
 {

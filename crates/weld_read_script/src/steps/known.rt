@@ -122,7 +122,7 @@ impl Known {
     }
 
     /// Takes what a statement says: what is known is then that of the statement more. A rule that refuses it,
-    /// the first by its number, is told, and what is known is then of no use (this project's profile).
+    /// the first by its number, is told, and what is known is then of no use.
     pub fn take(&mut self, alloc: Global, statement: Statement) -> Result<(), LineFault>
         requires { IsKnown self.old }
         ensures { Steps (plain.after self.old statement) result self.new }

@@ -16,8 +16,8 @@ pub struct Soak {
 }
 
 /// The fixed script with a table of so many rows, made from the seed by a generator of numbers: each
-/// row takes three draws, for `k` below 8 and for `x` and `y` below 100 (this project's profile). The
-/// seed is below 2,147,483,648, and there are at most 1,000,000 rows.
+/// row takes three draws, for `k` below 8 and for `x` and `y` below 100. The seed is below
+/// 2,147,483,648, and there are at most 1,000,000 rows.
 #[tactic(auto, using(crate::proofs::Rows::inputs_fit))]
 pub fn make_soak(alloc: Global, seed: u32, rows: u32) -> Result<Soak, AllocError>
     requires seed { seed < 2147483648 }

@@ -5,9 +5,8 @@ ghost use Rattle.weld_tree.specs.ExprView.{view_leg};
 
 use weld_tree::{Expr, Exprs, Form, Leg, Legs, Place};
 
-/// The place of the first node, in the order of the text, that stands deeper than 100 in an expression (M4, by this
-/// project's profile of Weld). The root has depth 1, a child one more than its node; the body of a `let` has the depth
-/// of the `let`.
+/// The place of the first node, in the order of the text, that stands deeper than 100 in an expression (M4). The root
+/// has depth 1, a child one more than its node; the body of a `let` has the depth of the `let`.
 pub fn first_deep_node(e: &Expr) -> Option<Place>
     ensures { result ≡ depth.first_deep_node e.now }
 {

@@ -5,7 +5,7 @@ ghost use Rattle.weld_tree.specs.ExprView.{view_leg};
 
 use weld_tree::{Expr, Exprs, Form, Leg, Legs};
 
-/// Whether an expression has too many `let` nodes: more than 1,024 (M5, by this project's profile of Weld).
+/// Whether an expression has too many `let` nodes: more than 1,024 (M5).
 pub fn has_too_many_lets(e: &Expr) -> bool
     ensures { result ≡ lets.has_too_many_lets e.now }
 {

@@ -198,8 +198,8 @@ fn first_place(tokens: &[Token]) -> Option<Place>
     }
 }
 
-/// The place of the name of the 17th parameter, where there is one (M7, by this project's profile of Weld). The tokens
-/// are those of a program.
+/// The place of the name of the 17th parameter, where there is one (M7). The tokens are those of a
+/// program.
 pub fn first_parameter_too_many(tokens: &[Token]) -> Option<Place>
     ensures { result ≡ lists.first_parameter_too_many tokens.now }
 {
@@ -238,7 +238,7 @@ fn item_too_many(tokens: &[Token]) -> Option<Place>
 }
 
 /// The place of the first token of the first field of a struct or of a struct type, or leg of a `zip`, that is the 17th
-/// of its list, where there is one (M8, by this project's profile of Weld). The tokens are those of a program.
+/// of its list, where there is one (M8). The tokens are those of a program.
 pub fn first_field_too_many(tokens: &[Token]) -> Option<Place>
     ensures { result ≡ lists.first_field_too_many tokens.now }
 {
@@ -340,7 +340,7 @@ fn type_behind(class: Class, rest: &[Token]) -> Option<Place>
 }
 
 /// The place of the first token of the first written type that has more than 256 nodes or is deeper than 16, where
-/// there is one (M6, by this project's profile of Weld). The tokens are those of a program; a scalar has depth 1.
+/// there is one (M6). The tokens are those of a program; a scalar has depth 1.
 pub fn first_type_too_large(tokens: &[Token]) -> Option<Place>
     ensures { result ≡ lists.first_type_too_large tokens.now }
 {
