@@ -208,16 +208,6 @@ impl Built {
         values_into(&mut self.state, key, number_of(kind, x))
     }
 
-    /// Merges an item that is a struct of a number that lies within an i64 and a value, as a value at a
-    /// key. It faults exactly where the first is an index outside of the cells.
-    pub fn merge_under(&mut self, key_kind: Kind, key: i64, item: Val) -> Result<(), Stop>
-        requires key { InRange key_kind key }
-        requires item { IsItemOf self.old (pair (number key_kind key) (view_val item)) }
-        ensures { MergeAnswer result (merge_part self.old (pair (number key_kind key) (view_val item))) self.new }
-    {
-        values_into(&mut self.state, number_of(key_kind, key), item)
-    }
-
     /// Makes room for so many more items where it is a list: of numbers of the kind, where one is
     /// given. It holds what it held, whether there is room or not.
     pub fn reserve(&mut self, kind: Option<Kind>, items: u64) -> Result<(), AllocError>

@@ -113,7 +113,7 @@ pub fn dot_of(
     }
 }
 
-/// The same of two vectors of numbers.
+/// The sum of the products of two vectors' numbers, place by place. None is a fault: they aren't of one length.
 #[tactic(auto, using(crate::proofs::Answering::dot_or_fault))]
 pub fn dot(alloc: Global, kind: Kind, v: &Val, w: &Val) -> Result<Option<Val>, AllocError>
     requires integer { IsInteger kind }

@@ -7,13 +7,13 @@ use Rattle.weld_meaning.specs.ThingType.{EnvFits}
 use Rattle.weld_meaning.specs.Evaluation.{Env}
 use Rattle.weld_meaning.specs.Origin.{Origin}
 use Rattle.weld_meaning.specs.Linear.{Keeps, AllKeep, LegKeeps, LegsKeep}
-use Rattle.weld_meaning.proofs.OriginTypes.{NamesForm}
+use Rattle.weld_meaning.specs.Forms.{NamesHaveForms}
 
 -- what is known of the names: their types, which are well formed, their things, and their origins
 pub record AreNamed (names : Types) (origins : Named Origin) (env : Env) : Type 0 where
   pub formed : AreFormed names
   pub fits : EnvFits names env
-  pub forms : NamesForm origins names
+  pub forms : NamesHaveForms origins names
 
 pub record IsFit (e : ExprTree) (env : Env) : Type 0 where
   pub names : Types

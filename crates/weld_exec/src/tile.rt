@@ -55,7 +55,7 @@ pub fn tile_part(
     }
 }
 
-/// The same, as a piece that has to be spent.
+/// The part of a tile, as `tile_part` makes it, as a piece that has to be spent.
 pub fn run_tile(
     alloc: Global,
     plan: &Plan,

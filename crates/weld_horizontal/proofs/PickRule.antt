@@ -18,7 +18,8 @@ use Rattle.weld_meaning.specs.Available.{takes, some_take, Splits, AllSplit}
 use Rattle.weld_meaning.specs.Names.{IsFree, AreFree}
 use Rattle.weld_meaning.proofs.Good.{value_of_thing, free_value_type}
 use Rattle.weld_meaning.proofs.WellFormed.{type_formed}
-use Rattle.weld_meaning.proofs.OriginTypes.{Forms, origin_forms, not_both}
+use Rattle.weld_meaning.specs.Forms.{HasForm}
+use Rattle.weld_meaning.proofs.OriginTypes.{origin_forms, not_both}
 use Rattle.weld_meaning.proofs.PartsGood.{KeyLaws}
 use Rattle.weld_meaning.proofs.NeverStuck.{Of, never_stuck}
 use Rattle.weld_check_types.specs.Notes.{AreNoted, AllAreNoted}
@@ -26,7 +27,7 @@ use Rattle.weld_print.specs.Spellable.{IsSpellable, AreSpellable}
 use Rattle.weld_rewriting.specs.Placed.{IsPlaced}
 use Rattle.weld_rewriting.specs.Within.{StaysWithin}
 use Rattle.weld_rewriting.specs.Rewriting.{Rewrites}
-use Rattle.weld_rewriting.proofs.Forms.{names_form, chain_value}
+use Rattle.weld_rewriting.proofs.Forms.{chain_value}
 use Rattle.weld_substitution.specs.Redex.{is_plain}
 use Rattle.weld_substitution.proofs.Chains.{plain_by, chain_only}
 use Rattle.weld_substitution.proofs.PlainFacts.{plain_holds, plain_gives}
@@ -104,7 +105,7 @@ plain_names e types g t u d p h k f =
     plain_by (λ w. HasType w types u → (s : ℕ) → IsFree w s → origin_of_name s g ≡ value)
     (λ a m x y s z. absurd z)
     (λ a b y s z. absurd z)
-    (λ w c m y s z. subst (λ r. origin_of_name r g ≡ value) (sym (chain_only w c s m z)) (chain_value w c types g u m y p.formed (names_form p.forms) f))
+    (λ w c m y s z. subst (λ r. origin_of_name r g ≡ value) (sym (chain_only w c s m z)) (chain_value w c types g u m y p.formed p.forms f))
     e h k
 
 abbrev plains : Values → Things
@@ -188,7 +189,7 @@ module _ (laws : KeyLaws) (a m : At) (n : ℕ) (es : ExprTrees) (there : has_nth
       by (inr b) =
           let here : origin answer g ≡ value = picked_origin pattern n es g there ∙ is_value_so (field_origin n (origin (many m make_struct es) g)) p.splits.1 in
           absurd (not_both t (type_formed answer types t typed p.formed) (nth_builder n inner t b is_field)
-          (subst (λ o. Forms o t) here (origin_forms answer g types t typed p.formed (names_form p.forms))))
+          (subst (λ o. HasForm o t) here (origin_forms answer g types t typed p.formed p.forms)))
 
   placed : (types : Types) (g : Named Origin) (t : TypeTree) → IsPlaced pattern types g t → IsPlaced answer types g t
   placed types g t p = record {

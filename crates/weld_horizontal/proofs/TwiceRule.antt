@@ -31,7 +31,7 @@ use Rattle.weld_rewriting.specs.Within.{times, legs, StaysWithin}
 use Rattle.weld_rewriting.specs.Tidy.{IsTidy}
 use Rattle.weld_rewriting.specs.Rewriting.{Rewrites}
 use Rattle.weld_rewriting.proofs.Counts.{times-append, times_here, one_of_times, distinct_times}
-use Rattle.weld_rewriting.proofs.Forms.{names_form, chain_value, chain_takes_none}
+use Rattle.weld_rewriting.proofs.Forms.{chain_value, chain_takes_none}
 use Rattle.weld_rewriting.proofs.Nodes.{apart_same}
 use Rattle.weld_rewriting.proofs.Outcomes.{then_same, run_same}
 use Rattle.weld_rewriting.proofs.Parts.{noted_at, body_of_loop}
@@ -252,7 +252,7 @@ module _ (a : At) (j i : ℕ) (s : ℕ) (here again : At) (rest : LegTrees) (e :
 
   second_takes : (types : Types) (g : Named Origin) (t : TypeTree) (p : IsPlaced pattern types g t) (k : Known types g t p) (y : ℕ) (q : Path) → leg_takes second g y q ≡ false
   second_takes types g t p k y q =
-      chain_takes_none (s, []) g y q false (chain_value (leaf again (name s)) (s, []) types g (vec k.u) refl k.look p.formed (names_form p.forms) k.free)
+      chain_takes_none (s, []) g y q false (chain_value (leaf again (name s)) (s, []) types g (vec k.u) refl k.look p.formed p.forms k.free)
 
   legs_taken : (types : Types) (g : Named Origin) (t : TypeTree) (p : IsPlaced pattern types g t) (k : Known types g t p) → legs_take (with_leg j second rest) g ≡ legs_take rest g
   legs_taken types g t p k = λ m y q. with_taken j second rest g (second_takes types g t p k) y q m

@@ -12,10 +12,10 @@ use Rattle.weld_meaning.specs.Linear.{IsSeen}
 use Rattle.weld_check_types.specs.Notes.{AreNoted}
 use Rattle.weld_meaning.proofs.OneType.{one_type}
 use Rattle.weld_meaning.proofs.WellFormed.{type_formed}
-use Rattle.weld_meaning.proofs.OriginTypes.{Forms, not_both, origin_forms}
+use Rattle.weld_meaning.specs.Forms.{HasForm}
+use Rattle.weld_meaning.proofs.OriginTypes.{not_both, origin_forms}
 use Rattle.weld_substitution.specs.Redex.{noted}
 use Rattle.weld_rewriting.specs.Placed.{IsPlaced}
-use Rattle.weld_rewriting.proofs.Forms.{names_form}
 use Rattle.weld_rewriting.proofs.Parts.{start_of_loop, body_of_loop}
 use Rattle.weld_joining.specs.Beside.{Half, half_loop, half_value}
 use Rattle.weld_joining.proofs.Bodies.{OneBody}
@@ -51,7 +51,7 @@ noted_type e g t u n w h =
 -- ---- builders
 
 -- what a builder or a struct of builders comes from is no value
-no_value : (o : Origin) (u : TypeTree) → IsWellFormed u → IsBuilder u → Forms o u → is_value o ≡ false
+no_value : (o : Origin) (u : TypeTree) → IsWellFormed u → IsBuilder u → HasForm o u → is_value o ≡ false
 no_value value u w b f = absurd (not_both u w b f)
 no_value made u w b f = refl
 no_value (own p) u w b f = refl
@@ -114,5 +114,5 @@ half_placed s row h types g u starts look p =
       leg_noted = l.noted.0.0;
       result_noted = f.result_noted;
       closes = f.closes;
-      kept = no_value (origin h.start g) w (type_formed h.start types w begun.typed l.formed) t.5 (origin_forms h.start g types w begun.typed l.formed (names_form l.forms));
+      kept = no_value (origin h.start g) w (type_formed h.start types w begun.typed l.formed) t.5 (origin_forms h.start g types w begun.typed l.formed l.forms);
     }

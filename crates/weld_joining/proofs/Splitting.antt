@@ -17,7 +17,7 @@ use Rattle.weld_check_types.specs.Notes.{HasNote, AreNoted}
 use Rattle.weld_rewriting.specs.Placed.{IsPlaced}
 use Rattle.weld_rewriting.specs.Tidy.{IsTidy}
 use Rattle.weld_meaning.proofs.OneType.{one_type}
-use Rattle.weld_rewriting.proofs.Forms.{chain_value, names_form}
+use Rattle.weld_rewriting.proofs.Forms.{chain_value}
 use Rattle.weld_rewriting.proofs.Parts.{value_of_let, body_of_let}
 use Rattle.weld_substitution.proofs.PutTypes.{noted_free}
 use Rattle.weld_joining.specs.Beside.{finish_at, Half, half_loop, half_value, two_lets, MayJoin, node_of, bare, both_builders, builder_field, joined, with_results}

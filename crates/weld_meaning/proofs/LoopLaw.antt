@@ -23,7 +23,8 @@ use Rattle.weld_meaning.proofs.Good.{Good}
 use Rattle.weld_meaning.proofs.WellFormed.{formed_bind, formed_body, type_formed, legs_formed, row_formed}
 use Rattle.weld_meaning.proofs.PartsGood.{KeyLaws, bare_has}
 use Rattle.weld_meaning.proofs.NeverStuck.{never_stuck, run_good, fits_body, no_builder_value}
-use Rattle.weld_meaning.proofs.OriginTypes.{Forms, NamesForm, forms_bind, forms_outside, forms_in_body, origin_forms, before_own}
+use Rattle.weld_meaning.specs.Forms.{HasForm, NamesHaveForms}
+use Rattle.weld_meaning.proofs.OriginTypes.{forms_bind, forms_outside, forms_in_body, origin_forms, before_own}
 use Rattle.weld_meaning.proofs.Shapes.{Holds, Ends, Shaped, AllShaped, keeps_shape, run_shaped, shaped_in_body}
 
 -- what the proof takes from the laws of builders
@@ -181,7 +182,7 @@ and_then_same P Q stuck k h p q e = refl
 record BodyFacts (l : Site) (g : Named Origin) (o : Origin) : Type 0 where
   keeps : Keeps l.body (in_body l.builder_binder l.number_binder l.row_binder o g)
   gives_own : origin l.body (in_body l.builder_binder l.number_binder l.row_binder o g) ≡ own_paths o
-  forms : Forms o l.builder
+  forms : HasForm o l.builder
   formed : IsWellFormed l.builder
   is_builder : IsBuilder l.builder
   typed : HasType l.body (body_types l.builder_binder l.number_binder l.row_binder l.builder l.row l.names) l.builder
@@ -240,7 +241,7 @@ row_free no_types r f h = absurd h
 row_free (more_types u no_types) r f h = subst IsBuilderFree (sym h) f.0
 row_free (more_types u (more_types v us)) r f h = subst IsBuilderFree (sym h) f
 
-site_law : PartLaws → (ls : LegTrees) (e : ExprTree) (b n x : Binder) (f : ExprTree) (g : Named Origin) (types : Types) (l : Site) → Keeps f (in_body b n x (origin e g) g) → origin f (in_body b n x (origin e g) g) ≡ own_paths (origin e g) → AreFormed types → NamesForm g types → IsSite ls e b n x f types l → LawOfLoop l
+site_law : PartLaws → (ls : LegTrees) (e : ExprTree) (b n x : Binder) (f : ExprTree) (g : Named Origin) (types : Types) (l : Site) → Keeps f (in_body b n x (origin e g) g) → origin f (in_body b n x (origin e g) g) ≡ own_paths (origin e g) → AreFormed types → NamesHaveForms g types → IsSite ls e b n x f types l → LawOfLoop l
 site_law laws ls e b n x f g types l keeps own w names h =
     let same : ◌≡◌ {A = Site} l (record { builder_binder = b; number_binder = n; row_binder = x; body = f; builder = l.builder; row = l.row; names = types }) =
     λ i. record { builder_binder = h.builder_binder i; number_binder = h.number_binder i; row_binder = h.row_binder i; body = h.body i; builder = l.builder; row = l.row; names = h.names i } in
@@ -255,7 +256,7 @@ site_law laws ls e b n x f g types l keeps own w names h =
     }))
 
 mutual
-  pub law_at : PartLaws → (e : ExprTree) (g : Named Origin) (types : Types) (k : ℕ) (l : Site) → LoopAt e types k l → Keeps e g → AreFormed types → NamesForm g types → LawOfLoop l
+  pub law_at : PartLaws → (e : ExprTree) (g : Named Origin) (types : Types) (k : ℕ) (l : Site) → LoopAt e types k l → Keeps e g → AreFormed types → NamesHaveForms g types → LawOfLoop l
   law_at laws (leaf a o) g types k l h r w n = absurd h
   law_at laws (one a o e) g types k l h r w n = law_at laws e g types k l h r.0 w n
   law_at laws (two a o e f) g types k l (inl h) r w n = law_at laws e g types k l h r.0 w n
@@ -279,19 +280,19 @@ mutual
   law_at laws (iterate a e b f) g types k l (inr h) r w n =
       law_at laws f (in_turn b g) ((b.sym.0, h.0) ∷ types) h.3.0 l h.3.2 r.1 (formed_bind types b.sym.0 h.0 (type_formed e types h.0 h.1 w) w) (forms_bind (outside g) types b.sym.0 value h.0 h.2 (forms_outside g types n))
 
-  law_in : PartLaws → (es : ExprTrees) (g : Named Origin) (types : Types) (k : ℕ) (l : Site) → LoopIn es types k l → AllKeep es g → AreFormed types → NamesForm g types → LawOfLoop l
+  law_in : PartLaws → (es : ExprTrees) (g : Named Origin) (types : Types) (k : ℕ) (l : Site) → LoopIn es types k l → AllKeep es g → AreFormed types → NamesHaveForms g types → LawOfLoop l
   law_in laws no_exprs g types k l h r w n = absurd h
   law_in laws (more_exprs e es) g types k l (inl h) r w n = law_at laws e g types k l h r.0 w n
   law_in laws (more_exprs e es) g types k l (inr h) r w n = law_in laws es g types h.0 l h.2 r.1 w n
 
-  law_in_leg : PartLaws → (s : LegTree) (g : Named Origin) (types : Types) (k : ℕ) (l : Site) → LoopInLeg s types k l → LegKeeps s g → AreFormed types → NamesForm g types → LawOfLoop l
+  law_in_leg : PartLaws → (s : LegTree) (g : Named Origin) (types : Types) (k : ℕ) (l : Site) → LoopInLeg s types k l → LegKeeps s g → AreFormed types → NamesHaveForms g types → LawOfLoop l
   law_in_leg laws (whole e) g types k l h r w n = law_at laws e g types k l h r w n
   law_in_leg laws (strided e f u v) g types k l (inl h) r w n = law_at laws e g types k l h r.0 w n
   law_in_leg laws (strided e f u v) g types k l (inr (inl h)) r w n = law_at laws f g types h.0 l h.2 r.1 w n
   law_in_leg laws (strided e f u v) g types k l (inr (inr (inl h))) r w n = law_at laws u g types h.0 l h.2 r.2 w n
   law_in_leg laws (strided e f u v) g types k l (inr (inr (inr h))) r w n = law_at laws v g types h.0 l h.2 r.3 w n
 
-  law_in_legs : PartLaws → (ls : LegTrees) (g : Named Origin) (types : Types) (k : ℕ) (l : Site) → LoopInLegs ls types k l → LegsKeep ls g → AreFormed types → NamesForm g types → LawOfLoop l
+  law_in_legs : PartLaws → (ls : LegTrees) (g : Named Origin) (types : Types) (k : ℕ) (l : Site) → LoopInLegs ls types k l → LegsKeep ls g → AreFormed types → NamesHaveForms g types → LawOfLoop l
   law_in_legs laws no_legs g types k l h r w n = absurd h
   law_in_legs laws (more_legs s ls) g types k l (inl h) r w n = law_in_leg laws s g types k l h r.0 w n
   law_in_legs laws (more_legs s ls) g types k l (inr h) r w n = law_in_legs laws ls g types h.0 l h.2 r.1 w n

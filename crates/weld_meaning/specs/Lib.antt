@@ -5,6 +5,7 @@ pub mod Origin
 pub mod Linear
 pub mod Available
 pub mod Typing
+pub mod Forms
 pub mod ThingType
 pub mod Accepted
 pub mod Loops

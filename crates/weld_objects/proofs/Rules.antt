@@ -16,7 +16,8 @@ use Rattle.weld_meaning.specs.LinearWalk.{some_of, is_seen, has, paths_below, be
 use Rattle.weld_meaning.specs.Available.{takes}
 use Rattle.weld_meaning.specs.Accepted.{IsAccepted}
 use Rattle.weld_meaning.proofs.WellFormed.{formed_bind, type_formed}
-use Rattle.weld_meaning.proofs.OriginTypes.{Forms, not_both, origin_forms}
+use Rattle.weld_meaning.specs.Forms.{HasForm}
+use Rattle.weld_meaning.proofs.OriginTypes.{not_both, origin_forms}
 use Rattle.weld_meaning.proofs.Walk.{walk_of_linear}
 use Rattle.weld_objects.specs.Renamed.{ScopeMoves}
 use Rattle.weld_objects.specs.RenamedOrigins.{OriginsHaveMoved, renamed_origin}
@@ -52,7 +53,7 @@ free_params (b ∷ bs) h s t e = by (s == b.sym.0) (free_params bs h.1 s t) e
     by true k e = let same : noted_type b.note ≡ t = cc in subst IsBuilderFree same (param_free b.note h.0)
     by false k e = k e
 
-value_form : (o : Origin) (t : TypeTree) → IsWellFormed t → IsBuilderFree t → Forms o t → o ≡ value
+value_form : (o : Origin) (t : TypeTree) → IsWellFormed t → IsBuilderFree t → HasForm o t → o ≡ value
 value_form value t w f h = refl
 value_form made (scalar k) w f h = absurd h
 value_form made (vec t) w f h = absurd h

@@ -8,16 +8,8 @@ use Rattle.weld_meaning.specs.Typing.{Types, AreFormed, IsField, HasType}
 use Rattle.weld_meaning.specs.Origin.{Path, Origin, value, made, own, outer, named, struct, origin_of_name}
 use Rattle.weld_meaning.specs.Available.{field_within, at_path, is_builder, is_builder_path, is_below, chain_of_one, chain_of, chain_takes, takes}
 use Rattle.weld_meaning.proofs.WellFormed.{key_free, type_formed}
-use Rattle.weld_meaning.proofs.OriginTypes.{Forms, NamesForm, not_both}
-use Rattle.weld_rewriting.specs.Forms.{NamesHaveForms}
-
--- ---- the definition is that by which origins were shown to fit types
-
-pub names_form : {g : Named Origin} {types : Types} → NamesHaveForms g types → NamesForm g types
-names_form n = record { forms = n.forms }
-
-pub names_have : {g : Named Origin} {types : Types} → NamesForm g types → NamesHaveForms g types
-names_have n = record { forms = n.forms }
+use Rattle.weld_meaning.specs.Forms.{HasForm, NamesHaveForms}
+use Rattle.weld_meaning.proofs.OriginTypes.{not_both}
 
 -- ---- types
 
@@ -45,7 +37,7 @@ free_by_field n us t f w free h = by h.2
 
 -- ---- origins
 
-pub free_origin : (o : Origin) (u : TypeTree) → IsWellFormed u → IsBuilderFree u → Forms o u → o ≡ value
+pub free_origin : (o : Origin) (u : TypeTree) → IsWellFormed u → IsBuilderFree u → HasForm o u → o ≡ value
 free_origin value u w f h = refl
 free_origin made (scalar k) w f h = absurd h
 free_origin made (vec t) w f h = absurd h
@@ -112,7 +104,7 @@ chain_free (let_in a b d k) c g u e h w f = let no : ⊥ = cc in absurd no
 chain_free (loop a ls d b n x k) c g u e h w f = let no : ⊥ = cc in absurd no
 chain_free (iterate a d b k) c g u e h w f = let no : ⊥ = cc in absurd no
 
-pub chain_value : (d : ExprTree) (c : ℕ × Path) (g : Types) (h : Named Origin) (u : TypeTree) → chain_of d ≡ Some c → HasType d g u → AreFormed g → NamesForm h g → IsBuilderFree u → origin_of_name c.0 h ≡ value
+pub chain_value : (d : ExprTree) (c : ℕ × Path) (g : Types) (h : Named Origin) (u : TypeTree) → chain_of d ≡ Some c → HasType d g u → AreFormed g → NamesHaveForms h g → IsBuilderFree u → origin_of_name c.0 h ≡ value
 chain_value d c g h u e k w n f =
     let p = chain_free d c g u e k w f in
     free_origin (origin_of_name c.0 h) p.0 (w.formed c.0 p.0 p.1) p.2 (n.forms c.0 p.0 p.1)

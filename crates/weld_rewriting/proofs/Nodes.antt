@@ -12,13 +12,14 @@ use Rattle.weld_meaning.specs.Origin.{Path, Origin, value, made, own, outer, nam
 use Rattle.weld_meaning.specs.Linear.{IsNotMade, OneKeeps, ThreeKeeps, Keeps}
 use Rattle.weld_meaning.specs.Available.{chain_of_one, chain_of, chain_takes, takes, Taken, Apart, TakesAll, without, ChainSplits, OneSplits, TwoSplits, ThreeSplits, Splits}
 use Rattle.weld_meaning.proofs.WellFormed.{type_formed}
-use Rattle.weld_meaning.proofs.OriginTypes.{Forms, origin_forms}
+use Rattle.weld_meaning.specs.Forms.{HasForm}
+use Rattle.weld_meaning.proofs.OriginTypes.{origin_forms}
 use Rattle.weld_meaning.proofs.PartsGood.{KeyLaws}
 use Rattle.weld_meaning.proofs.NeverStuck.{Of, never_stuck, fits_bind}
 use Rattle.weld_rewriting.specs.Placed.{IsPlaced}
 use Rattle.weld_rewriting.specs.Replacing.{MayReplace}
 use Rattle.weld_rewriting.proofs.Outcomes.{then_same}
-use Rattle.weld_rewriting.proofs.Forms.{names_form, free_by_field, chain_field, chain_value, takes_chain, chain_takes_none}
+use Rattle.weld_rewriting.proofs.Forms.{free_by_field, chain_field, chain_value, takes_chain, chain_takes_none}
 use Rattle.weld_rewriting.proofs.Parts.{noted_at, part_of_one, first_of_two, second_of_two, first_of_three, second_of_three, third_of_three, value_of_let, body_of_let}
 
 -- ---- itself, and one after another
@@ -82,14 +83,14 @@ field_taken a n d e r types g t p s q = by (chain_of e) (chain_of d) refl refl
         let us = p.typed.2.0 in
         let typed : HasType e types (tuple us) = subst (HasType e types) p.typed.2.1 p.typed.1 in
         let formed = type_formed (one a (field n) e) types t p.typed p.formed in
-        let forms : Forms (field_origin n (origin e g)) t = origin_forms (one a (field n) e) g types t p.typed p.formed (names_form p.forms) in
+        let forms : HasForm (field_origin n (origin e g)) t = origin_forms (one a (field n) e) g types t p.typed p.formed p.forms in
         let is : is_value (field_origin n (origin e g)) ≡ true = subst (λ x. ChainSplits x (field_origin n (origin e g))) m p.splits.1 in
         let free : IsBuilderFree t = free_of (field_origin n (origin e g)) t is forms in
         let whole : IsBuilderFree p.typed.0 = subst IsBuilderFree (sym p.typed.2.1) (free_by_field n us t p.typed.2.2 formed free (type_formed e types (tuple us) typed p.formed)) in
         let there = r.placed types g p.typed.0 part in
-        chain_value d c types g p.typed.0 k there.typed p.formed (names_form p.forms) whole
+        chain_value d c types g p.typed.0 k there.typed p.formed p.forms whole
       where
-        free_of : (o : Origin) (u : TypeTree) → is_value o ≡ true → Forms o u → IsBuilderFree u
+        free_of : (o : Origin) (u : TypeTree) → is_value o ≡ true → HasForm o u → IsBuilderFree u
         free_of value u h f = f
         free_of made u h f = let no : ⊥ = cc in absurd no
         free_of (own x) u h f = let no : ⊥ = cc in absurd no

@@ -13,9 +13,8 @@ use Rattle.weld_meaning.proofs.OneType.{one_type}
 use Rattle.weld_meaning.proofs.WellFormed.{type_formed, formed_bind, formed_body, legs_formed, row_formed}
 use Rattle.weld_meaning.proofs.OriginTypes.{origin_forms, forms_bind, forms_outside, forms_in_body}
 use Rattle.weld_check_types.specs.Notes.{HasNote, AreNoted, AllAreNoted, LegIsNoted, LegsAreNoted}
-use Rattle.weld_rewriting.specs.Forms.{NamesHaveForms}
+use Rattle.weld_meaning.specs.Forms.{NamesHaveForms}
 use Rattle.weld_rewriting.specs.Placed.{IsPlaced}
-use Rattle.weld_rewriting.proofs.Forms.{names_form, names_have}
 
 -- ---- types of legs and rows
 
@@ -80,7 +79,7 @@ value_of_let a b e f types g t p = record { formed = p.formed; forms = p.forms; 
 pub body_of_let : (a : At) (b : Binder) (e f : ExprTree) (types : Types) (g : Named Origin) (t : TypeTree) → (p : IsPlaced (let_in a b e f) types g t) → IsPlaced f ((b.sym.0, p.typed.0) ∷ types) ((b.sym.0, origin e g) ∷ g) t
 body_of_let a b e f types g t p = record {
   formed = formed_bind types b.sym.0 p.typed.0 (type_formed e types p.typed.0 p.typed.1 p.formed) p.formed;
-  forms = names_have (forms_bind g types b.sym.0 (origin e g) p.typed.0 (origin_forms e g types p.typed.0 p.typed.1 p.formed (names_form p.forms)) (names_form p.forms));
+  forms = (forms_bind g types b.sym.0 (origin e g) p.typed.0 (origin_forms e g types p.typed.0 p.typed.1 p.formed p.forms) p.forms);
   typed = p.typed.3;
   keeps = p.keeps.1;
   splits = p.splits.1;
@@ -97,7 +96,7 @@ body_of_loop a ls e b n x f types g t p =
     let same = one_type e types p.noted.2.2 t p.noted.2.5 h.4 in
     record {
       formed = formed_body b n x t h.1 types (type_formed e types t h.4 p.formed) (row_formed ls types h.0 h.1 h.2 h.3 p.formed) p.formed;
-      forms = names_have (forms_in_body g types b n x (origin e g) t h.1 (origin_forms e g types t h.4 p.formed (names_form p.forms)) (row_free ls types h.0 h.1 h.2 h.3 p.formed) (names_form p.forms));
+      forms = (forms_in_body g types b n x (origin e g) t h.1 (origin_forms e g types t h.4 p.formed p.forms) (row_free ls types h.0 h.1 h.2 h.3 p.formed) p.forms);
       typed = h.9;
       keeps = p.keeps.2;
       splits = p.splits.3;
@@ -110,7 +109,7 @@ state_of_iterate a e b f types g t p = record { formed = p.formed; forms = p.for
 pub body_of_iterate : (a : At) (e : ExprTree) (b : Binder) (f : ExprTree) (types : Types) (g : Named Origin) (t : TypeTree) → IsPlaced (iterate a e b f) types g t → IsPlaced f ((b.sym.0, t) ∷ types) (in_turn b g) (pair_of t truth_type)
 body_of_iterate a e b f types g t p = record {
   formed = formed_bind types b.sym.0 t (type_formed e types t p.typed.0 p.formed) p.formed;
-  forms = names_have (forms_bind _ types b.sym.0 value t p.typed.1 (forms_outside g types (names_form p.forms)));
+  forms = (forms_bind _ types b.sym.0 value t p.typed.1 (forms_outside g types p.forms));
   typed = p.typed.3;
   keeps = p.keeps.1;
   splits = p.splits.1;

@@ -1,6 +1,5 @@
 pub mod Nodes
 pub mod Sweep
-pub mod Forms
 pub mod Placed
 pub mod Replacing
 pub mod Within

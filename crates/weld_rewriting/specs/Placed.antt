@@ -7,7 +7,7 @@ use Rattle.weld_meaning.specs.Origin.{Origin}
 use Rattle.weld_meaning.specs.Linear.{Keeps}
 use Rattle.weld_meaning.specs.Available.{Splits}
 use Rattle.weld_check_types.specs.Notes.{AreNoted}
-use Rattle.weld_rewriting.specs.Forms.{NamesHaveForms}
+use Rattle.weld_meaning.specs.Forms.{NamesHaveForms}
 
 -- by the types and the origins of names, which fit each other, the expression has the type, it uses builders linearly, and its
 -- nodes have their types noted

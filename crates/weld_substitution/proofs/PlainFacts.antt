@@ -14,14 +14,15 @@ use Rattle.weld_meaning.specs.Origin.{Path, Origin, value, made, own, outer, nam
 use Rattle.weld_meaning.specs.Linear.{IsSeen}
 use Rattle.weld_meaning.specs.Available.{field_within, at_path, chain_of}
 use Rattle.weld_meaning.proofs.Before.{HasNone, HaveNone, none_within}
-use Rattle.weld_meaning.proofs.OriginTypes.{Forms, AllForm, NamesForm, not_both, origin_forms}
+use Rattle.weld_meaning.specs.Forms.{HasForm, HaveForms, NamesHaveForms}
+use Rattle.weld_meaning.proofs.OriginTypes.{not_both, origin_forms}
 use Rattle.weld_rewriting.specs.Within.{times, legs}
 use Rattle.weld_substitution.specs.Redex.{is_plain}
 use Rattle.weld_substitution.proofs.Chains.{chain_by, plain_by}
 
 -- ---- where a chain leads
 
-field_leads : (n : ℕ) (o : Origin) (us : TypeTrees) → Forms o (tuple us) → field_origin n o ≡ field_within n o
+field_leads : (n : ℕ) (o : Origin) (us : TypeTrees) → HasForm o (tuple us) → field_origin n o ≡ field_within n o
 field_leads n value us h = refl
 field_leads n made us h = absurd h
 field_leads n (own p) us h = absurd h
@@ -29,18 +30,18 @@ field_leads n outer us h = absurd h
 field_leads n (named s p) us h = absurd h
 field_leads n (struct os) us h = refl
 
-pub chain_leads : (types : Types) (g : Named Origin) → AreFormed types → NamesForm g types → (d : ExprTree) (c : ℕ × Path) → chain_of d ≡ Some c → (u : TypeTree) → HasType d types u → origin d g ≡ at_path c.1 (origin_of_name c.0 g)
+pub chain_leads : (types : Types) (g : Named Origin) → AreFormed types → NamesHaveForms g types → (d : ExprTree) (c : ℕ × Path) → chain_of d ≡ Some c → (u : TypeTree) → HasType d types u → origin d g ≡ at_path c.1 (origin_of_name c.0 g)
 chain_leads types g formed forms d c k =
     chain_by (λ x y. (u : TypeTree) → HasType x types u → origin x g ≡ at_path y.1 (origin_of_name y.0 g))
     (λ a s u h. refl)
     (λ a n x y m f u h.
-    field_leads n (origin x g) h.2.0 (subst (Forms (origin x g)) h.2.1 (origin_forms x g types h.0 h.1 formed forms)) ∙ ap (field_within n) (f h.0 h.1))
+    field_leads n (origin x g) h.2.0 (subst (HasForm (origin x g)) h.2.1 (origin_forms x g types h.0 h.1 formed forms)) ∙ ap (field_within n) (f h.0 h.1))
     d c k
 
 -- ---- a builder isn't seen within a lambda
 
 mutual
-  none_builds : (o : Origin) (u : TypeTree) → HasNone o → Forms o u → IsWellFormed u → IsBuilder u → ⊥
+  none_builds : (o : Origin) (u : TypeTree) → HasNone o → HasForm o u → IsWellFormed u → IsBuilder u → ⊥
   none_builds value u n h w b = not_both u w b h
   none_builds made u n h w b = n
   none_builds (own p) u n h w b = n
@@ -52,12 +53,12 @@ mutual
   none_builds (struct os) (dict k t) n h w b = h
   none_builds (struct os) (build c) n h w b = h
 
-  none_build : (os : Origins) (us : TypeTrees) → HaveNone os → AllForm os us → HasTypes us → AreWellFormed us → AreBuilders us → ⊥
+  none_build : (os : Origins) (us : TypeTrees) → HaveNone os → HaveForms os us → HasTypes us → AreWellFormed us → AreBuilders us → ⊥
   none_build os no_types n h some w b = some
   none_build no_origins (more_types u us) n h some w b = h
   none_build (more_origins o os) (more_types u us) n h some w b = none_builds o u n.0 h.0 w.0 b.0
 
-pub builder_hidden : (o : Origin) (u : TypeTree) → Forms o u → IsWellFormed u → IsBuilder u → IsSeen (from_within o) → ⊥
+pub builder_hidden : (o : Origin) (u : TypeTree) → HasForm o u → IsWellFormed u → IsBuilder u → IsSeen (from_within o) → ⊥
 builder_hidden o u h w b seen = none_builds o u (none_within o seen) h w b
 
 -- ---- what a plain value holds

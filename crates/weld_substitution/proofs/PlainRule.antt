@@ -29,7 +29,7 @@ use Rattle.weld_rewriting.specs.Within.{times, legs, StaysWithin}
 use Rattle.weld_rewriting.specs.Tidy.{IsTidy}
 use Rattle.weld_rewriting.specs.Rewriting.{Rewrites}
 use Rattle.weld_rewriting.proofs.Counts.{times-append}
-use Rattle.weld_rewriting.proofs.Forms.{names_form, free_or_builder, free_origin, chain_value, no_builder_path}
+use Rattle.weld_rewriting.proofs.Forms.{free_or_builder, free_origin, chain_value, no_builder_path}
 use Rattle.weld_rewriting.proofs.Parts.{value_of_let, body_of_let}
 use Rattle.weld_substitution.specs.Uses.{uses}
 use Rattle.weld_substitution.specs.Redex.{is_plain}
@@ -88,14 +88,14 @@ module _ (a : At) (b : Binder) (v f : ExprTree) (tidy : IsTidy (let_in a b v f))
       let s = b.sym.0 in
       let x = value_of_let a b v f types g t p in
       let formed = type_formed v types p.typed.0 x.typed x.formed in
-      let from : origin v g ≡ value = free_origin (origin v g) p.typed.0 formed free (origin_forms v g types p.typed.0 x.typed x.formed (names_form x.forms)) in
+      let from : origin v g ≡ value = free_origin (origin v g) p.typed.0 formed free (origin_forms v g types p.typed.0 x.typed x.formed x.forms) in
       let later : Named Origin = (s, origin v g) ∷ g in
       let still : Still s v g later = record {
         binding = subst (λ o. Binding s o g later) from (binding_first s (origin v g) g);
         idle = record {
           idle = λ y m.
               let c = plain_named v y h m in
-              subst (λ z. origin_of_name z g ≡ value) (sym c.2) (chain_value v c.0 types g p.typed.0 c.1 x.typed x.formed (names_form x.forms) free);
+              subst (λ z. origin_of_name z g ≡ value) (sym c.2) (chain_value v c.0 types g p.typed.0 c.1 x.typed x.formed x.forms free);
         };
       } in
       let idle = plain_idle v h in
@@ -127,12 +127,12 @@ module _ (a : At) (b : Binder) (v f : ExprTree) (tidy : IsTidy (let_in a b v f))
       let s = b.sym.0 in
       let x = value_of_let a b v f types g t p in
       let formed = type_formed v types p.typed.0 x.typed x.formed in
-      let forms = origin_forms v g types p.typed.0 x.typed x.formed (names_form x.forms) in
+      let forms = origin_forms v g types p.typed.0 x.typed x.formed x.forms in
       let o = origin v g in let r = origin_of_name c.0 g in
       let w : Chained s v c.0 c.1 o r = record {
         chain = k;
         other = λ e. own_name a b v f tidy (subst (IsFree v) (sym e) (chain_named v c k));
-        leads = sym (chain_leads types g x.formed (names_form x.forms) v c k p.typed.0 x.typed);
+        leads = sym (chain_leads types g x.formed x.forms v c k p.typed.0 x.typed);
         hidden = builder_hidden o p.typed.0 forms formed builder;
       } in
       let later : Named Origin = (s, o) ∷ g in

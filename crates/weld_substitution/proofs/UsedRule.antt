@@ -29,7 +29,7 @@ use Rattle.weld_rewriting.specs.Within.{times, legs, StaysWithin}
 use Rattle.weld_rewriting.specs.Tidy.{IsTidy}
 use Rattle.weld_rewriting.specs.Rewriting.{Rewrites}
 use Rattle.weld_rewriting.proofs.Counts.{times-append}
-use Rattle.weld_rewriting.proofs.Forms.{names_form, free_origin}
+use Rattle.weld_rewriting.proofs.Forms.{free_origin}
 use Rattle.weld_rewriting.proofs.Parts.{value_of_let, body_of_let}
 use Rattle.weld_substitution.specs.Uses.{uses}
 use Rattle.weld_substitution.specs.declared.put_anywhere.spot.Spot.{Spot}
@@ -143,7 +143,7 @@ module _ (a : At) (b : Binder) (v f : ExprTree) (tidy : IsTidy (let_in a b v f))
       let known : is_known_value (noted v) ≡ true = (and_true (not (has_loop v)) (is_known_value (noted v)) may).1 in
       let free : is_builder_free n.0 ≡ true = sym (ap is_known_value n.1) ∙ known in
       let same : n.0 ≡ p.typed.0 = one_type v types n.0 p.typed.0 n.2 x.typed in
-      free_origin (origin v g) p.typed.0 (type_formed v types p.typed.0 x.typed x.formed) (subst IsBuilderFree same (free_of n.0 free)) (origin_forms v g types p.typed.0 x.typed x.formed (names_form x.forms))
+      free_origin (origin v g) p.typed.0 (type_formed v types p.typed.0 x.typed x.formed) (subst IsBuilderFree same (free_of n.0 free)) (origin_forms v g types p.typed.0 x.typed x.formed x.forms)
 
   used_placed : (types : Types) (g : Named Origin) (t : TypeTree) → IsPlaced (let_in a b v f) types g t → IsPlaced (put b.sym.0 v f) types g t
   used_placed types g t p =

@@ -20,7 +20,7 @@ pub struct TilePart {
     pub ghost is_action: { IsAction of.evaluation tile.lo tile.hi (thing_of thing) } by { action_one of.evaluation tile.lo tile.hi (thing_of thing) },
 }
 
-/// The same, which has to be spent: it can't be let go, and only `enter` takes it.
+/// The part of a tile that has to be spent: it can't be let go, and only `enter` takes it.
 pub struct Piece {
     pub tile: Tile,
     thing: Owned,

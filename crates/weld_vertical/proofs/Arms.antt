@@ -11,7 +11,8 @@ use Rattle.weld_meaning.specs.Origin.{Origin, value, known_origin, origin, own_p
 use Rattle.weld_meaning.specs.Names.{IsFree, AgreeOn, Binds}
 use Rattle.weld_meaning.proofs.FreeNames.{type_free}
 use Rattle.weld_meaning.proofs.Names.{agree_bind, agree_less}
-use Rattle.weld_meaning.proofs.OriginTypes.{Forms, NamesForm, origin_forms, forms_bind}
+use Rattle.weld_meaning.specs.Forms.{HasForm, NamesHaveForms}
+use Rattle.weld_meaning.proofs.OriginTypes.{origin_forms, forms_bind}
 use Rattle.weld_meaning.proofs.WellFormed.{type_formed, formed_bind}
 use Rattle.weld_rewriting.proofs.Forms.{free_origin}
 use Rattle.weld_substitution.proofs.Bindings.{look_for-by_name, agree_over, agree_after}
@@ -40,9 +41,9 @@ module _ (ty : Known) (d i : ℕ) (b n x : Binder) (f : ExprTree) (item : TypeTr
     pub grafts : Grafts b n x f start around q
     pub number : look_for i q ≡ Some value
     pub formed : AreFormed k
-    pub forms : NamesForm q k
+    pub forms : NamesHaveForms q k
 
-  names_bind : (z : ℕ) (u : TypeTree) (o : Origin) (k : Types) (q : Named Origin) → Clear z → IsWellFormed u → Forms o u → Names k q → Names ((z, u) ∷ k) ((z, o) ∷ q)
+  names_bind : (z : ℕ) (u : TypeTree) (o : Origin) (k : Types) (q : Named Origin) → Clear z → IsWellFormed u → HasForm o u → Names k q → Names ((z, u) ∷ k) ((z, o) ∷ q)
   names_bind z u o k q c w m r = record {
     grafts = record {
       behind = λ s j. rw (ne_eqb s z (λ e. c.4 (subst (IsFree f) e j.0))) (r.grafts.behind s j);
@@ -107,7 +108,7 @@ module _ (ty : Known) (d i : ℕ) (b n x : Binder) (f : ExprTree) (item : TypeTr
       from_value = free_origin (origin v q1) item item_formed item_free (origin_forms v q1 k1 item there formed (forms_bind q k n.sym.0 value place_type tt r.forms))
 
   -- where each name is its own origin, the row number is a value, and the types are those of the names
-  pub names_by_name : (k : Types) (q : Named Origin) → AgreeOn (IsBehind f x.sym.0 n.sym.0) ((b.sym.0, own_paths start) ∷ outside around) q → look_for b.sym.0 q ≡ Some (own_paths start) → look_for i q ≡ Some value → AreFormed k → NamesForm q k → Names k (by_name q)
+  pub names_by_name : (k : Types) (q : Named Origin) → AgreeOn (IsBehind f x.sym.0 n.sym.0) ((b.sym.0, own_paths start) ∷ outside around) q → look_for b.sym.0 q ≡ Some (own_paths start) → look_for i q ≡ Some value → AreFormed k → NamesHaveForms q k → Names k (by_name q)
   names_by_name k q agrees there number formed forms = record {
     grafts = grafts_by_name b n x f start around q agrees there;
     number = look_for-by_name i q ∙ ap (option_map (named_below i [])) number;

@@ -12,7 +12,7 @@ use Rattle.weld_meaning.specs.Names.{IsFree, AgreeOn}
 use Rattle.weld_meaning.proofs.Before.{look_for-map}
 use Rattle.weld_meaning.proofs.FreeNames.{origin_free}
 use Rattle.weld_meaning.proofs.Names.{agree_bind}
-use Rattle.weld_meaning.proofs.OriginTypes.{Forms, AllForm, NamesForm}
+use Rattle.weld_meaning.specs.Forms.{HasForm, HaveForms, NamesHaveForms}
 use Rattle.weld_substitution.proofs.Bindings.{look_for-by_name}
 use Rattle.weld_vertical.proofs.Related.{IsBehind}
 
@@ -190,7 +190,7 @@ own_seen o = seen_below [] o
 -- ---- a name as its own origin has the form of its type
 
 mutual
-  forms_below : (s : ℕ) (p : Path) (o : Origin) (t : TypeTree) → Forms o t → Forms (named_below s p o) t
+  forms_below : (s : ℕ) (p : Path) (o : Origin) (t : TypeTree) → HasForm o t → HasForm (named_below s p o) t
   forms_below s p value t h = h
   forms_below s p made t h = h
   forms_below s p (own q) t h = h
@@ -202,14 +202,14 @@ mutual
   forms_below s p (struct os) (dict k v) h = absurd h
   forms_below s p (struct os) (build b) h = absurd h
 
-  forms_fields : (s n : ℕ) (p : Path) (os : Origins) (us : TypeTrees) → AllForm os us → AllForm (named_fields s n p os) us
+  forms_fields : (s n : ℕ) (p : Path) (os : Origins) (us : TypeTrees) → HaveForms os us → HaveForms (named_fields s n p os) us
   forms_fields s n p no_origins no_types h = tt
   forms_fields s n p no_origins (more_types u us) h = absurd h
   forms_fields s n p (more_origins o os) no_types h = absurd h
   forms_fields s n p (more_origins o os) (more_types u us) h = (forms_below s (n ∷ p) o u h.0, forms_fields s (suc n) p os us h.1)
 
-pub forms_by_name : (g : Named Origin) (types : Types) → NamesForm g types → NamesForm (by_name g) types
-forms_by_name g types w = record { forms = λ s t e. subst (λ o. Forms o t) (sym (there s)) (forms_below s [] (origin_of_name s g) t (w.forms s t e)) }
+pub forms_by_name : (g : Named Origin) (types : Types) → NamesHaveForms g types → NamesHaveForms (by_name g) types
+forms_by_name g types w = record { forms = λ s t e. subst (λ o. HasForm o t) (sym (there s)) (forms_below s [] (origin_of_name s g) t (w.forms s t e)) }
   where
     known : (s : ℕ) (m : Option Origin) → known_origin (option_map (named_below s []) m) ≡ named_below s [] (known_origin m)
     known s (Some o) = refl

@@ -11,7 +11,7 @@ use Rattle.weld_meaning.specs.Linear.{Keeps}
 use Rattle.weld_meaning.specs.Available.{Apart, TakesAll, takes, without, Splits}
 use Rattle.weld_meaning.specs.Names.{IsFree, AgreeOn}
 use Rattle.weld_meaning.proofs.FreeNames.{type_free, keeps_free, splits_free}
-use Rattle.weld_rewriting.specs.Forms.{NamesHaveForms}
+use Rattle.weld_meaning.specs.Forms.{NamesHaveForms}
 use Rattle.weld_rewriting.specs.Placed.{IsPlaced}
 use Rattle.weld_substitution.proofs.PutTypes.{noted_free}
 

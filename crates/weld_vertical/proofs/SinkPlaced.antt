@@ -15,11 +15,11 @@ use Rattle.weld_meaning.specs.Names.{IsFree, AgreeOn, Binds}
 use Rattle.weld_meaning.proofs.Before.{origin_outside}
 use Rattle.weld_meaning.proofs.FreeNames.{origin_free, taken_free}
 use Rattle.weld_meaning.proofs.Names.{agree_bind, agree_less}
-use Rattle.weld_meaning.proofs.OriginTypes.{Forms, origin_forms, forms_bind}
+use Rattle.weld_meaning.specs.Forms.{HasForm, NamesHaveForms}
+use Rattle.weld_meaning.proofs.OriginTypes.{origin_forms, forms_bind}
 use Rattle.weld_meaning.proofs.WellFormed.{type_formed, formed_bind}
-use Rattle.weld_rewriting.specs.Forms.{NamesHaveForms}
 use Rattle.weld_rewriting.specs.Placed.{IsPlaced}
-use Rattle.weld_rewriting.proofs.Forms.{names_form, names_have, free_origin, no_builder_path, chain_takes_none}
+use Rattle.weld_rewriting.proofs.Forms.{free_origin, no_builder_path, chain_takes_none}
 use Rattle.weld_rewriting.proofs.Parts.{first_of_three, second_of_three, third_of_three, value_of_let, body_of_let}
 use Rattle.weld_substitution.proofs.Bindings.{agree_over, agree_after}
 use Rattle.weld_substitution.proofs.Chains.{or_true, taken_builds, taken_named}
@@ -87,7 +87,7 @@ module _ (d i : ℕ) (a : At) (b n x : Binder) (f : ExprTree) (item builder : Ty
   look_over : {A : Type 0} (s z : ℕ) (y : A) (g : Named A) (w : A) → z ≢ s → look_for s g ≡ Some w → look_for s ((z, y) ∷ g) ≡ Some w
   look_over s z y g w ne e = rw (ne_eqb s z (λ c. ne (sym c))) e
 
-  related_bind : (z : ℕ) (u : TypeTree) (o : Origin) (h k : Types) (p q : Named Origin) → Clear z → IsWellFormed u → Forms o u → Related h k p q → Related ((z, u) ∷ h) ((z, u) ∷ k) ((z, o) ∷ p) ((z, o) ∷ q)
+  related_bind : (z : ℕ) (u : TypeTree) (o : Origin) (h k : Types) (p q : Named Origin) → Clear z → IsWellFormed u → HasForm o u → Related h k p q → Related ((z, u) ∷ h) ((z, u) ∷ k) ((z, o) ∷ p) ((z, o) ∷ q)
   related_bind z u o h k p q c w m r = record {
     types = agree_bind Else Else z u h k (λ s f ne. f) r.types;
     origins = agree_bind Else Else z o p q (λ s f ne. f) r.origins;
@@ -98,7 +98,7 @@ module _ (d i : ℕ) (a : At) (b n x : Binder) (f : ExprTree) (item builder : Ty
     builder_type = look_over b.sym.0 z u k builder c.1 r.builder_type;
     builder_origin = look_over b.sym.0 z o q (own_paths start) c.1 r.builder_origin;
     formed = formed_bind k z u w r.formed;
-    forms = names_have (forms_bind q k z o u m (names_form r.forms));
+    forms = (forms_bind q k z o u m r.forms);
   }
 
   -- what is to be shown of the producer's body with the consumer sunk into it
@@ -155,7 +155,7 @@ module _ (d i : ℕ) (a : At) (b n x : Binder) (f : ExprTree) (item builder : Ty
       let same : takes v p ≡ takes v q = taken_free v p q origins in
       let value = value_of_let w z v g h p (build (list item)) m in
       let there : IsPlaced v k q u = placed_free v h k p q u (agree_less Else (IsFree v) h k other r.types) origins r.formed r.forms value in
-      let form = origin_forms v p h u value.typed value.formed (names_form value.forms) in
+      let form = origin_forms v p h u value.typed value.formed value.forms in
       let inner = related_bind z.sym.0 u o h k p q c.0 (type_formed v h u value.typed value.formed) form r in
       let it = sinks ((z.sym.0, u) ∷ h) ((z.sym.0, u) ∷ k) ((z.sym.0, o) ∷ p) ((z.sym.0, o) ∷ q) c.2 (λ f. nb (inr (f, λ e. c.0.1 (sym e)))) (λ f. nn (inr (f, λ e. c.0.3 (sym e)))) inner (body_of_let w z v g h p (build (list item)) m) in
       record {
@@ -275,7 +275,7 @@ module _ (d i : ℕ) (a : At) (b n x : Binder) (f : ExprTree) (item builder : Ty
       typed = (m.typed.0, builder, builder, there.typed, one.placed.typed, other.placed.typed, (m.typed.6.0, refl, refl))
 
       names : Names a.ty d i b n x f item known.item_formed known.item_free start around known.comes k (by_name q)
-      names = names_by_name a.ty d i b n x f item known.item_formed known.item_free start around known.comes k q r.behind_origins r.builder_origin r.number_origin r.formed (names_form r.forms)
+      names = names_by_name a.ty d i b n x f item known.item_formed known.item_free start around known.comes k q r.behind_origins r.builder_origin r.number_origin r.formed r.forms
 
       first_answers : origin (sink e) (by_name q) ≡ grafted b.sym.0 (own_paths start)
       first_answers =
@@ -444,7 +444,7 @@ module _ (d i : ℕ) (a : At) (b n x : Binder) (f : ExprTree) (item builder : Ty
       formed1 = formed_bind k n.sym.0 place_type tt r.formed
 
       forms1 : NamesHaveForms q1 k1
-      forms1 = names_have (forms_bind q k n.sym.0 value place_type tt (names_form r.forms))
+      forms1 = (forms_bind q k n.sym.0 value place_type tt r.forms)
 
       there : IsPlaced v k1 q1 item
       there =
@@ -452,7 +452,7 @@ module _ (d i : ℕ) (a : At) (b n x : Binder) (f : ExprTree) (item builder : Ty
           value_origins formed1 forms1 value_placed
 
       from_value : origin v q1 ≡ value
-      from_value = free_origin (origin v q1) item known.item_formed known.item_free (origin_forms v q1 k1 item there.typed there.formed (names_form there.forms))
+      from_value = free_origin (origin v q1) item known.item_formed known.item_free (origin_forms v q1 k1 item there.typed there.formed there.forms)
 
       body_origins : AgreeOn (IsFree f) consumer_origins q2
       body_origins =
@@ -467,7 +467,7 @@ module _ (d i : ℕ) (a : At) (b n x : Binder) (f : ExprTree) (item builder : Ty
       body : IsPlaced f k2 q2 builder
       body =
           placed_free f consumer_types k2 consumer_origins q2 builder body_names body_origins (formed_bind k1 x.sym.0 item known.item_formed formed1)
-          (names_have (forms_bind q1 k1 x.sym.0 value item known.item_free (names_form forms1))) known.body
+          ((forms_bind q1 k1 x.sym.0 value item known.item_free forms1)) known.body
 
       body_taken : takes f consumer_origins ≡ takes f q2
       body_taken = taken_free f consumer_origins q2 body_origins

@@ -30,7 +30,6 @@ use Rattle.weld_rewriting.specs.Within.{times, legs, StaysWithin}
 use Rattle.weld_rewriting.specs.Tidy.{IsTidy}
 use Rattle.weld_rewriting.specs.Rewriting.{Rewrites}
 use Rattle.weld_rewriting.proofs.Counts.{times-append, one_of_times, distinct_times, times_distinct}
-use Rattle.weld_rewriting.proofs.Forms.{names_form, names_have}
 use Rattle.weld_rewriting.proofs.Parts.{row_free, noted_at, part_of_one, body_of_loop}
 use Rattle.weld_rewriting.proofs.Rows.{legs_good, rows_have}
 use Rattle.weld_substitution.proofs.Bindings.{agree_over, agree_after}
@@ -232,8 +231,8 @@ module _ (a m p o : At) (item : TypeTree) (ks : LegTrees) (d i r : Binder) (g e 
         builder_type = builder t place_type row types;
         builder_origin = builder (own_paths (origin e around)) value value (outside around);
         formed = formed_body b i r t row types (type_formed e types t q.typed.4 q.formed) (row_formed ks types k.producer.typed.0 row k.producer.typed.2 k.producer.typed.3 q.formed) q.formed;
-        forms = names_have (forms_in_body around types b i r (origin e around) t row (origin_forms e around types t q.typed.4 q.formed (names_form q.forms))
-            (row_free ks types k.producer.typed.0 row k.producer.typed.2 k.producer.typed.3 q.formed) (names_form q.forms));
+        forms = (forms_in_body around types b i r (origin e around) t row (origin_forms e around types t q.typed.4 q.formed q.forms)
+            (row_free ks types k.producer.typed.0 row k.producer.typed.2 k.producer.typed.3 q.formed) q.forms);
       }
 
       consumer : Consumer d.sym.0 i.sym.0 a b n x f item t types around (origin e around)

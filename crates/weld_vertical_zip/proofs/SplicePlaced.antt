@@ -9,12 +9,11 @@ use Rattle.weld_meaning.specs.Origin.{Path, Origin, value, made, known_origin, o
 use Rattle.weld_meaning.specs.Linear.{LegsKeep}
 use Rattle.weld_meaning.specs.Available.{Taken, Apart, takes, leg_takes, legs_take, LegsSplit}
 use Rattle.weld_meaning.specs.Names.{IsFree}
-use Rattle.weld_meaning.proofs.OriginTypes.{Forms, forms_in_body}
+use Rattle.weld_meaning.specs.Forms.{HasForm, NamesHaveForms}
+use Rattle.weld_meaning.proofs.OriginTypes.{forms_in_body}
 use Rattle.weld_meaning.proofs.WellFormed.{formed_body, row_formed, legs_formed}
 use Rattle.weld_check_types.specs.Notes.{AreNoted, LegsAreNoted}
-use Rattle.weld_rewriting.specs.Forms.{NamesHaveForms}
 use Rattle.weld_rewriting.specs.Placed.{IsPlaced}
-use Rattle.weld_rewriting.proofs.Forms.{names_form, names_have}
 use Rattle.weld_rewriting.proofs.Parts.{row_free, noted_at, part_of_one, body_of_loop}
 use Rattle.weld_substitution.proofs.Bindings.{Binding}
 use Rattle.weld_substitution.proofs.PutTypes.{type_put, noted_put}
@@ -220,9 +219,9 @@ module _ (c : Splice) where
 
     wide_forms : (b : BuildTree) → NamesHaveForms inside (row_names (build b))
     wide_forms b =
-        names_have (forms_in_body around types (bare c.d) c.i (bare c.r) made (build b) (row_of all) made_form (row_free (all_legs c) types all (row_of all) all_have row_has q.formed) (names_form q.forms))
+        (forms_in_body around types (bare c.d) c.i (bare c.r) made (build b) (row_of all) made_form (row_free (all_legs c) types all (row_of all) all_have row_has q.formed) q.forms)
       where
-        made_form : Forms made (build b)
+        made_form : HasForm made (build b)
         made_form = tt
 
     body_placed : Tidily c → IsPlaced (body c) (row_names (build (list c.item))) inside (build (list c.item))

@@ -18,13 +18,13 @@ use Rattle.weld_meaning.specs.Origin.{Path, Origin, value, origin_of_name, origi
 use Rattle.weld_meaning.specs.Available.{takes}
 use Rattle.weld_meaning.specs.Names.{IsFree, AgreeOn, Binds}
 use Rattle.weld_meaning.proofs.Names.{agree_bind, agree_less}
-use Rattle.weld_meaning.proofs.OriginTypes.{Forms, origin_forms, forms_bind}
+use Rattle.weld_meaning.specs.Forms.{HasForm, NamesHaveForms}
+use Rattle.weld_meaning.proofs.OriginTypes.{origin_forms, forms_bind}
 use Rattle.weld_meaning.proofs.WellFormed.{type_formed, formed_bind}
 use Rattle.weld_print.specs.Spellable.{IsSpellable}
-use Rattle.weld_rewriting.specs.Forms.{NamesHaveForms}
 use Rattle.weld_rewriting.specs.Placed.{IsPlaced}
 use Rattle.weld_rewriting.specs.Within.{legs}
-use Rattle.weld_rewriting.proofs.Forms.{names_form, names_have, free_origin}
+use Rattle.weld_rewriting.proofs.Forms.{free_origin}
 use Rattle.weld_rewriting.proofs.Parts.{second_of_two, value_of_let, body_of_let}
 use Rattle.weld_substitution.proofs.Gaining.{without_is, else_without}
 use Rattle.weld_substitution.proofs.Unnamed.{binds_so}
@@ -134,14 +134,14 @@ module _ (place : Place) (d r : ℕ) (s : Sides) where
   look_over : {A : Type 0} (t z : ℕ) (y : A) (g : Named A) (w : A) → z ≢ t → look_for t g ≡ Some w → look_for t ((z, y) ∷ g) ≡ Some w
   look_over t z y g w ne e = rw (ne_eqb t z (λ c. ne (sym c))) e
 
-  related_bind : (z : ℕ) (u : TypeTree) (o : Origin) (h k : Types) (q : Named Origin) → Clear z → IsWellFormed u → Forms o u → Related h k q → Related ((z, u) ∷ h) ((z, u) ∷ k) ((z, o) ∷ q)
+  related_bind : (z : ℕ) (u : TypeTree) (o : Origin) (h k : Types) (q : Named Origin) → Clear z → IsWellFormed u → HasForm o u → Related h k q → Related ((z, u) ∷ h) ((z, u) ∷ k) ((z, o) ∷ q)
   related_bind z u o h k q c w m rel = record {
     types = agree_bind (λ t. t ≢ d) (λ t. t ≢ d) z u h k (λ t f ne. f) rel.types;
     builder_type = look_over d z u k rows_built c.0 rel.builder_type;
     row_type = look_over r z u k (row_of (all_items s)) c.1 rel.row_type;
     row_origin = look_behind r z o q (λ e. c.1 (sym e)) ∙ rel.row_origin;
     formed = formed_bind k z u w rel.formed;
-    forms = names_have (forms_bind q k z o u m (names_form rel.forms));
+    forms = (forms_bind q k z o u m rel.forms);
   }
 
   -- it stands there, comes from where the body came, and takes what that took
@@ -162,7 +162,7 @@ module _ (place : Place) (d r : ℕ) (s : Sides) where
       let o = origin v q in
       let outer = value_of_let a z v g h q items_built m in
       let there : IsPlaced v k q u = placed_free v h k q q u (agree_less (λ t. t ≢ d) (IsFree v) h k (not_d v c.1 none) rel.types) (record { agree = λ t f. refl }) rel.formed rel.forms outer in
-      let form = origin_forms v q h u outer.typed outer.formed (names_form outer.forms) in
+      let form = origin_forms v q h u outer.typed outer.formed outer.forms in
       let inner = related_bind z.sym.0 u o h k q c.0 (type_formed v h u outer.typed outer.formed) form rel in
       let it = widens ((z.sym.0, u) ∷ h) ((z.sym.0, u) ∷ k) ((z.sym.0, o) ∷ q) c.2 inner (body_of_let a z v g h q items_built m) in
       record {
@@ -183,7 +183,7 @@ module _ (place : Place) (d r : ℕ) (s : Sides) where
       let same : list s.item ≡ m.typed.4.0 = let e : build (list s.item) ≡ build m.typed.4.0 = m.typed.4.3 ∙ m.typed.4.1 in cc in
       let outer : IsPlaced v h q s.item = subst (IsPlaced v h q) (m.typed.4.2 ∙ ap taken_type (sym same)) (second_of_two a merge (leaf c (name d)) v h q items_built m) in
       let there : IsPlaced v k q s.item = placed_free v h k q q s.item (agree_less (λ t. t ≢ d) (IsFree v) h k (not_d v cl.1 none) rel.types) (record { agree = λ t f. refl }) rel.formed rel.forms outer in
-      let from = free_origin (origin v q) s.item known.item_formed known.item_free (origin_forms v q k s.item there.typed there.formed (names_form there.forms)) in
+      let from = free_origin (origin v q) s.item known.item_formed known.item_free (origin_forms v q k s.item there.typed there.formed there.forms) in
       let so = made_so place r s v q rel.row_origin from there.keeps there.splits in
       let row : HasType (made_row place r s v) k (whole_row s) = made_typed place r s v k rel.row_type known.before_free known.item_free known.after_free there.typed in
       let typed : HasType (wide (two a merge (leaf c (name d)) v)) k rows_built = (rows_built, whole_row s, rel.builder_type, row, (list (whole_row s), refl, refl, refl)) in

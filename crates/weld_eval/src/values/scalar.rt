@@ -75,7 +75,7 @@ pub fn negated(v: &Val) -> Num
     }
 }
 
-/// The same of a number. It takes no memory.
+/// The wrapped opposite of a number of an integer kind. It takes no memory.
 #[tactic(auto, using(crate::proofs::ScalarLemmas::integer_kind))]
 pub fn negated_number(x: Num) -> Num
     requires { IsIntegerNumber (number x.kind x.value) }
@@ -113,7 +113,7 @@ pub fn cast(kind: Kind, v: &Val) -> Num
     cast_number(kind, number_of(v))
 }
 
-/// The same of a number. It takes no memory.
+/// A number cast to an integer kind, wrapped. It takes no memory.
 pub fn cast_number(kind: Kind, x: Num) -> Num
     requires { IsInteger kind }
     ensures { cast_to kind (number x.kind x.value) ≡ done (view_num result) }
