@@ -5,13 +5,14 @@ ghost use Rattle.weld_front.specs.Asking.{reads_a_job};
 ghost use Rattle.weld_front.specs.Answer.{Answers, AnswersParts, CheckAnswers, IsOfJob, Extent, job_bytes};
 ghost use Rattle.weld_front.specs.Sessions.{SoakAnswers};
 
-use crate::accepting::accept_text;
+use crate::accepting::{Checked, accept_text};
 use crate::answer::{Answer, NoAnswer, refused, told};
 use crate::asked::Asked;
 use crate::running::answer_run;
 use crate::scripting::{answer_session, answer_soak};
 use crate::showing::answer_show;
 use std::alloc::{AllocError, Global};
+use std::mem::forget;
 use std::snapshot::Snapshot;
 use std::thread::{Builder, Promise, Threads};
 use weld_job::{Job, JobFault, read_job};
@@ -24,7 +25,13 @@ fn answer_check(alloc: Global, job: &Job) -> Result<Answer, AllocError>
     ensures { IfOk result (λ answer. CheckAnswers job.now answer.status answer.text) }
 {
     match accept_text(alloc, job.text()) {
-        Ok(checked) => told(alloc, &checked.ty),
+        Ok(checked) => {
+            let Checked { program, ty } = checked;
+            let answer = told(alloc, &ty);
+            // The answer ends the process, which lets go of a large tree sooner than a walk over its nodes.
+            forget(program);
+            answer
+        }
         Err(refusal) => refused(alloc, refusal),
     }
 }

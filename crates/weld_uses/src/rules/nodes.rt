@@ -56,6 +56,10 @@ pub(super) fn use_chain(
     if !real.is_seen() {
         return Err(Refusal::At(Code::L3, place));
     }
+    if real.is_value() {
+        // Most names are: no builder is asked for or taken.
+        return Ok(real);
+    }
     let Ok(wanted) = wanted(chain, &real, alloc) else {
         return Err(Refusal::Memory);
     };
