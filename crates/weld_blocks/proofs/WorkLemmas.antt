@@ -1,8 +1,9 @@
 -- Numbers that an operator or a choice makes of numbers, place by place.
-use Rattle.std.proofs.Common.{◌≡◌, ◌≢◌, ◌⊎◌, inl, inr, ℕ, zero, suc, ◌<◌, ◌≤◌, Bool, true, false, if◌then◌else◌, ℤ, pos, List, [], ◌∷◌, length, take, drop, map, slice_get, get_or, replicate, ◌++◌, ◌+◌, ◌-◌, Option, Some, None, option_map, refl, sym, ap, ◌∙◌, subst, arith}
+use Rattle.std.proofs.Common.{◌≡◌, ◌≢◌, ◌⊎◌, inl, inr, ℕ, zero, suc, ◌<◌, ◌≤◌, Bool, true, false, if◌then◌else◌, ℤ, pos, int_div, int_rem, FitsSigned, w64, List, [], ◌∷◌, length, take, drop, map, slice_get, get_or, replicate, ◌++◌, ◌+◌, ◌-◌, Option, Some, None, option_map, refl, sym, ap, ◌∙◌, subst, arith}
 use Rattle.std.proofs.lemmas.Int.{ints}
 use Rattle.std.proofs.Math.Seq.{take-append_seam}
 use Rattle.std.proofs.lemmas.Bool.{cases_lt}
+use Rattle.std.proofs.lemmas.Bool.Decides.{Decides-int_eq}
 use Rattle.std.proofs.lemmas.Option.{slice_get-map}
 use Rattle.std.proofs.lemmas.List.{get_or_past, get_or-take, get_or-drop, get_or-replicate}
 use Rattle.std.specs.Ordering.{int_eq}
@@ -11,11 +12,13 @@ use Rattle.weld_data.specs.declared.kind.Kind.TheVariants as kinds
 use Rattle.weld_data.specs.declared.op.BinOp.{BinOp}
 use Rattle.weld_data.specs.declared.op.BinOp.TheVariants as ops
 use Rattle.weld_data.specs.Kind.{IsNarrow, InRange}
-use Rattle.weld_data.specs.Operation.{TakesKind, answer_kind}
+use Rattle.weld_data.specs.Operation.{TakesKind, operation, answer_kind}
+use Rattle.weld_data.specs.Wrapped.{wrapped}
 use Rattle.weld_data.specs.Value.{Value, number}
 use Rattle.weld_builders.specs.Outcome.{done}
 use Rattle.weld_meaning.specs.Evaluation.{operated, truth_of}
 use Rattle.weld_eval.specs.Word.{of_word}
+use Rattle.weld_eval.proofs.Words.{zero_words}
 use Rattle.weld_blocks.specs.Numbers.{number_at, AreGiven, MayGive, IsChosen}
 use Rattle.weld_blocks.specs.declared.numbers.Numbers.{Numbers}
 use Rattle.weld_blocks.specs.Works.{AreInRange, AreWorked, AreChosen}
@@ -57,6 +60,25 @@ worked_given op k left right c count l r takes answer h = record {
       (k, takes, (refl, subst (λ m. InRange m (of_word m x)) l (left.in_range j)), (refl, subst (λ m. InRange m (of_word m y)) r (right.in_range j))) (h.each j less)
       ∙ ap (λ (m : Kind). done (number m (of_word m z))) (sym answer);
 }
+
+-- ---- division
+
+not_zero : (y : ℤ) → y ≢ pos 0 → int_eq y (pos 0) ≡ false
+not_zero y ne = by (int_eq y (pos 0)) refl
+  where
+    by : (b : Bool) → int_eq y (pos 0) ≡ b → b ≡ false
+    by true e = absurd (ne ((Decides-int_eq y (pos 0)).0 e))
+    by false e = refl
+
+-- what an operator that divides answers, where it doesn't divide by 0
+divided : (k : Kind) (y z : ℤ) → FitsSigned w64 y → y ≢ pos 0 → Some z ≡ (if int_eq (of_word k y) (pos 0) then None else Some z)
+divided k y z f ne = sym (ap (λ (b : Bool). if b then None else Some z) (sym (zero_words k y f) ∙ not_zero y ne))
+
+pub quotient_given : (k : Kind) (x y r : ℤ) → FitsSigned w64 y → y ≢ pos 0 → of_word k r ≡ wrapped k (int_div (of_word k x) (of_word k y)) → Some (of_word k r) ≡ operation ops.Div k (of_word k x) (of_word k y)
+quotient_given k x y r f ne e = ap Some e ∙ divided k y (wrapped k (int_div (of_word k x) (of_word k y))) f ne
+
+pub remainder_given : (k : Kind) (x y r : ℤ) → FitsSigned w64 y → y ≢ pos 0 → of_word k r ≡ int_rem (of_word k x) (of_word k y) → Some (of_word k r) ≡ operation ops.Rem k (of_word k x) (of_word k y)
+remainder_given k x y r f ne e = ap Some e ∙ divided k y (int_rem (of_word k x) (of_word k y)) f ne
 
 -- ---- choices
 

@@ -1,6 +1,7 @@
 //! Arithmetic and comparisons of numbers of a block: the kind and the operator are looked at once.
 
-ghost use Rattle.std.specs.Prelude.{◌≡◌, true};
+ghost use Rattle.std.specs.Prelude.{◌≡◌, true, false, pos};
+ghost use Rattle.std.specs.List.{Contains};
 ghost use Rattle.weld_data.specs.declared.kind.Kind.TheVariants as kind_names;
 ghost use Rattle.weld_data.specs.declared.op.BinOp.TheVariants as op_names;
 ghost use Rattle.weld_data.specs.Kind.{IsInteger};
@@ -14,7 +15,7 @@ use crate::works::{Works, worked};
 use std::alloc::Global;
 use weld_data::{BinOp, Kind};
 use weld_eval::word_arithmetic::{
-    difference, is_at_most, is_equal, is_less, number_of, product, sum,
+    difference, is_at_most, is_equal, is_less, number_of, product, quotient, remainder, sum,
 };
 
 /// A kind of integers that is known where a loop is compiled.
@@ -178,6 +179,42 @@ impl<K: OfKind> Works for Product<K> {
     }
 }
 
+/// The wrapped quotient, truncated.
+#[derive(Clone, Copy)]
+struct Quotient<K> {
+    kind: K,
+}
+
+impl<K: OfKind> Works for Quotient<K> {
+    ghost op = { λ _. op_names.Div };
+
+    ghost kind = { λ w. K.named w.kind };
+
+    #[tactic(auto, using(crate::proofs::WorkLemmas::quotient_given))]
+    #[inline(always)]
+    fn of(&self, x: i64, y: i64) -> i64 {
+        quotient(self.kind.kind(), x, y)
+    }
+}
+
+/// The remainder, with the sign of the dividend.
+#[derive(Clone, Copy)]
+struct Remainder<K> {
+    kind: K,
+}
+
+impl<K: OfKind> Works for Remainder<K> {
+    ghost op = { λ _. op_names.Rem };
+
+    ghost kind = { λ w. K.named w.kind };
+
+    #[tactic(auto, using(crate::proofs::WorkLemmas::remainder_given))]
+    #[inline(always)]
+    fn of(&self, x: i64, y: i64) -> i64 {
+        remainder(self.kind.kind(), x, y)
+    }
+}
+
 #[derive(Clone, Copy)]
 struct Equal {
     kind: Kind,
@@ -274,8 +311,8 @@ impl Works for AtLeast {
     }
 }
 
-/// The numbers that `+`, `-` or `*` makes of numbers of one kind of integers. There are none for
-/// other operators and kinds.
+/// The numbers that `+`, `-`, `*`, `/` or `%` makes of numbers of one kind of integers. There are none
+/// for other operators and kinds, nor where it divides by 0.
 pub(crate) fn arithmetic(
     op: BinOp,
     left: &Numbers,
@@ -317,8 +354,39 @@ fn arithmetic_of<K: OfKind + Drop>(
         BinOp::Add => worked(&Sum { kind: of }, kind, left, right, count, alloc),
         BinOp::Sub => worked(&Difference { kind: of }, kind, left, right, count, alloc),
         BinOp::Mul => worked(&Product { kind: of }, kind, left, right, count, alloc),
+        _ => divided(op, of, left, right, count, alloc),
+    }
+}
+
+/// The same of `/` and `%`, where no number on the right is 0. There are none for other operators.
+fn divided<K: OfKind + Drop>(
+    op: BinOp,
+    of: K,
+    left: &Numbers,
+    right: &Numbers,
+    count: usize,
+    alloc: Global,
+) -> Option<Numbers>
+    requires same { left.now.kind ≡ right.now.kind }
+    requires kind { left.now.kind ≡ K.named of }
+    ensures { MayGive (λ place v. operated_value op (number_at left.now place) (number_at right.now place) ≡ done v) result count }
+{
+    if has_zero(&right.items) {
+        return None;
+    }
+    let kind = of.kind();
+    match op {
+        BinOp::Div => worked(&Quotient { kind: of }, kind, left, right, count, alloc),
+        BinOp::Rem => worked(&Remainder { kind: of }, kind, left, right, count, alloc),
         _ => None,
     }
+}
+
+/// Whether one of the words is 0, which stands for the number 0 of each kind.
+fn has_zero(words: &[i64]) -> bool
+    ensures { result ≡ false → Contains words.now (pos 0) → ⊥ }
+{
+    words.contains(&0)
 }
 
 /// The truth values of a comparison of numbers of one kind that it takes. There are none for other

@@ -18,7 +18,7 @@ use crate::choices::choose;
 use crate::gather::gather;
 use crate::leaves::{constant, field_named, named};
 use crate::numbers::{Numbers, is_same};
-use crate::operations::{Altered, Operated, is_integer, takes};
+use crate::operations::{Altered, is_integer, takes};
 use crate::outer::{Looked, outer_value};
 use crate::scalar::whole_number;
 use crate::scope::{Bound, Scope, with_bound};
@@ -215,24 +215,11 @@ fn operated(
         return None;
     }
     match op {
-        BinOp::Add | BinOp::Sub | BinOp::Mul => arithmetic(op, left, right, count, alloc),
-        BinOp::Div | BinOp::Rem => divided(op, left, right, count, alloc),
+        BinOp::Add | BinOp::Sub | BinOp::Mul | BinOp::Div | BinOp::Rem => arithmetic(
+            op, left, right, count, alloc,
+        ),
         _ => compared(op, left, right, count, alloc),
     }
-}
-
-/// What `/` or `%` makes of numbers, where it doesn't divide by 0.
-fn divided(
-    op: BinOp,
-    left: &Numbers,
-    right: &Numbers,
-    count: usize,
-    alloc: Global,
-) -> Option<Numbers>
-    ensures { MayGive (λ place v. operated_value op (number_at left.now place) (number_at right.now place) ≡ done v) result count }
-{
-    let of = Operated { op, left, right };
-    gather(alloc, count, &of)
 }
 
 /// The numbers of `&&`: of the right side where the left one is true.

@@ -1,20 +1,20 @@
-//! What gives the numbers of operators, choices and forms of one part.
+//! What gives the numbers of rows and of forms of one part, and which operators take which kinds.
 
 ghost use Rattle.std.specs.Prelude.{◌≡◌, IfSome};
 ghost use Rattle.weld_data.specs.Value.{Value};
 ghost use Rattle.weld_builders.specs.Outcome.{done};
 ghost use Rattle.weld_meaning.specs.Thing.{plain};
-ghost use Rattle.weld_meaning.specs.Evaluation.{operated as operated_value, one_thing, whole_number as whole_number_value};
+ghost use Rattle.weld_meaning.specs.Evaluation.{one_thing, whole_number as whole_number_value};
 ghost use Rattle.weld_data.specs.Operation.{TakesKind};
 ghost use Rattle.weld_data.specs.Kind.{IsInteger};
 ghost use Rattle.weld_tree.specs.ExprView.{view_one};
 ghost use Rattle.weld_eval.specs.ShortView.{view_short};
-ghost use Rattle.weld_blocks.specs.Numbers.{number_at, IsChosen};
+ghost use Rattle.weld_blocks.specs.Numbers.{number_at};
 ghost use Rattle.std.specs.Prelude.{true};
 
 use crate::gather::Gives;
 use crate::numbers::Numbers;
-use crate::scalar::{cast, contrary, negated, operated, truth_of, whole_number};
+use crate::scalar::{cast, contrary, negated, whole_number};
 use weld_data::{BinOp, Kind};
 use weld_eval::short::Short;
 use weld_tree::OneForm;
@@ -36,42 +36,6 @@ impl Gives for Counted {
             Some(number) => Some(whole_number(number)),
             None => None,
         }
-    }
-}
-
-/// What an operator makes of two numbers at each place.
-#[derive(Clone, Copy)]
-pub(crate) struct Operated<'a> {
-    pub(crate) op: BinOp,
-    pub(crate) left: &'a Numbers,
-    pub(crate) right: &'a Numbers,
-}
-
-impl<'a> Gives for Operated<'a> {
-    ghost gives = { λ o place v. operated_value o.op (number_at o.left.now place) (number_at o.right.now place) ≡ done v };
-
-    #[inline(always)]
-    fn at(&self, place: usize) -> Option<Short> {
-        if place < self.left.len() && place < self.right.len() {
-            operation_of(self.op, self.left.at(place), self.right.at(place))
-        } else {
-            None
-        }
-    }
-}
-
-/// What an operator makes of two numbers, where they are of one kind that it takes and it doesn't divide by 0.
-#[inline(always)]
-fn operation_of(op: BinOp, x: Short, y: Short) -> Option<Short>
-    ensures { IfSome result (λ n. operated_value op (view_short x) (view_short y) ≡ done (view_short n)) }
-{
-    if x.kind == y.kind && takes(op, x.kind) {
-        match operated(op, x, y) {
-            Ok(n) => Some(n),
-            Err(_) => None,
-        }
-    } else {
-        None
     }
 }
 
