@@ -1,0 +1,4 @@
+pub mod Columns
+pub mod Meaning
+pub mod Merges
+pub mod Pieces
