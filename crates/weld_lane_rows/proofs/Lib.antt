@@ -1,4 +1,6 @@
-pub mod Columns
+pub mod ColumnLemmas
 pub mod Meaning
 pub mod Merges
-pub mod Pieces
+pub mod NumberLists
+pub mod OutsideLemmas
+pub mod PieceLemmas

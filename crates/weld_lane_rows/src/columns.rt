@@ -17,7 +17,6 @@ pub(crate) struct Columns<'a, L> {
 }
 
 /// The columns of one or two legs of numbers of the kind, where they have the rows below a number. It takes no memory.
-#[tactic(auto, using(crate::proofs::Columns::one_rows, crate::proofs::Columns::two_rows))]
 pub(crate) fn columns_of<'a, L: Word>(legs: &'a Legs<'a>, to: usize) -> Option<Columns<'a, L>>
     ensures { IfSome result (λ c. AreRows L.kind c.is_pair (lists_of legs.now) (map L.number c.first.now) (map L.number c.second.now) to) }
 {
@@ -35,15 +34,17 @@ pub(crate) fn columns_of<'a, L: Word>(legs: &'a Legs<'a>, to: usize) -> Option<C
             second: first,
             is_pair: false,
         }),
-        Legs::And(column, Legs::End) => match cells_of(column, to) {
-            Some(second) => Some(Columns {
-                first,
-                second,
-                is_pair: true,
-            }),
-            None => None,
+        Legs::And(column, more) => match more {
+            Legs::End => match cells_of(column, to) {
+                Some(second) => Some(Columns {
+                    first,
+                    second,
+                    is_pair: true,
+                }),
+                None => None,
+            },
+            Legs::And(_, _) => None,
         },
-        Legs::And(_, _) => None,
     }
 }
 

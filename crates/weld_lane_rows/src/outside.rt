@@ -1,6 +1,6 @@
 //! Numbers that are the same on all rows of a loop: those that stand outside of it.
 
-ghost use Rattle.std.specs.Prelude.{◌≡◌, ◌==◌, true, false, map, IfSome, IfOk, Some};
+ghost use Rattle.std.specs.Prelude.{◌≡◌, ◌<◌, true, length, map, slice_get, IfSome, IfOk, Some};
 ghost use Rattle.weld_data.specs.Value.{number};
 ghost use Rattle.weld_data.specs.View.{view_val};
 ghost use Rattle.weld_meaning.specs.Environment.{look_for};
@@ -9,7 +9,7 @@ ghost use Rattle.weld_meaning.specs.Thing.{plain};
 ghost use Rattle.weld_eval.specs.FrameView.{env_of};
 ghost use Rattle.weld_eval.specs.ShortView.{view_short};
 ghost use Rattle.weld_eval.specs.ThingView.{thing_of};
-ghost use Rattle.weld_lane_rows.specs.Outside.{AreOutside, IsOutside, OwnIsApart, Stood};
+ghost use Rattle.weld_lane_rows.specs.Outside.{AreOutside, IsOutside, OwnIsApart};
 
 use std::alloc::{AllocError, Global};
 use weld_data::{Kind, Num, Val, Vals};
@@ -34,12 +34,20 @@ pub(crate) fn numbers_outside<L: Lane>(
 {
     let mut numbers = Vec::new(alloc);
     for place in 0..syms.len() {
-        match number_outside(names, syms[place], frame) {
+        match number_outside(names, name_at(syms, place), frame) {
             Some(x) => numbers.push(x)?,
             None => return Ok(None),
         }
     }
     Ok(Some(numbers))
+}
+
+/// The name at a place, from 0.
+fn name_at(syms: &[Sym], place: usize) -> Sym
+    requires { place < length syms.now }
+    ensures { slice_get syms.now place ≡ Some result }
+{
+    syms[place]
 }
 
 /// The same of one name. It takes no memory.
@@ -91,7 +99,6 @@ pub(crate) fn is_same(kind: Kind, other: Kind) -> bool
 }
 
 /// The number that a name stands for, where it stands for one. It takes no memory.
-#[tactic(auto, using(weld_eval::proofs::Below::found_among, weld_eval::proofs::Below::found_below))]
 fn number_named(frame: &Frame, name: Sym) -> Option<Short>
     ensures { IfSome result (λ n. look_for name.0 (env_of frame.now) ≡ Some (plain (view_short n))) }
 {

@@ -32,7 +32,7 @@ pub(crate) struct Lanes<'a, L> {
 }
 
 /// Merges what the steps answer on the rows from a number up to, not including, another, piece by piece.
-#[tactic(auto, using(crate::proofs::Pieces::starts, crate::proofs::Pieces::part_holds, crate::proofs::Pieces::part_merges, crate::proofs::Pieces::goes_on, crate::proofs::Pieces::ends))]
+#[tactic(auto, using(crate::proofs::PieceLemmas::starts, crate::proofs::PieceLemmas::part_holds, crate::proofs::PieceLemmas::part_merges, crate::proofs::PieceLemmas::goes_on, crate::proofs::PieceLemmas::ends))]
 pub(crate) fn run_pieces<L: Word>(
     node: &Expr,
     frame: &Frame,
@@ -97,7 +97,14 @@ fn piece_numbers<'a, L: Word>(
     let count = to - from;
     let first = &lanes.first[from..to];
     let second = &lanes.second[from..to];
-    map_lanes(lanes.program, scratch, first, second, lanes.uniforms, &mut answers[..count]);
+    map_lanes(
+        lanes.program,
+        scratch,
+        first,
+        second,
+        lanes.uniforms,
+        &mut answers[..count],
+    );
     L::words(&answers[..count], &mut words[..count])
 }
 

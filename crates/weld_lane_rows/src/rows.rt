@@ -44,10 +44,16 @@ pub fn run_lanes(
         return Ok(false);
     }
     match legs {
-        Legs::And(Column::I64(_), _) => run_kind::<i64>(node, frame, legs, from, to, builder, alloc),
-        Legs::And(Column::I32(_), _) => run_kind::<i32>(node, frame, legs, from, to, builder, alloc),
+        Legs::And(Column::I64(_), _) => run_kind::<i64>(
+            node, frame, legs, from, to, builder, alloc,
+        ),
+        Legs::And(Column::I32(_), _) => run_kind::<i32>(
+            node, frame, legs, from, to, builder, alloc,
+        ),
         Legs::And(Column::U8(_), _) => run_kind::<u8>(node, frame, legs, from, to, builder, alloc),
-        Legs::And(Column::U32(_), _) => run_kind::<u32>(node, frame, legs, from, to, builder, alloc),
+        Legs::And(Column::U32(_), _) => run_kind::<u32>(
+            node, frame, legs, from, to, builder, alloc,
+        ),
         _ => Ok(false),
     }
 }
@@ -78,7 +84,9 @@ fn run_kind<L: Word>(
                 number: number.sym,
                 own: own.sym,
             };
-            run_columns(node, body, &names, frame, legs, &columns, from, to, builder, alloc)
+            run_columns(
+                node, body, &names, frame, legs, &columns, from, to, builder, alloc,
+            )
         }
         _ => Ok(false),
     }

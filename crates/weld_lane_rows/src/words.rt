@@ -6,7 +6,16 @@ use weld_data::{Column, Kind};
 use weld_lanes::Lane;
 
 /// A number of a kind whose numbers all lie within an i64.
-pub trait Word: Lane {
+pub trait Narrow: Lane {
+    ghost use Rattle.std.specs.Prelude.{◌≡◌};
+
+    /// The number in a word. It takes no memory.
+    fn to_word(self) -> i64
+        ensures { result ≡ Self.number self };
+}
+
+/// A number of such a kind, in a column or among words.
+pub trait Word: Narrow {
     ghost use Rattle.std.specs.Prelude.{◌≡◌, ◌≤◌, length, map, IfSome};
     ghost use Rattle.weld_data.specs.Kind.{IsNarrow};
     ghost use Rattle.weld_data.specs.Value.{number as value_of};
@@ -16,10 +25,6 @@ pub trait Word: Lane {
     fn kind_of() -> Kind
         ensures kind { result ≡ Self.kind }
         ensures narrow { IsNarrow result };
-
-    /// The number in a word. It takes no memory.
-    fn to_word(self) -> i64
-        ensures { result ≡ Self.number self };
 
     /// The elements of a column, where they are numbers of the kind. It takes no memory.
     fn cells<'a>(column: &'a Column) -> Option<&'a [Self]>
@@ -31,15 +36,17 @@ pub trait Word: Lane {
         ensures { result.now ≡ map Self.number numbers.now };
 }
 
+impl Narrow for i64 {
+    #[inline(always)]
+    fn to_word(self) -> i64 {
+        self
+    }
+}
+
 impl Word for i64 {
     #[inline(always)]
     fn kind_of() -> Kind {
         Kind::I64
-    }
-
-    #[inline(always)]
-    fn to_word(self) -> i64 {
-        self
     }
 
     fn cells<'a>(column: &'a Column) -> Option<&'a [i64]> {
@@ -54,15 +61,17 @@ impl Word for i64 {
     }
 }
 
+impl Narrow for i32 {
+    #[inline(always)]
+    fn to_word(self) -> i64 {
+        i64::from(self)
+    }
+}
+
 impl Word for i32 {
     #[inline(always)]
     fn kind_of() -> Kind {
         Kind::I32
-    }
-
-    #[inline(always)]
-    fn to_word(self) -> i64 {
-        i64::from(self)
     }
 
     fn cells<'a>(column: &'a Column) -> Option<&'a [i32]> {
@@ -78,15 +87,17 @@ impl Word for i32 {
     }
 }
 
+impl Narrow for u8 {
+    #[inline(always)]
+    fn to_word(self) -> i64 {
+        i64::from(self)
+    }
+}
+
 impl Word for u8 {
     #[inline(always)]
     fn kind_of() -> Kind {
         Kind::U8
-    }
-
-    #[inline(always)]
-    fn to_word(self) -> i64 {
-        i64::from(self)
     }
 
     fn cells<'a>(column: &'a Column) -> Option<&'a [u8]> {
@@ -102,15 +113,17 @@ impl Word for u8 {
     }
 }
 
+impl Narrow for u32 {
+    #[inline(always)]
+    fn to_word(self) -> i64 {
+        i64::from(self)
+    }
+}
+
 impl Word for u32 {
     #[inline(always)]
     fn kind_of() -> Kind {
         Kind::U32
-    }
-
-    #[inline(always)]
-    fn to_word(self) -> i64 {
-        i64::from(self)
     }
 
     fn cells<'a>(column: &'a Column) -> Option<&'a [u32]> {
@@ -127,7 +140,7 @@ impl Word for u32 {
 }
 
 /// Writes each number as a word.
-fn widen<L: Word>(numbers: &[L], room: &mut [i64])
+fn widen<L: Narrow>(numbers: &[L], room: &mut [i64])
     requires { length numbers.now ≡ length room.old }
     ensures { room.new ≡ map L.number numbers.now }
 {
