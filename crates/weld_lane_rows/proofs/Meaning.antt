@@ -40,9 +40,9 @@ row_names names env s i v = (names.row.0, plain v) ∷ (names.number.0, plain (w
 
 named : (names : LoopNames) (b n x : Binder) (env : Env) (s : Thing) (i : ℕ) (v w : Value) → b.sym.0 ≡ names.own.0 → n.sym.0 ≡ names.number.0 → x.sym.0 ≡ names.row.0 → v ≡ w
     → with_row b n x s (plain (whole_number i)) (plain v) env ≡ row_names names env s i w
-named names b n x env s i v w own number row same =
+named names b n x env s i v w own count row same =
     ap (λ (m : ℕ). (m, plain v) ∷ (n.sym.0, plain (whole_number i)) ∷ (b.sym.0, s) ∷ env) row
-    ∙ ap (λ (m : ℕ). (names.row.0, plain v) ∷ (m, plain (whole_number i)) ∷ (b.sym.0, s) ∷ env) number
+    ∙ ap (λ (m : ℕ). (names.row.0, plain v) ∷ (m, plain (whole_number i)) ∷ (b.sym.0, s) ∷ env) count
     ∙ ap (λ (m : ℕ). (names.row.0, plain v) ∷ (names.number.0, plain (whole_number i)) ∷ (m, s) ∷ env) own
     ∙ ap (λ (u : Value). row_names names env s i u) same
 

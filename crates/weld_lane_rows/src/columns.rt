@@ -10,6 +10,7 @@ use weld_data::Column;
 use weld_eval::legs::Legs;
 
 /// The numbers of the one leg, which are handed over twice, or those of two; and whether there are two.
+#[derive(Drop)]
 pub(crate) struct Columns<'a, L> {
     pub first: &'a [L],
     pub second: &'a [L],

@@ -1,6 +1,6 @@
 //! Pieces of the rows of a loop: the numbers of each are worked out, and merged as one list.
 
-ghost use Rattle.std.specs.Prelude.{◌≡◌, ◌-◌, ◌<◌, ◌≤◌, length, map, OnOk};
+ghost use Rattle.std.specs.Prelude.{◌≡◌, ◌-◌, ◌<◌, ◌≤◌, length, map, min, OnOk};
 ghost use Rattle.weld_data.specs.Kind.{IsNarrow};
 ghost use Rattle.weld_builders.specs.Outcome.{done};
 ghost use Rattle.weld_acts.specs.Ranges.{HoldsRange, range_over};
@@ -23,7 +23,7 @@ use weld_tree::Expr;
 const PIECE: usize = 4096;
 
 /// A loop's steps, the numbers that are the same on all its rows, and the columns of the rows.
-#[derive(Clone, Copy)]
+#[derive(Drop)]
 pub(crate) struct Lanes<'a, L> {
     pub program: &'a LaneProgram,
     pub uniforms: &'a [L],
@@ -32,7 +32,7 @@ pub(crate) struct Lanes<'a, L> {
 }
 
 /// Merges what the steps answer on the rows from a number up to, not including, another, piece by piece.
-#[tactic(auto, using(crate::proofs::PieceLemmas::starts, crate::proofs::PieceLemmas::part_holds, crate::proofs::PieceLemmas::part_merges, crate::proofs::PieceLemmas::goes_on, crate::proofs::PieceLemmas::ends))]
+#[tactic(auto, using(weld_acts::proofs::RangeSteps::range_start))]
 pub(crate) fn run_pieces<L: Word>(
     node: &Expr,
     frame: &Frame,
@@ -54,10 +54,48 @@ pub(crate) fn run_pieces<L: Word>(
     let mut scratch = Scratch::new(lanes.program, alloc)?;
     let mut answers = vec![in alloc; L::of_truth(false); size]?;
     let mut words = vec![in alloc; 0i64; size]?;
+    run_in_room(
+        node,
+        frame,
+        legs,
+        lanes,
+        &mut scratch,
+        &mut answers,
+        &mut words,
+        from,
+        to,
+        builder,
+    )
+}
+
+/// The same with room for the steps, and for the answers of a piece in the width of their kind and in words.
+#[tactic(auto, using(weld_acts::proofs::RangeSteps::range_start, weld_acts::proofs::RangeSteps::range_ends, crate::proofs::PieceLemmas::part_merges))]
+fn run_in_room<L: Word>(
+    node: &Expr,
+    frame: &Frame,
+    legs: &Legs,
+    lanes: &Lanes<L>,
+    scratch: &mut Scratch<L>,
+    answers: &mut [L],
+    words: &mut [i64],
+    from: usize,
+    to: usize,
+    builder: &mut Owned,
+) -> Result<(), AllocError>
+    requires holds { HoldsRange node.now (env_of frame.now) (lists_of legs.now) from to (thing_of builder.old) }
+    requires kind { lanes.now.program.now.kind ≡ L.kind }
+    requires first { to ≤ length lanes.now.first.now }
+    requires second { to ≤ length lanes.now.second.now }
+    requires merges { MergesRows node.now (env_of frame.now) (lists_of legs.now) L.kind (answer_at L.number L.kind lanes.now.program.now lanes.now.uniforms.now lanes.now.first.now lanes.now.second.now) to }
+    requires room { room_of (length lanes.now.program.now.steps.items) ≤ scratch.old }
+    requires answers { min (to - from) 4096 ≤ length answers.old }
+    requires words { min (to - from) 4096 ≤ length words.old }
+    ensures { OnOk result (range_over node.now (env_of frame.now) (lists_of legs.now) from to (thing_of builder.old) ≡ done (thing_of builder.new)) }
+{
     let mut reached = from;
     'pieces: while reached < to {
         let end = piece_end(reached, to);
-        let numbers = piece_numbers(lanes, &mut scratch, &mut answers, &mut words, reached, end);
+        let numbers = piece_numbers(lanes, scratch, answers, words, reached, end);
         merge_piece(node, frame, legs, lanes, numbers, reached, end, builder)?;
         reached = end;
     }
@@ -94,7 +132,28 @@ fn piece_numbers<'a, L: Word>(
     ensures long { length result.now ≡ to - from }
     ensures are { AreFrom (answer_at L.number L.kind lanes.now.program.now lanes.now.uniforms.now lanes.now.first.now lanes.now.second.now) from (to - from) result.now }
 {
-    let count = to - from;
+    let out = &mut answers[..to - from];
+    piece_answers(lanes, scratch, out, from, to);
+    L::words(&*out, &mut words[..to - from])
+}
+
+/// The same in the width of their kind.
+fn piece_answers<L: Word>(
+    lanes: &Lanes<L>,
+    scratch: &mut Scratch<L>,
+    out: &mut [L],
+    from: usize,
+    to: usize,
+)
+    requires ordered { from ≤ to }
+    requires kind { lanes.now.program.now.kind ≡ L.kind }
+    requires first { to ≤ length lanes.now.first.now }
+    requires second { to ≤ length lanes.now.second.now }
+    requires room { room_of (length lanes.now.program.now.steps.items) ≤ scratch.old }
+    requires out { length out.old ≡ to - from }
+    ensures room { scratch.new ≡ scratch.old }
+    ensures are { AreFrom (answer_at L.number L.kind lanes.now.program.now lanes.now.uniforms.now lanes.now.first.now lanes.now.second.now) from (to - from) (map L.number out.new) }
+{
     let first = &lanes.first[from..to];
     let second = &lanes.second[from..to];
     map_lanes(
@@ -103,9 +162,8 @@ fn piece_numbers<'a, L: Word>(
         first,
         second,
         lanes.uniforms,
-        &mut answers[..count],
+        out,
     );
-    L::words(&answers[..count], &mut words[..count])
 }
 
 /// Merges the numbers of a piece.
