@@ -1,5 +1,5 @@
 -- What the rows of a loop merge whose body steps mean.
-use Rattle.std.proofs.Common.{◌≡◌, ℕ, ◌<◌, ◌==◌, Bool, true, false, if◌then◌else◌, ℤ, List, ◌∷◌, map, Some, refl, sym, ap, subst, ◌∙◌}
+use Rattle.std.proofs.Common.{◌≡◌, ℕ, ◌<◌, ◌==◌, Bool, true, false, if◌then◌else◌, ℤ, List, ◌∷◌, map, Option, Some, IfSome, refl, sym, ap, subst, ◌∙◌}
 use Rattle.std.proofs.lemmas.Bool.{eq-eqb}
 use Rattle.weld_data.specs.declared.kind.Kind.{Kind}
 use Rattle.weld_data.specs.Value.{Value, number}
@@ -20,7 +20,8 @@ use Rattle.weld_eval_plain.specs.Rows.{row_step, RowIs}
 use Rattle.weld_lanes.specs.Answers.{at, row_answer}
 use Rattle.weld_lanes.specs.declared.steps.LaneProgram.{LaneProgram}
 use Rattle.weld_lane_form.specs.Bodies.{Lowered, Stands, row_value, TakesNumber, MeansBody}
-use Rattle.weld_lane_form.specs.Made.{lowered_by}
+use Rattle.weld_lane_form.specs.Made.{lowered_by, MayMeanBody}
+use Rattle.weld_lane_form.specs.declared.making.LaneBody.{LaneBody}
 use Rattle.weld_lane_form.specs.declared.making.LoopNames.{LoopNames}
 use Rattle.weld_lane_rows.specs.Columns.{AreRows}
 use Rattle.weld_lane_rows.specs.Outside.{IsLoopOf, OwnIsApart, AreOutside}
@@ -111,3 +112,17 @@ rows_merge fn k p syms names body n us cs ds env lists to same is apart outside 
     (all_merge p syms names body (map fn us) env n lists (map fn cs) (map fn ds) to is apart
     (subst (λ (m : Kind). AreOutside names m syms (map fn us) env) (sym same) outside)
     (subst (λ (m : Kind). AreRows m names.is_pair lists (map fn cs) (map fn ds) to) (sym same) rows) means)
+
+-- ---- as the code has it
+
+pub if_some : {A : Type 0} (o : Option A) (x : A) (P : A → Type 0) → o ≡ Some x → IfSome o P → P x
+if_some {A} o x P e h = subst (λ (y : Option A). IfSome y P) e h
+
+pub meant : (o : Option LaneBody) (made : LaneBody) (pair : Bool) (row own : ℕ) (e : ExprTree) → o ≡ Some made → MayMeanBody pair row own e o → MeansBody (lowered_by made.program made.uniforms.items pair row) own e
+meant o made pair row own e is h = subst (λ (y : Option LaneBody). MayMeanBody pair row own e y) is h
+
+pub loop_of : (m : ExprTree) (a : At) (ls : LegTrees) (e : ExprTree) (b n x : Binder) (f : ExprTree) (names : LoopNames) (body : ExprTree) → m ≡ loop a ls e b n x f → b.sym.0 ≡ names.own.0 → n.sym.0 ≡ names.number.0 → x.sym.0 ≡ names.row.0 → f ≡ body → IsLoopOf m names body
+loop_of m a ls e b n x f names body is own count row inner = subst (λ (l : ExprTree). IsLoopOf l names body) (sym is) (own, count, row, inner)
+
+pub outside_given : (names : LoopNames) (k : Kind) (ss syms : List Sym) (us vs : List ℤ) (env : Env) → ss ≡ syms → vs ≡ us → AreOutside names k ss us env → AreOutside names k syms vs env
+outside_given names k ss syms us vs env e f h = subst (λ (ws : List ℤ). AreOutside names k syms ws env) (sym f) (subst (λ (ts : List Sym). AreOutside names k ts us env) e h)

@@ -156,14 +156,7 @@ fn piece_answers<L: Word>(
 {
     let first = &lanes.first[from..to];
     let second = &lanes.second[from..to];
-    map_lanes(
-        lanes.program,
-        scratch,
-        first,
-        second,
-        lanes.uniforms,
-        out,
-    );
+    map_lanes(lanes.program, scratch, first, second, lanes.uniforms, out);
 }
 
 /// Merges the numbers of a piece.
