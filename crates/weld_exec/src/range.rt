@@ -15,6 +15,7 @@ use weld_data::{Column, Stop, Val};
 use weld_eval::frame::Frame;
 use weld_eval::legs::Legs;
 use weld_eval::thing::{Held, Owned, value_of};
+use weld_lane_rows::run_lanes;
 use weld_rows::run_range;
 use weld_tiles::Tile;
 use weld_tree::Expr;
@@ -83,16 +84,7 @@ fn run_tile_rows(
     ensures { RangeAnswer result (record { node = node.now; names = env_of frame.now; lists = leg_lists (take left vectors.now) ++ lists_of legs.now; start = thing_of builder.old }) tile.lo tile.hi (thing_of builder.old) (thing_of builder.new) }
 {
     if left == 0 {
-        run_range(
-            node,
-            frame,
-            legs,
-            tile.lo as usize,
-            tile.hi as usize,
-            is_direct(node),
-            builder,
-            alloc,
-        )
+        run_legs(node, frame, legs, tile, builder, alloc)
     } else {
         let more = before(column_of(&vectors[left - 1]), &*legs);
         run_tile_rows(
@@ -105,6 +97,33 @@ fn run_tile_rows(
             builder,
             alloc,
         )
+    }
+}
+
+/// The same over these legs: by lanes where the loop's body is plain arithmetic, else in place.
+fn run_legs(
+    node: &Expr,
+    frame: &Frame,
+    legs: &Legs,
+    tile: Tile,
+    builder: &mut Owned,
+    alloc: Global,
+) -> Result<(), Stop>
+    requires { HoldsRange node.now (env_of frame.now) (lists_of legs.now) tile.lo tile.hi (thing_of builder.old) }
+    ensures { RangeAnswer result (record { node = node.now; names = env_of frame.now; lists = lists_of legs.now; start = thing_of builder.old }) tile.lo tile.hi (thing_of builder.old) (thing_of builder.new) }
+{
+    let from = tile.lo as usize;
+    let to = tile.hi as usize;
+    match run_lanes(node, frame, legs, from, to, builder, alloc) {
+        Ok(is_done) => {
+            if is_done {
+                Ok(())
+            } else {
+                let is_direct = is_direct(node);
+                run_range(node, frame, legs, from, to, is_direct, builder, alloc)
+            }
+        }
+        Err(_) => Err(Stop::Memory),
     }
 }
 

@@ -1,5 +1,5 @@
 -- Forms of expressions and the steps that mean them.
-use Rattle.std.proofs.Common.{◌≡◌, ℕ, ◌-◌, ◌<◌, ◌==◌, Bool, true, false, not, ◌&&◌, ◌||◌, if◌then◌else◌, ℤ, pos, int_lt, int_le, List, [], ◌∷◌, length, slice_get, Some, None, option_map, refl, sym, ap, subst, ◌∙◌, IsTrue}
+use Rattle.std.proofs.Common.{◌≡◌, ℕ, ◌<◌, ◌==◌, Bool, true, false, not, ◌&&◌, ◌||◌, if◌then◌else◌, ℤ, pos, int_lt, int_le, List, [], ◌∷◌, length, slice_get, Some, None, option_map, refl, sym, ap, ◌∙◌, IsTrue}
 use Rattle.std.specs.Ordering.{int_eq}
 use Rattle.weld_data.specs.declared.kind.Kind.{Kind}
 use Rattle.weld_data.specs.declared.kind.Kind.TheVariants as kinds
@@ -12,17 +12,16 @@ use Rattle.weld_data.specs.Wrapped.{wrapped}
 use Rattle.weld_builders.specs.Outcome.{Outcome, done, stuck, and_then, map_out, or_fault}
 use Rattle.weld_lanes.specs.declared.steps.LaneStep.{LaneStep}
 use Rattle.weld_lanes.specs.declared.steps.LaneStep.TheVariants as steps
-use Rattle.weld_lanes.specs.Answers.{at, is_true, made, answer, row_answer}
+use Rattle.weld_lanes.specs.Answers.{at, is_true, made, answer}
 use Rattle.weld_lanes.specs.Blocks.{step_at}
 use Rattle.weld_lanes.specs.Formed.{are_formed, is_formed, is_arithmetic, is_comparison}
 use Rattle.weld_lanes.proofs.Running.{answers_is, formed_at, left_of}
-use Rattle.weld_tree.specs.declared.binder.Binder.{Binder}
 use Rattle.weld_tree.specs.declared.sym.Sym.{Sym}
-use Rattle.weld_tree.specs.ExprTree.{ExprTree, At, leaf, one, two, three, many, let_in, loop, iterate, Leaf, int, truth as truth_leaf, chars, name, fresh, not as not_form, cast, field, Two, binary, and as and_form, or as or_form, merge, select}
+use Rattle.weld_tree.specs.ExprTree.{ExprTree, At, leaf, one, two, three, many, let_in, loop, iterate, Leaf, int, truth as truth_leaf, chars, name, fresh, not as not_form, cast, field, Two, binary, and as and_form, or as or_form, select}
 use Rattle.weld_meaning.specs.Environment.{look_for}
 use Rattle.weld_meaning.specs.Evaluation.{Env, eval, found, leaf_thing, one_thing, two_thing, three_thing, operated, truth_value}
 use Rattle.weld_meaning.specs.Thing.{Thing, plain}
-use Rattle.weld_lane_form.specs.Bodies.{Lowered, Stands, row_value, value_of, is_mask, all_answers, place_value, made_value, with_lets, ComesTo, IsAt, IsNumberAt, IsTruthAt, IsOutside, IsNameOf, IsLet, MeansUnder}
+use Rattle.weld_lane_form.specs.Bodies.{Lowered, Stands, row_value, value_of, is_mask, all_answers, place_value, made_value, with_lets, ComesTo, IsAt, IsNumberAt, IsTruthAt, IsOutside, IsNameOf, IsLet}
 
 -- ---- places
 
@@ -90,7 +89,7 @@ miss : (s j : ℕ) (t : Bool) (ns : List (ℕ × ℕ)) (x : Thing) (env out : En
 miss s j true ns x env out h rest = cc
 miss s j false ns x env out h rest = rest h
 
-let_missed : (l : Lowered) (us : List ℤ) (a b : ℤ) (s : ℕ) (ns : List (ℕ × ℕ)) (env : Env) → look_for s ns ≡ None → look_for s (with_lets l us a b ns env) ≡ look_for s env
+pub let_missed : (l : Lowered) (us : List ℤ) (a b : ℤ) (s : ℕ) (ns : List (ℕ × ℕ)) (env : Env) → look_for s ns ≡ None → look_for s (with_lets l us a b ns env) ≡ look_for s env
 let_missed l us a b s [] env h = refl
 let_missed l us a b s (n ∷ ns) env h = miss s n.1 (s == n.0) ns (plain (place_value l us a b n.1)) (with_lets l us a b ns env) env h (let_missed l us a b s ns env)
 
@@ -204,7 +203,7 @@ comparison_done ops.Le k x y h = refl
 comparison_done ops.Gt k x y h = refl
 comparison_done ops.Ge k x y h = refl
 
-two_come : (o : Two) (c d : Outcome Thing) (t u : Thing) → c ≡ done t → d ≡ done u → and_then c (λ x. two_thing o x d) ≡ two_thing o t (done u)
+pub two_come : (o : Two) (c d : Outcome Thing) (t u : Thing) → c ≡ done t → d ≡ done u → and_then c (λ x. two_thing o x d) ≡ two_thing o t (done u)
 two_come o c d t u e f = ap (λ (w : Outcome Thing). and_then w (λ x. two_thing o x d)) e ∙ ap (two_thing o t) f
 
 pub arithmetic_comes : (l : Lowered) (ns : List (ℕ × ℕ)) (e f : ExprTree) (op other : BinOp) (i j : ℕ) → other ≡ op → is_arithmetic op ≡ true → IsNumberAt l ns e i → IsNumberAt l ns f j
@@ -262,38 +261,3 @@ choice_comes l ns c e f m i j o p q us a b env stands =
     ∙ ap (λ (w : Outcome Thing). three_thing select (plain (truth_value t)) w (eval f inner)) (p us a b env stands)
     ∙ ap (three_thing select (plain (truth_value t)) (done (plain (number l.kind x)))) (q us a b env stands)
     ∙ choice_of t l.kind x y
-
--- ---- bodies
-
-own_named : (e : ExprTree) (own : ℕ) (env : Env) → IsNameOf e own → eval e env ≡ found (look_for own env)
-own_named (leaf p x) own env is = ap (λ (y : Leaf). leaf_thing y env) is
-own_named (one p o e) own env is = absurd is
-own_named (two p o e f) own env is = absurd is
-own_named (three p o c e f) own env is = absurd is
-own_named (many p o es) own env is = absurd is
-own_named (let_in p x e f) own env is = absurd is
-own_named (loop p ls e x n r f) own env is = absurd is
-own_named (iterate p e x f) own env is = absurd is
-
-pub merge_means : (l : Lowered) (own : ℕ) (ns : List (ℕ × ℕ)) (e f : ExprTree) → IsNameOf e own → look_for own ns ≡ None → IsNumberAt l ns f (length l.steps - 1) → MeansUnder l own ns (λ env. and_then (eval e env) (λ t. two_thing merge t (eval f env)))
-merge_means l own ns e f is free h us a b env s stands there =
-    two_come merge (eval e (with_lets l us a b ns env)) (eval f (with_lets l us a b ns env)) s (plain (number l.kind (row_answer l.kind l.steps us a b)))
-    (own_named e own (with_lets l us a b ns env) is ∙ ap found (let_missed l us a b own ns env free ∙ there)) (h us a b env stands)
-
-pub let_means : (l : Lowered) (own : ℕ) (ns : List (ℕ × ℕ)) (n : ℕ) (e f : ExprTree) (i : ℕ) → IsAt l ns e i → MeansUnder l own ((n, i) ∷ ns) (eval f) → MeansUnder l own ns (λ env. and_then (eval e env) (λ t. eval f ((n, t) ∷ env)))
-let_means l own ns n e f i h rest us a b env s stands there =
-    ap (λ (o : Outcome Thing). and_then o (λ t. eval f ((n, t) ∷ with_lets l us a b ns env))) (h us a b env stands) ∙ rest us a b env s stands there
-
--- the same by the whole expression
-
-pub under_two : (l : Lowered) (own : ℕ) (ns : List (ℕ × ℕ)) (x y u v e : ExprTree) (p : At) (o : Two) → two p o u v ≡ e → x ≡ u → y ≡ v → MeansUnder l own ns (λ env. and_then (eval x env) (λ t. two_thing o t (eval y env))) → MeansUnder l own ns (eval e)
-under_two l own ns x y u v e p o is left right h =
-    subst (λ (w : ExprTree). MeansUnder l own ns (eval w)) is
-    (subst (λ (w : ExprTree). MeansUnder l own ns (λ env. and_then (eval w env) (λ t. two_thing o t (eval v env)))) left
-    (subst (λ (w : ExprTree). MeansUnder l own ns (λ env. and_then (eval x env) (λ t. two_thing o t (eval w env)))) right h))
-
-pub under_let : (l : Lowered) (own : ℕ) (ns : List (ℕ × ℕ)) (x y u v e : ExprTree) (p : At) (b : Binder) → let_in p b u v ≡ e → x ≡ u → y ≡ v → MeansUnder l own ns (λ env. and_then (eval x env) (λ t. eval y ((b.sym.0, t) ∷ env))) → MeansUnder l own ns (eval e)
-under_let l own ns x y u v e p b is left right h =
-    subst (λ (w : ExprTree). MeansUnder l own ns (eval w)) is
-    (subst (λ (w : ExprTree). MeansUnder l own ns (λ env. and_then (eval w env) (λ t. eval v ((b.sym.0, t) ∷ env)))) left
-    (subst (λ (w : ExprTree). MeansUnder l own ns (λ env. and_then (eval x env) (λ t. eval w ((b.sym.0, t) ∷ env)))) right h))

@@ -1,9 +1,12 @@
 -- Steps that mean the body of a loop: what its expressions come to, in every environment.
-use Rattle.std.specs.Prelude.{◌≡◌, ℕ, Bool, true, false, if◌then◌else◌, ℤ, List, [], ◌∷◌, slice_get, Some}
+use Rattle.std.specs.Prelude.{◌≡◌, ℕ, ◌-◌, Bool, true, false, if◌then◌else◌, ℤ, List, [], ◌∷◌, length, slice_get, Some, None}
 use Rattle.weld_data.specs.declared.kind.Kind.{Kind}
 use Rattle.weld_data.specs.declared.kind.Kind.TheVariants as kinds
+use Rattle.weld_data.specs.Kind.{InRange}
 use Rattle.weld_data.specs.Value.{Value, number, struct, no_values, and_value}
-use Rattle.weld_tree.specs.ExprTree.{ExprTree, leaf, Leaf, name}
+use Rattle.weld_tree.specs.ExprTree.{ExprTree, leaf, two, let_in, Leaf, name, Two, merge}
+use Rattle.weld_tree.specs.TypeTree.{TypeTree, BuildTree, scalar, build}
+use Rattle.weld_tree.specs.Types.{takes}
 use Rattle.weld_tree.specs.declared.sym.Sym.{Sym}
 use Rattle.weld_builders.specs.Outcome.{Outcome, done}
 use Rattle.weld_lanes.specs.declared.steps.LaneStep.{LaneStep}
@@ -13,6 +16,8 @@ use Rattle.weld_lanes.specs.Blocks.{step_at}
 use Rattle.weld_meaning.specs.Environment.{look_for}
 use Rattle.weld_meaning.specs.Evaluation.{Env, eval, merged, truth_value}
 use Rattle.weld_meaning.specs.Thing.{Thing, plain}
+use Rattle.weld_meaning.specs.ThingType.{EnvFits}
+use Rattle.weld_meaning.specs.Typing.{Types, AreFormed, HasType}
 
 -- the step answers a truth value
 abbrev pub is_mask : LaneStep → Bool
@@ -100,11 +105,28 @@ abbrev pub IsLet : List (ℕ × ℕ) → ExprTree → ℕ → Type 0
 IsLet ns (leaf at l) i = IsLetLeaf ns l i
 IsLet ns _ i = ⊥
 
--- the row's answer is merged into the builder of the name, whatever stands there
-abbrev pub MeansUnder : Lowered → ℕ → List (ℕ × ℕ) → (Env → Outcome Thing) → Type 0
-MeansUnder l own ns comes = (us : List ℤ) (a b : ℤ) (env : Env) (s : Thing) → Stands l us a b env → look_for own env ≡ Some s
-    → comes (with_lets l us a b ns env) ≡ merged s (done (plain (number l.kind (row_answer l.kind l.steps us a b))))
+-- the form merges the last step's number into the builder of the name
+abbrev pub IsMerge : Lowered → ℕ → List (ℕ × ℕ) → Two → ExprTree → ExprTree → Type 0
+IsMerge l own ns o e f = (o ≡ merge) × IsNameOf e own × (look_for own ns ≡ None) × IsNumberAt l ns f (length l.steps - 1)
 
--- the steps mean the body: in every environment in which its names stand for a row and for uniform numbers, it merges their answer
-abbrev pub MeansBody : Lowered → ℕ → ExprTree → Type 0
-MeansBody l own body = MeansUnder l own [] (eval body)
+-- the expression is lets, each of a step's value, that end in such a merge
+abbrev pub EndsInMerge : Lowered → ℕ → List (ℕ × ℕ) → ExprTree → Type 0
+EndsInMerge l own ns (two p o e f) = IsMerge l own ns o e f
+EndsInMerge l own ns (let_in p x e f) = (i : ℕ) × IsAt l ns e i × EndsInMerge l own ((x.sym.0, i) ∷ ns) f
+EndsInMerge l own ns _ = ⊥
+
+-- the same of a `let`
+abbrev pub LetEndsInMerge : Lowered → ℕ → List (ℕ × ℕ) → ℕ → ExprTree → ExprTree → Type 0
+LetEndsInMerge l own ns n e f = (i : ℕ) × IsAt l ns e i × EndsInMerge l own ((n, i) ∷ ns) f
+
+-- the type is that of a builder, and the number of the kind is one of its items
+pub record TakesNumber (k : Kind) (x : ℤ) (t : TypeTree) : Type 0 where
+  pub builder : BuildTree
+  pub is_builder : t ≡ build builder
+  pub takes_kind : takes builder ≡ scalar k
+  pub in_range : InRange k x
+
+-- the steps mean the body: in every environment in which its names stand for a row and for uniform numbers, it merges their answer into the builder of the name, whatever stands there; and in each that fits types by which the body has one, this is an item of its builder
+pub record MeansBody (l : Lowered) (own : ℕ) (e : ExprTree) : Type 0 where
+  pub merges : (us : List ℤ) (a b : ℤ) (env : Env) (s : Thing) → Stands l us a b env → look_for own env ≡ Some s → eval e env ≡ merged s (done (plain (number l.kind (row_answer l.kind l.steps us a b))))
+  pub fits : (us : List ℤ) (a b : ℤ) (env : Env) (g : Types) (t : TypeTree) → Stands l us a b env → AreFormed g → EnvFits g env → HasType e g t → TakesNumber l.kind (row_answer l.kind l.steps us a b) t

@@ -1,13 +1,13 @@
 //! Whether steps mean an expression: each form is held against the step of its place.
 
-ghost use Rattle.std.specs.Prelude.{◌≡◌, ◌∷◌, true, None, IfSome};
+ghost use Rattle.std.specs.Prelude.{◌≡◌, [], ◌∷◌, true, None, IfSome};
 ghost use Rattle.weld_data.specs.Kind.{IsInteger};
 ghost use Rattle.weld_tree.specs.ExprTree.{int, truth, not as not_form, cast, field, binary, and as and_form, or as or_form, select};
 ghost use Rattle.weld_tree.specs.ExprView.{view_leaf, view_one, view_two};
 ghost use Rattle.weld_builders.specs.Outcome.{and_then};
 ghost use Rattle.weld_meaning.specs.Environment.{look_for};
 ghost use Rattle.weld_meaning.specs.Evaluation.{eval, leaf_thing, one_thing, two_thing, three_thing};
-ghost use Rattle.weld_lane_form.specs.Bodies.{is_mask, ComesTo, IsAt, IsNumberAt, IsTruthAt, IsOutside, IsNameOf, IsLet, MeansUnder, MeansBody};
+ghost use Rattle.weld_lane_form.specs.Bodies.{is_mask, ComesTo, IsAt, IsNumberAt, IsTruthAt, IsOutside, IsNameOf, IsLet, IsMerge, EndsInMerge, LetEndsInMerge, MeansBody};
 ghost use Rattle.weld_lane_form.specs.LetsView.{lowered, view_lets};
 
 use crate::lets::{Body, Lets};
@@ -374,16 +374,25 @@ fn is_choice(
 
 /// Whether the steps mean the body of a loop: behind lets, whose steps stand at these places, it merges what the last step
 /// answers into the builder of the name.
+#[tactic(auto, using(crate::proofs::Merging::ends_means))]
 pub fn means_body(body: &Body, places: &[u32], e: &Expr) -> bool
     ensures { result ≡ true → MeansBody (lowered body.now) body.now.own.0 e.now }
 {
-    means_under(body, &Lets::End, places, e)
+    let end = no_lets();
+    means_under(body, &end, places, e)
 }
 
-/// The same behind more lets.
+/// The names of no lets.
+fn no_lets<'a>() -> Lets<'a>
+    ensures { view_lets result ≡ [] }
+{
+    Lets::End
+}
+
+/// Whether behind lets the expression ends in that merge.
 #[cycle(body)]
 fn means_under(body: &Body, lets: &Lets, places: &[u32], e: &Expr) -> bool
-    ensures { result ≡ true → MeansUnder (lowered body.now) body.now.own.0 (view_lets lets.now) (eval e.now) }
+    ensures { result ≡ true → EndsInMerge (lowered body.now) body.now.own.0 (view_lets lets.now) e.now }
 {
     match &e.form {
         Form::Two(form, builder, item) => is_merge(body, lets, *form, builder, item),
@@ -393,9 +402,8 @@ fn means_under(body: &Body, lets: &Lets, places: &[u32], e: &Expr) -> bool
 }
 
 /// The same of a merge.
-#[tactic(auto, using(crate::proofs::Forms::merge_means))]
 fn is_merge(body: &Body, lets: &Lets, form: TwoForm, builder: &Expr, item: &Expr) -> bool
-    ensures { result ≡ true → MeansUnder (lowered body.now) body.now.own.0 (view_lets lets.now) (λ env. and_then (eval builder.now env) (λ t. two_thing (view_two form) t (eval item.now env))) }
+    ensures { result ≡ true → IsMerge (lowered body.now) body.now.own.0 (view_lets lets.now) (view_two form) builder.now item.now }
 {
     match form {
         TwoForm::Merge => {}
@@ -419,7 +427,6 @@ fn with_let<'a>(name: Sym, place: u32, rest: &'a Lets<'a>) -> Lets<'a>
 
 /// The same of a `let`.
 #[cycle(body)]
-#[tactic(auto, using(crate::proofs::Forms::let_means))]
 fn is_let(
     body: &Body,
     lets: &Lets,
@@ -428,7 +435,7 @@ fn is_let(
     value: &Expr,
     inner: &Expr,
 ) -> bool
-    ensures { result ≡ true → MeansUnder (lowered body.now) body.now.own.0 (view_lets lets.now) (λ env. and_then (eval value.now env) (λ t. eval inner.now ((binder.now.sym.0, t) ∷ env))) }
+    ensures { result ≡ true → LetEndsInMerge (lowered body.now) body.now.own.0 (view_lets lets.now) binder.now.sym.0 value.now inner.now }
 {
     if places.is_empty() {
         return false;

@@ -1,0 +1,11 @@
+//! The rows of loops of plain arithmetic, run by lanes: what their bodies merge is worked out for thousands of rows at once, in
+//! arrays of the numbers' own width, and merged as one list.
+#![tactic(auto)]
+
+mod columns;
+mod outside;
+mod pieces;
+mod rows;
+pub mod words;
+
+pub use rows::run_lanes;

@@ -1,0 +1,192 @@
+//! Pieces of the rows of a loop: the numbers of each are worked out, and merged as one list.
+
+ghost use Rattle.std.specs.Prelude.{◌≡◌, ◌-◌, ◌<◌, ◌≤◌, length, map, min, OnOk};
+ghost use Rattle.weld_data.specs.Kind.{IsNarrow};
+ghost use Rattle.weld_builders.specs.Outcome.{done};
+ghost use Rattle.weld_acts.specs.Ranges.{HoldsRange, range_over};
+ghost use Rattle.weld_eval.specs.FrameView.{env_of};
+ghost use Rattle.weld_eval.specs.LegsView.{lists_of};
+ghost use Rattle.weld_eval.specs.ThingView.{thing_of};
+ghost use Rattle.weld_lanes.specs.Answers.{room_of};
+ghost use Rattle.weld_lane_rows.specs.Rows.{answer_at, AreFrom, MergesRows};
+
+use crate::words::Word;
+use std::alloc::{AllocError, Global};
+use weld_data::{Kind, Stop};
+use weld_eval::frame::Frame;
+use weld_eval::legs::Legs;
+use weld_eval::thing::Owned;
+use weld_lanes::{LaneProgram, Scratch, map_lanes};
+use weld_tree::Expr;
+
+/// How many rows a piece has at most: few enough for its numbers to stay near the processor.
+const PIECE: usize = 4096;
+
+/// A loop's steps, the numbers that are the same on all its rows, and the columns of the rows.
+#[derive(Drop)]
+pub(crate) struct Lanes<'a, L> {
+    pub program: &'a LaneProgram,
+    pub uniforms: &'a [L],
+    pub first: &'a [L],
+    pub second: &'a [L],
+}
+
+/// Merges what the steps answer on the rows from a number up to, not including, another, piece by piece.
+#[tactic(auto, using(weld_acts::proofs::RangeSteps::range_start))]
+pub(crate) fn run_pieces<L: Word>(
+    node: &Expr,
+    frame: &Frame,
+    legs: &Legs,
+    lanes: &Lanes<L>,
+    from: usize,
+    to: usize,
+    builder: &mut Owned,
+    alloc: Global,
+) -> Result<(), AllocError>
+    requires holds { HoldsRange node.now (env_of frame.now) (lists_of legs.now) from to (thing_of builder.old) }
+    requires kind { lanes.now.program.now.kind ≡ L.kind }
+    requires first { to ≤ length lanes.now.first.now }
+    requires second { to ≤ length lanes.now.second.now }
+    requires merges { MergesRows node.now (env_of frame.now) (lists_of legs.now) L.kind (answer_at L.number L.kind lanes.now.program.now lanes.now.uniforms.now lanes.now.first.now lanes.now.second.now) to }
+    ensures { OnOk result (range_over node.now (env_of frame.now) (lists_of legs.now) from to (thing_of builder.old) ≡ done (thing_of builder.new)) }
+{
+    let size = (to - from).min(PIECE);
+    let mut scratch = Scratch::new(lanes.program, alloc)?;
+    let mut answers = vec![in alloc; L::of_truth(false); size]?;
+    let mut words = vec![in alloc; 0i64; size]?;
+    run_in_room(
+        node,
+        frame,
+        legs,
+        lanes,
+        &mut scratch,
+        &mut answers,
+        &mut words,
+        from,
+        to,
+        builder,
+    )
+}
+
+/// The same with room for the steps, and for the answers of a piece in the width of their kind and in words.
+#[tactic(auto, using(weld_acts::proofs::RangeSteps::range_start, weld_acts::proofs::RangeSteps::range_ends, crate::proofs::PieceLemmas::part_merges))]
+fn run_in_room<L: Word>(
+    node: &Expr,
+    frame: &Frame,
+    legs: &Legs,
+    lanes: &Lanes<L>,
+    scratch: &mut Scratch<L>,
+    answers: &mut [L],
+    words: &mut [i64],
+    from: usize,
+    to: usize,
+    builder: &mut Owned,
+) -> Result<(), AllocError>
+    requires holds { HoldsRange node.now (env_of frame.now) (lists_of legs.now) from to (thing_of builder.old) }
+    requires kind { lanes.now.program.now.kind ≡ L.kind }
+    requires first { to ≤ length lanes.now.first.now }
+    requires second { to ≤ length lanes.now.second.now }
+    requires merges { MergesRows node.now (env_of frame.now) (lists_of legs.now) L.kind (answer_at L.number L.kind lanes.now.program.now lanes.now.uniforms.now lanes.now.first.now lanes.now.second.now) to }
+    requires room { room_of (length lanes.now.program.now.steps.items) ≤ scratch.old }
+    requires answers { min (to - from) 4096 ≤ length answers.old }
+    requires words { min (to - from) 4096 ≤ length words.old }
+    ensures { OnOk result (range_over node.now (env_of frame.now) (lists_of legs.now) from to (thing_of builder.old) ≡ done (thing_of builder.new)) }
+{
+    let mut reached = from;
+    'pieces: while reached < to {
+        let end = piece_end(reached, to);
+        let numbers = piece_numbers(lanes, scratch, answers, words, reached, end);
+        merge_piece(node, frame, legs, lanes, numbers, reached, end, builder)?;
+        reached = end;
+    }
+    Ok(())
+}
+
+/// Where a piece ends that begins at a row before the last one.
+fn piece_end(from: usize, to: usize) -> usize
+    requires { from < to }
+    ensures more { from < result }
+    ensures within { result ≤ to }
+    ensures small { result - from ≤ 4096 }
+{
+    if to - from < PIECE { to } else { from + PIECE }
+}
+
+/// What the steps answer on the rows of a piece, in words.
+fn piece_numbers<'a, L: Word>(
+    lanes: &Lanes<L>,
+    scratch: &mut Scratch<L>,
+    answers: &'a mut [L],
+    words: &'a mut [i64],
+    from: usize,
+    to: usize,
+) -> &'a [i64]
+    requires ordered { from ≤ to }
+    requires kind { lanes.now.program.now.kind ≡ L.kind }
+    requires first { to ≤ length lanes.now.first.now }
+    requires second { to ≤ length lanes.now.second.now }
+    requires room { room_of (length lanes.now.program.now.steps.items) ≤ scratch.old }
+    requires answers { to - from ≤ length answers.old }
+    requires words { to - from ≤ length words.old }
+    ensures room { scratch.new ≡ scratch.old }
+    ensures long { length result.now ≡ to - from }
+    ensures are { AreFrom (answer_at L.number L.kind lanes.now.program.now lanes.now.uniforms.now lanes.now.first.now lanes.now.second.now) from (to - from) result.now }
+{
+    let out = &mut answers[..to - from];
+    piece_answers(lanes, scratch, out, from, to);
+    L::words(&*out, &mut words[..to - from])
+}
+
+/// The same in the width of their kind.
+fn piece_answers<L: Word>(
+    lanes: &Lanes<L>,
+    scratch: &mut Scratch<L>,
+    out: &mut [L],
+    from: usize,
+    to: usize,
+)
+    requires ordered { from ≤ to }
+    requires kind { lanes.now.program.now.kind ≡ L.kind }
+    requires first { to ≤ length lanes.now.first.now }
+    requires second { to ≤ length lanes.now.second.now }
+    requires room { room_of (length lanes.now.program.now.steps.items) ≤ scratch.old }
+    requires out { length out.old ≡ to - from }
+    ensures room { scratch.new ≡ scratch.old }
+    ensures are { AreFrom (answer_at L.number L.kind lanes.now.program.now lanes.now.uniforms.now lanes.now.first.now lanes.now.second.now) from (to - from) (map L.number out.new) }
+{
+    let first = &lanes.first[from..to];
+    let second = &lanes.second[from..to];
+    map_lanes(lanes.program, scratch, first, second, lanes.uniforms, out);
+}
+
+/// Merges the numbers of a piece.
+fn merge_piece<L: Word>(
+    node: &Expr,
+    frame: &Frame,
+    legs: &Legs,
+    lanes: &Lanes<L>,
+    numbers: &[i64],
+    from: usize,
+    to: usize,
+    builder: &mut Owned,
+) -> Result<(), AllocError>
+    requires holds { HoldsRange node.now (env_of frame.now) (lists_of legs.now) from to (thing_of builder.old) }
+    requires some { from < to }
+    requires merges { MergesRows node.now (env_of frame.now) (lists_of legs.now) L.kind (answer_at L.number L.kind lanes.now.program.now lanes.now.uniforms.now lanes.now.first.now lanes.now.second.now) to }
+    requires long { length numbers.now ≡ to - from }
+    requires are { AreFrom (answer_at L.number L.kind lanes.now.program.now lanes.now.uniforms.now lanes.now.first.now lanes.now.second.now) from (to - from) numbers.now }
+    ensures { OnOk result (range_over node.now (env_of frame.now) (lists_of legs.now) from to (thing_of builder.old) ≡ done (thing_of builder.new)) }
+{
+    let _node = node;
+    let _frame = frame;
+    let _legs = legs;
+    let _lanes = lanes;
+    match builder {
+        Owned::Built(built) => match built.merge_numbers(L::kind_of(), numbers) {
+            Ok(()) => Ok(()),
+            Err(Stop::Memory) => Err(AllocError),
+            Err(Stop::Fault) => unreachable!(),
+        },
+        _ => unreachable!(),
+    }
+}
