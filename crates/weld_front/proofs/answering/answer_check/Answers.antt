@@ -8,6 +8,6 @@ returns-in-Err c = check_refused c.args.job.now c.in-Err.refusal c.refused.resul
 
 pub returns-in-Ok : goal.returns-in-Ok
 returns-in-Ok c =
-    check_answers c.args.job.now c.in-Ok.checked.program c.in-Ok.checked.ty c.told.result
+    check_answers c.args.job.now c.in-Ok.checked.program c.in-Ok.checked.ty c.told-answer.result
     (subst (λ (t : List ℕ). IsCheckedOf t c.in-Ok.checked.program c.in-Ok.checked.ty) c.text.ensures c.in-Ok.ensures.accepted)
-    c.told.ensures.status c.told.ensures.text
+    c.told-answer.ensures.status c.told-answer.ensures.text
