@@ -129,7 +129,7 @@ test_comes l ns t u e us a b env stands = ap (λ (v : Bool). done (plain (truth_
 pub cast_comes : (l : Lowered) (ns : List (ℕ × ℕ)) (p : At) (m k : Kind) (x y : ℤ) → k ≡ l.kind → y ≡ wrapped k x → ComesTo l ns (λ env. and_then (eval (leaf p (int m x)) env) (one_thing (cast k))) (steps.Lit y)
 cast_comes l ns p m k x y e f us a b env stands = ap (λ (n : Kind). done (plain (number n (wrapped k x)))) e ∙ ap (λ (z : ℤ). done (plain (number l.kind z))) (sym f)
 
-truth_is : (t : Bool) → int_eq (truth t) (pos 1) ≡ t
+pub truth_is : (t : Bool) → int_eq (truth t) (pos 1) ≡ t
 truth_is true = refl
 truth_is false = refl
 
@@ -163,7 +163,7 @@ second_comes l ns e n pair is free first us a b env stands =
 
 -- ---- two parts
 
-same_self : (k : Kind) → same_kind k k ≡ true
+pub same_self : (k : Kind) → same_kind k k ≡ true
 same_self kinds.Bool = refl
 same_self kinds.I8 = refl
 same_self kinds.I16 = refl

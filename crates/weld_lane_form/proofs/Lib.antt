@@ -1,2 +1,10 @@
+pub mod AllLowered
+pub mod BodyMeans
+pub mod ExprsLowered
 pub mod Forms
+pub mod FormsLowered
+pub mod Growing
+pub mod LoweredMeans
 pub mod Merging
+pub mod Places
+pub mod Placing

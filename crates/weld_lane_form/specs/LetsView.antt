@@ -1,12 +1,7 @@
 -- What the code holds, as plain data.
 use Rattle.std.specs.Prelude.{ℕ, List, [], ◌∷◌}
-use Rattle.weld_lane_form.specs.Bodies.{Lowered}
-use Rattle.weld_lane_form.specs.declared.lets.Body.{Body}
 use Rattle.weld_lane_form.specs.declared.lets.Lets.{Lets, fold-Lets}
 use Rattle.weld_lane_form.specs.declared.lets.Lets.TheOpen.{Lets-F}
-
-abbrev pub lowered : Body → Lowered
-lowered b = record { kind = b.program.now.kind; steps = b.program.now.steps.items; names = b.uniforms.now; is_pair = b.is_pair; row = b.row.0 }
 
 abbrev pub lets_step : Lets-F (List (ℕ × ℕ)) → List (ℕ × ℕ)
 lets_step Lets-F.End = []

@@ -1,3 +1,4 @@
 pub mod Bodies
 pub mod LetsView
 pub mod Made
+pub mod Lowering

@@ -1,8 +1,8 @@
 //! The lane form lowered: the steps that mean the body of a loop of plain arithmetic.
 #![tactic(auto)]
 
-pub mod lets;
-pub mod making;
-pub mod reading;
+mod asking;
+mod lets;
+mod making;
 
 pub use making::{LaneBody, LoopNames, lower};

@@ -1,16 +1,19 @@
-//! The steps that the body of a loop is lowered to. What is made here is held against the body before it is handed out, so
-//! nothing rests on how it is made.
+//! The steps that the body of a loop is lowered to.
 
-ghost use Rattle.std.specs.Prelude.{◌≡◌, true, IfSome};
-ghost use Rattle.weld_lane_form.specs.Bodies.{MeansBody};
-ghost use Rattle.weld_lane_form.specs.Made.{lowered_by, made_lowered, MayMean};
+ghost use Rattle.std.specs.Prelude.{◌≡◌, ◌&&◌, [], ◌∷◌, IfOk};
+ghost use Rattle.weld_meaning.specs.Environment.{look_for};
+ghost use Rattle.weld_tree.specs.ExprView.{view_leaf, view_one, view_two, view_three};
+ghost use Rattle.weld_sizes.specs.Sized.{is_that_name};
+ghost use Rattle.weld_lane_form.specs.LetsView.{view_lets};
+ghost use Rattle.weld_lane_form.specs.Lowering.{added, placed, nothing_begun, is_mask_at, is_unlet, are_numbers, are_truths, where_true, behind, is_merge, choose_truth, lower_uniform, lower_outside, lower_name, lower_leaf, lower_cast, lower_field, lower_not, lower_one, lower_binary, lower_two, lower_select, lower_three, lower_expr, lower_last, lower_body, place_among};
+ghost use Rattle.weld_lane_form.specs.Made.{MayMean, IsWhole, lane_names, begun, IsPlaced};
 
-use crate::lets::Body;
-use crate::reading::means_body;
+use crate::asking::{is_integer, is_name, is_same, is_truth, uniform_place};
+use crate::lets::{Lets, is_free, no_lets, place_of, with_let};
 use std::alloc::{AllocError, Global};
-use weld_data::{Kind, wrap};
+use weld_data::{BinOp, Kind, wrap};
 use weld_lanes::{LaneProgram, LaneStep, are_steps, is_arithmetic, is_comparison};
-use weld_tree::{Expr, Form, LeafForm, OneForm, Sym, ThreeForm, TwoForm};
+use weld_tree::{Binder, Expr, Form, LeafForm, OneForm, Sym, ThreeForm, TwoForm};
 
 /// A loop's body as steps, and the names of the numbers that are the same for all rows by their places.
 #[derive(Drop)]
@@ -30,242 +33,481 @@ pub struct LoopNames {
     pub own: Sym,
 }
 
-/// What is made so far: steps, names of uniform numbers, lets with the places of their steps, and these places in order.
+/// What is made so far: steps, and names of uniform numbers.
 #[derive(Drop)]
-struct Making {
+pub(crate) struct Making {
     steps: Vec<LaneStep>,
     uniforms: Vec<Sym>,
-    lets: Vec<(Sym, u32)>,
-    places: Vec<u32>,
 }
 
 /// The steps that mean the body of a loop: in every environment in which its names stand for a row and for uniform numbers, it
-/// merges what they answer. There are none where the body isn't plain arithmetic on numbers of the kind.
+/// merges what they answer. There are none only where the body isn't plain arithmetic on numbers of the kind. It fails for
+/// want of memory alone.
 pub fn lower(names: LoopNames, e: &Expr, alloc: Global) -> Result<Option<LaneBody>, AllocError>
-    ensures { MayMean names.is_pair names.row.0 names.own.0 e.now result }
+    ensures means { MayMean names.is_pair names.row.0 names.own.0 e.now result }
+    ensures whole { IsWhole (lane_names names) e.now result }
 {
     let mut making = Making {
         steps: Vec::new(alloc),
         uniforms: Vec::new(alloc),
-        lets: Vec::new(alloc),
-        places: Vec::new(alloc),
     };
-    match make_body(&mut making, names, e) {
-        Ok(true) => {}
-        Ok(false) => return Ok(None),
+    let end = no_lets();
+    match make_body(&mut making, names, &end, e) {
+        Ok(Some(_)) => {}
+        Ok(None) => return Ok(None),
         Err(e) => return Err(e),
     }
-    let Making {
-        steps,
-        uniforms,
-        lets: _,
-        places,
-    } = making;
-    Ok(checked(names, e, steps, uniforms, &places))
-}
-
-/// These steps, where they mean the body.
-fn checked(
-    names: LoopNames,
-    e: &Expr,
-    steps: Vec<LaneStep>,
-    uniforms: Vec<Sym>,
-    places: &[u32],
-) -> Option<LaneBody>
-    ensures { IfSome result (λ made. MeansBody (made_lowered made names.is_pair names.row.0) names.own.0 e.now) }
-{
+    let Making { steps, uniforms } = making;
     if steps.is_empty() || !are_steps(names.kind, &steps) {
-        return None;
+        return Ok(None);
     }
     let program = LaneProgram::new(names.kind, steps);
-    if is_meant(names, &program, &uniforms, places, e) {
-        Some(LaneBody { program, uniforms })
-    } else {
-        None
-    }
+    Ok(Some(LaneBody { program, uniforms }))
 }
 
-fn is_meant(
-    names: LoopNames,
-    program: &LaneProgram,
-    uniforms: &[Sym],
-    places: &[u32],
-    e: &Expr,
-) -> bool
-    ensures { result ≡ true → MeansBody (lowered_by program.now uniforms.now names.is_pair names.row.0) names.own.0 e.now }
+/// Adds a step, and tells its place.
+fn add(making: &mut Making, step: LaneStep) -> Result<u32, AllocError>
+    ensures { IfOk result (λ place. added (begun making.old) step ≡ placed (begun making.new) place) }
 {
-    let body = Body {
-        program,
-        uniforms,
-        is_pair: names.is_pair,
-        row: names.row,
-        own: names.own,
-    };
-    means_body(&body, places, e)
-}
-
-/// Makes the steps of a body: lets that end in a merge.
-fn make_body(making: &mut Making, names: LoopNames, e: &Expr) -> Result<bool, AllocError> {
-    match &e.form {
-        Form::Two(TwoForm::Merge, _, item) => Ok(make(making, names, item)?.is_some()),
-        Form::Let(binder, value, inner) => {
-            let place = match make(making, names, value)? {
-                Some(place) => place,
-                None => return Ok(false),
-            };
-            making.lets.push((binder.sym, place))?;
-            making.places.push(place)?;
-            make_body(making, names, inner)
+    match u32::try_from(making.steps.len()) {
+        Ok(place) => {
+            making.steps.push(step)?;
+            Ok(place)
         }
-        _ => Ok(false),
+        Err(_) => Err(AllocError),
     }
 }
 
-/// Makes the steps of an expression, and tells the place of the last one.
-fn make(making: &mut Making, names: LoopNames, e: &Expr) -> Result<Option<u32>, AllocError> {
-    match &e.form {
-        Form::Leaf(leaf) => make_leaf(making, names, leaf),
-        Form::One(OneForm::Not, part) => match make(making, names, part)? {
-            Some(i) => add(making, LaneStep::Not(i)),
-            None => Ok(None),
+/// The same as an option.
+fn add_some(making: &mut Making, step: LaneStep) -> Result<Option<u32>, AllocError>
+    ensures { IfOk result (λ found. IsPlaced (added (begun making.old) step) found (begun making.new)) }
+{
+    match add(making, step) {
+        Ok(place) => Ok(Some(place)),
+        Err(e) => Err(e),
+    }
+}
+
+/// Whether the step of a place answers a truth value.
+fn is_truth_at(making: &Making, place: u32) -> bool
+    ensures { result ≡ is_mask_at (begun making.now) place }
+{
+    let place = place as usize;
+    if place < making.steps.len() {
+        is_truth(making.steps[place])
+    } else {
+        false
+    }
+}
+
+/// A number that is the same for all rows.
+fn make_uniform(making: &mut Making, name: Sym) -> Result<Option<u32>, AllocError>
+    ensures { IfOk result (λ found. IsPlaced (lower_uniform (begun making.old) name.0 (place_among (begun making.old).names name.0)) found (begun making.new)) }
+{
+    match uniform_place(&making.uniforms, name) {
+        Some(place) => match u32::try_from(place) {
+            Ok(place) => add_some(making, LaneStep::Uniform(place)),
+            Err(_) => Err(AllocError),
         },
-        Form::One(form, part) => match one_step(form, part) {
-            Some(step) => add(making, step),
-            None => Ok(None),
+        None => match u32::try_from(making.uniforms.len()) {
+            Ok(place) => {
+                making.uniforms.push(name)?;
+                add_some(making, LaneStep::Uniform(place))
+            }
+            Err(_) => Err(AllocError),
         },
-        Form::Two(form, first, second) => {
-            let i = match make(making, names, first)? {
-                Some(i) => i,
-                None => return Ok(None),
-            };
-            let j = match make(making, names, second)? {
-                Some(j) => j,
-                None => return Ok(None),
-            };
-            match two_step(*form, i, j) {
-                Some(step) => add(making, step),
-                None => Ok(None),
+    }
+}
+
+/// A name that no `let` of the body has.
+fn make_outside(making: &mut Making, names: LoopNames, name: Sym) -> Result<Option<u32>, AllocError>
+    ensures { IfOk result (λ found. IsPlaced (lower_outside (lane_names names) (begun making.old) name.0) found (begun making.new)) }
+{
+    if name.0 == names.row.0 {
+        if names.is_pair {
+            Ok(None)
+        } else {
+            add_some(making, LaneStep::A)
+        }
+    } else if name.0 == names.number.0 || name.0 == names.own.0 {
+        Ok(None)
+    } else {
+        make_uniform(making, name)
+    }
+}
+
+/// A name.
+fn make_name(
+    making: &mut Making,
+    names: LoopNames,
+    lets: &Lets,
+    name: Sym,
+) -> Result<Option<u32>, AllocError>
+    ensures { IfOk result (λ found. IsPlaced (lower_name (lane_names names) (begun making.old) name.0 (look_for name.0 (view_lets lets.now))) found (begun making.new)) }
+{
+    match place_of(lets, name) {
+        Some(place) => Ok(Some(place)),
+        None => make_outside(making, names, name),
+    }
+}
+
+/// A form without parts.
+fn make_leaf(
+    making: &mut Making,
+    names: LoopNames,
+    lets: &Lets,
+    leaf: &LeafForm,
+) -> Result<Option<u32>, AllocError>
+    ensures { IfOk result (λ found. IsPlaced (lower_leaf (lane_names names) (view_lets lets.now) (begun making.old) (view_leaf leaf.now)) found (begun making.new)) }
+{
+    match leaf {
+        LeafForm::Int(kind, x) => {
+            if is_same(*kind, names.kind) {
+                add_some(making, LaneStep::Lit(*x))
+            } else {
+                Ok(None)
             }
         }
-        Form::Three(ThreeForm::Select, test, then, otherwise) => {
-            let truths = match make(making, names, test)? {
-                Some(truths) => truths,
-                None => return Ok(None),
-            };
-            let i = match make(making, names, then)? {
-                Some(i) => i,
-                None => return Ok(None),
-            };
-            match make(making, names, otherwise)? {
-                Some(j) => add(making, LaneStep::Select(truths, i, j)),
-                None => Ok(None),
+        LeafForm::Truth(test) => add_some(making, LaneStep::Truth(*test)),
+        LeafForm::Name(name) => make_name(making, names, lets, *name),
+        LeafForm::Chars(_) | LeafForm::Builder(_) => Ok(None),
+    }
+}
+
+/// A literal that is cast to the kind.
+fn make_cast(
+    making: &mut Making,
+    names: LoopNames,
+    kind: Kind,
+    part: &Expr,
+) -> Result<Option<u32>, AllocError>
+    ensures { IfOk result (λ found. IsPlaced (lower_cast (lane_names names) kind (begun making.old) part.now) found (begun making.new)) }
+{
+    match &part.form {
+        Form::Leaf(LeafForm::Int(_, x)) => {
+            if is_integer(kind) && is_same(kind, names.kind) {
+                add_some(making, LaneStep::Lit(wrap(kind, *x)))
+            } else {
+                Ok(None)
             }
         }
         _ => Ok(None),
     }
 }
 
-/// Makes the step of a literal or of a name that isn't one of a `let`.
-fn make_leaf(
+/// A field of the row.
+fn make_field(
     making: &mut Making,
     names: LoopNames,
-    leaf: &LeafForm,
-) -> Result<Option<u32>, AllocError> {
-    match leaf {
-        LeafForm::Int(_, x) => add(making, LaneStep::Lit(*x)),
-        LeafForm::Truth(test) => add(making, LaneStep::Truth(*test)),
-        LeafForm::Name(name) => make_name(making, names, *name),
-        LeafForm::Chars(_) | LeafForm::Builder(_) => Ok(None),
-    }
-}
-
-fn make_name(making: &mut Making, names: LoopNames, name: Sym) -> Result<Option<u32>, AllocError> {
-    match let_place(&making.lets, name) {
-        Some(place) => return Ok(Some(place)),
-        None => {}
-    }
-    if name.0 == names.row.0 {
-        return add(making, LaneStep::A);
-    }
-    if name.0 == names.number.0 || name.0 == names.own.0 {
+    lets: &Lets,
+    number: u32,
+    part: &Expr,
+) -> Result<Option<u32>, AllocError>
+    ensures { IfOk result (λ found. IsPlaced (lower_field (lane_names names) (view_lets lets.now) number (begun making.old) part.now) found (begun making.new)) }
+{
+    if !names.is_pair || !is_name(part, names.row) || !is_free(lets, names.row) {
         return Ok(None);
     }
-    let place = match uniform_place(&making.uniforms, name) {
-        Some(place) => place,
-        None => {
-            making.uniforms.push(name)?;
-            making.uniforms.len() - 1
+    if number == 0 {
+        add_some(making, LaneStep::A)
+    } else if number == 1 {
+        add_some(making, LaneStep::B)
+    } else {
+        Ok(None)
+    }
+}
+
+/// The contrary of a truth value.
+fn make_not(making: &mut Making, place: u32) -> Result<Option<u32>, AllocError>
+    ensures { IfOk result (λ found. IsPlaced (lower_not (begun making.old) place) found (begun making.new)) }
+{
+    if is_truth_at(&*making, place) {
+        add_some(making, LaneStep::Not(place))
+    } else {
+        Ok(None)
+    }
+}
+
+/// An operator between numbers.
+fn make_binary(making: &mut Making, op: BinOp, i: u32, j: u32) -> Result<Option<u32>, AllocError>
+    ensures { IfOk result (λ found. IsPlaced (lower_binary op i j (begun making.old)) found (begun making.new)) }
+{
+    if is_arithmetic(op) {
+        add_some(making, LaneStep::Arith(op, i, j))
+    } else if is_comparison(op) {
+        add_some(making, LaneStep::Compare(op, i, j))
+    } else {
+        Ok(None)
+    }
+}
+
+/// Whether both steps answer numbers.
+fn are_numbers(making: &Making, i: u32, j: u32) -> bool
+    ensures { result ≡ are_numbers (begun making.now) i j }
+{
+    !is_truth_at(making, i) && !is_truth_at(making, j)
+}
+
+/// Whether both steps answer truth values.
+fn are_truths(making: &Making, i: u32, j: u32) -> bool
+    ensures { result ≡ are_truths (begun making.now) i j }
+{
+    is_truth_at(making, i) && is_truth_at(making, j)
+}
+
+/// A form of two parts whose steps have these places.
+fn join_two(making: &mut Making, form: TwoForm, i: u32, j: u32) -> Result<Option<u32>, AllocError>
+    ensures { IfOk result (λ found. IsPlaced (lower_two (view_two form) i j (begun making.old)) found (begun making.new)) }
+{
+    match form {
+        TwoForm::Binary(op) => {
+            if are_numbers(&*making, i, j) {
+                make_binary(making, op, i, j)
+            } else {
+                Ok(None)
+            }
         }
+        TwoForm::And => {
+            if are_truths(&*making, i, j) {
+                add_some(making, LaneStep::And(i, j))
+            } else {
+                Ok(None)
+            }
+        }
+        TwoForm::Or => {
+            if are_truths(&*making, i, j) {
+                add_some(making, LaneStep::Or(i, j))
+            } else {
+                Ok(None)
+            }
+        }
+        TwoForm::LookUp | TwoForm::KeyExists | TwoForm::Merge => Ok(None),
+    }
+}
+
+/// One of two truth values, as a third says.
+#[tactic(auto, using(crate::proofs::Placing::chosen_truth))]
+fn choose_truths(making: &mut Making, t: u32, i: u32, j: u32) -> Result<Option<u32>, AllocError>
+    ensures { IfOk result (λ found. IsPlaced (choose_truth t i j (begun making.old)) found (begun making.new)) }
+{
+    let both = add(making, LaneStep::And(t, i))?;
+    let contrary = add(making, LaneStep::Not(t))?;
+    let other = add(making, LaneStep::And(contrary, j))?;
+    match add(making, LaneStep::Or(both, other)) {
+        Ok(place) => Ok(Some(place)),
+        Err(e) => Err(e),
+    }
+}
+
+/// One of two values, whose steps have these places.
+fn make_select(making: &mut Making, t: u32, i: u32, j: u32) -> Result<Option<u32>, AllocError>
+    ensures { IfOk result (λ found. IsPlaced (lower_select t i j (begun making.old)) found (begun making.new)) }
+{
+    if !is_truth_at(&*making, t) {
+        Ok(None)
+    } else if are_numbers(&*making, i, j) {
+        add_some(making, LaneStep::Select(t, i, j))
+    } else if are_truths(&*making, i, j) {
+        choose_truths(making, t, i, j)
+    } else {
+        Ok(None)
+    }
+}
+
+/// An expression.
+#[cycle(making)]
+fn make(
+    making: &mut Making,
+    names: LoopNames,
+    lets: &Lets,
+    e: &Expr,
+) -> Result<Option<u32>, AllocError>
+    ensures { IfOk result (λ found. IsPlaced (lower_expr (lane_names names) (view_lets lets.now) e.now (begun making.old)) found (begun making.new)) }
+{
+    match &e.form {
+        Form::Leaf(leaf) => make_leaf(making, names, lets, leaf),
+        Form::One(form, part) => make_one(making, names, lets, form, part),
+        Form::Two(form, first, second) => make_two(making, names, lets, *form, first, second),
+        Form::Three(ThreeForm::Select, test, then, otherwise) => {
+            make_three(making, names, lets, test, then, otherwise)
+        }
+        _ => Ok(None),
+    }
+}
+
+/// A form of one part.
+#[cycle(making)]
+fn make_one(
+    making: &mut Making,
+    names: LoopNames,
+    lets: &Lets,
+    form: &OneForm,
+    part: &Expr,
+) -> Result<Option<u32>, AllocError>
+    ensures { IfOk result (λ found. IsPlaced (lower_one (lane_names names) (view_lets lets.now) (view_one form.now) (begun making.old) part.now (lower_expr (lane_names names) (view_lets lets.now) part.now (begun making.old))) found (begun making.new)) }
+{
+    match form {
+        OneForm::Not => make_contrary(making, names, lets, part),
+        OneForm::Cast(kind) => make_cast(making, names, *kind, part),
+        OneForm::Field(number) => make_field(making, names, lets, *number, part),
+        _ => Ok(None),
+    }
+}
+
+/// `!` of an expression.
+#[cycle(making)]
+#[tactic(auto, using(crate::proofs::Placing::behind_some, crate::proofs::Placing::behind_none))]
+fn make_contrary(
+    making: &mut Making,
+    names: LoopNames,
+    lets: &Lets,
+    part: &Expr,
+) -> Result<Option<u32>, AllocError>
+    ensures { IfOk result (λ found. IsPlaced (behind (lower_expr (lane_names names) (view_lets lets.now) part.now (begun making.old)) lower_not) found (begun making.new)) }
+{
+    match make(making, names, lets, part) {
+        Ok(Some(place)) => make_not(making, place),
+        Ok(None) => Ok(None),
+        Err(e) => Err(e),
+    }
+}
+
+/// A form of two parts.
+#[cycle(making)]
+#[tactic(auto, using(crate::proofs::Placing::two_placed, crate::proofs::Placing::no_first, crate::proofs::Placing::no_second))]
+fn make_two(
+    making: &mut Making,
+    names: LoopNames,
+    lets: &Lets,
+    form: TwoForm,
+    first: &Expr,
+    second: &Expr,
+) -> Result<Option<u32>, AllocError>
+    ensures { IfOk result (λ found. IsPlaced (behind (lower_expr (lane_names names) (view_lets lets.now) first.now (begun making.old)) (λ d i. behind (lower_expr (lane_names names) (view_lets lets.now) second.now d) (λ g j. lower_two (view_two form) i j g))) found (begun making.new)) }
+{
+    let i = match make(making, names, lets, first) {
+        Ok(Some(i)) => i,
+        Ok(None) => return Ok(None),
+        Err(e) => return Err(e),
     };
-    match u32::try_from(place) {
-        Ok(place) => add(making, LaneStep::Uniform(place)),
-        Err(_) => Ok(None),
+    let j = match make(making, names, lets, second) {
+        Ok(Some(j)) => j,
+        Ok(None) => return Ok(None),
+        Err(e) => return Err(e),
+    };
+    join_two(making, form, i, j)
+}
+
+/// A `select`.
+#[cycle(making)]
+#[tactic(auto, using(crate::proofs::Placing::three_placed, crate::proofs::Placing::no_test, crate::proofs::Placing::no_then, crate::proofs::Placing::no_otherwise))]
+fn make_three(
+    making: &mut Making,
+    names: LoopNames,
+    lets: &Lets,
+    test: &Expr,
+    then: &Expr,
+    otherwise: &Expr,
+) -> Result<Option<u32>, AllocError>
+    ensures { IfOk result (λ found. IsPlaced (behind (lower_expr (lane_names names) (view_lets lets.now) test.now (begun making.old)) (λ d t. behind (lower_expr (lane_names names) (view_lets lets.now) then.now d) (λ g i. behind (lower_expr (lane_names names) (view_lets lets.now) otherwise.now g) (λ k j. lower_select t i j k)))) found (begun making.new)) }
+{
+    let t = match make(making, names, lets, test) {
+        Ok(Some(t)) => t,
+        Ok(None) => return Ok(None),
+        Err(e) => return Err(e),
+    };
+    let i = match make(making, names, lets, then) {
+        Ok(Some(i)) => i,
+        Ok(None) => return Ok(None),
+        Err(e) => return Err(e),
+    };
+    let j = match make(making, names, lets, otherwise) {
+        Ok(Some(j)) => j,
+        Ok(None) => return Ok(None),
+        Err(e) => return Err(e),
+    };
+    make_select(making, t, i, j)
+}
+
+/// The number of a place as that of the last step.
+#[tactic(auto, using(crate::proofs::Placing::last_copied))]
+fn make_last(making: &mut Making, place: u32) -> Result<Option<u32>, AllocError>
+    ensures { IfOk result (λ found. IsPlaced (lower_last (begun making.old) place) found (begun making.new)) }
+{
+    if is_truth_at(&*making, place) {
+        return Ok(None);
+    }
+    if place as usize + 1 == making.steps.len() {
+        return Ok(Some(place));
+    }
+    let t = add(making, LaneStep::Truth(true))?;
+    match add(making, LaneStep::Select(t, place, place)) {
+        Ok(last) => Ok(Some(last)),
+        Err(e) => Err(e),
     }
 }
 
-/// The place of the newest `let` of the name.
-fn let_place(lets: &[(Sym, u32)], name: Sym) -> Option<u32> {
-    let mut found = None;
-    for i in 0..lets.len() {
-        let (first, place) = lets[i];
-        if first.0 == name.0 {
-            found = Some(place);
-        }
-    }
-    found
-}
-
-/// The place of the name among those of uniform numbers.
-fn uniform_place(uniforms: &[Sym], name: Sym) -> Option<usize> {
-    for i in 0..uniforms.len() {
-        if uniforms[i].0 == name.0 {
-            return Some(i);
-        }
-    }
-    None
-}
-
-/// The step of a cast literal, or of a field of the row.
-fn one_step(form: &OneForm, part: &Expr) -> Option<LaneStep> {
+/// A merge of a number into the loop's builder.
+#[tactic(auto, using(crate::proofs::Placing::behind_some, crate::proofs::Placing::behind_none))]
+fn make_merge(
+    making: &mut Making,
+    names: LoopNames,
+    lets: &Lets,
+    form: TwoForm,
+    builder: &Expr,
+    item: &Expr,
+) -> Result<Option<u32>, AllocError>
+    ensures { IfOk result (λ found. IsPlaced (where_true (is_merge (view_two form) && (is_that_name builder.now names.own.0 && is_unlet (look_for names.own.0 (view_lets lets.now)))) (behind (lower_expr (lane_names names) (view_lets lets.now) item.now (begun making.old)) lower_last)) found (begun making.new)) }
+{
     match form {
-        OneForm::Cast(kind) => cast_step(*kind, part),
-        OneForm::Field(number) => match number {
-            0 => Some(LaneStep::A),
-            1 => Some(LaneStep::B),
-            _ => None,
-        },
-        _ => None,
+        TwoForm::Merge => {}
+        _ => return Ok(None),
+    }
+    if !is_name(builder, names.own) || !is_free(lets, names.own) {
+        return Ok(None);
+    }
+    match make(making, names, lets, item) {
+        Ok(Some(place)) => make_last(making, place),
+        Ok(None) => Ok(None),
+        Err(e) => Err(e),
     }
 }
 
-fn cast_step(kind: Kind, part: &Expr) -> Option<LaneStep> {
-    match &part.form {
-        Form::Leaf(LeafForm::Int(_, x)) => match kind {
-            Kind::Bool => None,
-            _ => Some(LaneStep::Lit(wrap(kind, *x))),
-        },
-        _ => None,
+/// Lets that end in a merge.
+#[cycle(body)]
+fn make_body(
+    making: &mut Making,
+    names: LoopNames,
+    lets: &Lets,
+    e: &Expr,
+) -> Result<Option<u32>, AllocError>
+    ensures { IfOk result (λ found. IsPlaced (lower_body (lane_names names) (view_lets lets.now) e.now (begun making.old)) found (begun making.new)) }
+{
+    match &e.form {
+        Form::Two(form, builder, item) => make_merge(making, names, lets, *form, builder, item),
+        Form::Let(binder, value, inner) => make_let(making, names, lets, binder, value, inner),
+        _ => Ok(None),
     }
 }
 
-/// The step of a form of two parts whose answers stand at these places.
-fn two_step(form: TwoForm, i: u32, j: u32) -> Option<LaneStep> {
-    match form {
-        TwoForm::Binary(op) if is_arithmetic(op) => Some(LaneStep::Arith(op, i, j)),
-        TwoForm::Binary(op) if is_comparison(op) => Some(LaneStep::Compare(op, i, j)),
-        TwoForm::And => Some(LaneStep::And(i, j)),
-        TwoForm::Or => Some(LaneStep::Or(i, j)),
-        _ => None,
-    }
-}
-
-/// Adds a step, and tells its place.
-fn add(making: &mut Making, step: LaneStep) -> Result<Option<u32>, AllocError> {
-    match u32::try_from(making.steps.len()) {
-        Ok(place) => {
-            making.steps.push(step)?;
-            Ok(Some(place))
-        }
-        Err(_) => Ok(None),
-    }
+/// A `let`.
+#[cycle(body)]
+#[tactic(auto, using(crate::proofs::Placing::let_placed, crate::proofs::Placing::no_let))]
+fn make_let(
+    making: &mut Making,
+    names: LoopNames,
+    lets: &Lets,
+    binder: &Binder,
+    value: &Expr,
+    inner: &Expr,
+) -> Result<Option<u32>, AllocError>
+    ensures { IfOk result (λ found. IsPlaced (behind (lower_expr (lane_names names) (view_lets lets.now) value.now (begun making.old)) (λ d i. lower_body (lane_names names) ((binder.now.sym.0, i) ∷ view_lets lets.now) inner.now d)) found (begun making.new)) }
+{
+    let place = match make(making, names, lets, value) {
+        Ok(Some(place)) => place,
+        Ok(None) => return Ok(None),
+        Err(e) => return Err(e),
+    };
+    let more = with_let(binder.sym, place, &*lets);
+    make_body(making, names, &more, inner)
 }
