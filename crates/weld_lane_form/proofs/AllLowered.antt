@@ -1,36 +1,26 @@
 -- Each value of the lane form is lowered, where nodes have their types.
-use Rattle.std.proofs.Common.{rules, ◌≡◌, ℕ, zero, suc, ◌+◌, ◌<◌, ◌≤◌, ◌==◌, nat_lt, Bool, true, false, not, ◌&&◌, ◌||◌, if◌then◌else◌, ℤ, ◌≤ℤ◌, int_le, List, [], ◌∷◌, ◌++◌, length, map, Option, Some, None, refl, sym, ap, subst, ◌∙◌, IsTrue, arith}
-use Rattle.std.proofs.lemmas.Bool.{eqb-true}
-use Rattle.std.proofs.lemmas.List.{length-append, get_or_push}
+use Rattle.std.proofs.Common.{rules, ◌≡◌, ℕ, suc, ◌+◌, ◌<◌, ◌==◌, nat_lt, Bool, true, false, ◌&&◌, ◌||◌, if◌then◌else◌, ℤ, int_le, List, [], ◌∷◌, ◌++◌, length, Option, Some, None, refl, sym, ap, subst, ◌∙◌, IsTrue, arith}
+use Rattle.std.proofs.lemmas.List.{get_or_push}
 use Rattle.weld_data.specs.declared.kind.Kind.{Kind}
 use Rattle.weld_data.specs.declared.kind.Kind.TheVariants as kinds
-use Rattle.weld_data.specs.declared.op.BinOp.{BinOp}
-use Rattle.weld_data.specs.declared.op.BinOp.TheVariants as ops
 use Rattle.weld_data.specs.Kind.{InRange, least, greatest}
-use Rattle.weld_data.specs.Lookup.{same_kind}
-use Rattle.weld_data.specs.Operation.{answer_kind}
-use Rattle.weld_data.specs.Wrapped.{wrapped}
-use Rattle.weld_data.proofs.Wrapping.{IsWrapped-wrapped}
 use Rattle.weld_tree.specs.declared.known.Known.{Known}
-use Rattle.weld_tree.specs.declared.known.Known.TheVariants.{Is, Blank}
-use Rattle.weld_tree.specs.TypeTree.{TypeTree, BuildTree, TypeTrees, scalar, vec, struct, dict, build, no_types, more_types}
-use Rattle.weld_tree.specs.ExprTree.{At, ExprTree, leaf, one, two, three, many, let_in, loop, iterate, Leaf, int, truth, chars, name, fresh, One, neg, cast, len, field, finish, started, Two, binary, and, or, look_up, key_exists, merge, Three, if_else, select, slice}
-use Rattle.weld_tree.specs.ExprTree as trees
+use Rattle.weld_tree.specs.declared.known.Known.TheVariants.{Is}
+use Rattle.weld_tree.specs.TypeTree.{TypeTree, BuildTree, scalar, vec, struct, dict, build, no_types, more_types}
+use Rattle.weld_tree.specs.ExprTree.{ExprTree, leaf, one, two, three, many, let_in, loop, iterate}
 use Rattle.weld_lanes.specs.declared.steps.LaneStep.{LaneStep}
 use Rattle.weld_lanes.specs.declared.steps.LaneStep.TheVariants as steps
 use Rattle.weld_lanes.specs.Blocks.{step_at}
-use Rattle.weld_lanes.specs.Formed.{is_formed, are_formed, is_arithmetic, is_comparison}
+use Rattle.weld_lanes.specs.Formed.{is_formed, are_formed}
 use Rattle.weld_meaning.specs.Environment.{look_for}
-use Rattle.weld_meaning.specs.Typing.{Types, truth_type, place_type, IsField, OneHas, TwoHas, ThreeHas, HasType}
+use Rattle.weld_meaning.specs.Typing.{Types, truth_type, place_type, HasType}
 use Rattle.weld_meaning.proofs.OneType.{one_type}
-use Rattle.weld_check_types.specs.Notes.{HasNote, AreNoted}
-use Rattle.weld_sizes.specs.Sized.{is_that_name}
-use Rattle.weld_sizes.specs.Lanes.{is_lane_kind, is_number_type, is_noted_number, noted_of, LaneLoop, is_among, is_lane_name, is_lane_leaf, is_int_leaf, is_int, is_not, is_lane_one, is_lane_op, is_lane_two, is_select, is_lane}
+use Rattle.weld_check_types.specs.Notes.{AreNoted}
+use Rattle.weld_sizes.specs.Lanes.{is_lane_kind, is_number_type, is_noted_number, noted_of}
 use Rattle.weld_lane_form.specs.Bodies.{is_mask}
-use Rattle.weld_lane_form.specs.Lowering.{LaneNames, Begun, Placed, placed, behind, added, where_true, is_mask_at, place_among, lower_uniform, lower_outside, lower_name, lower_leaf, is_integer, lower_cast_leaf, lower_cast, is_unlet, lower_field, lower_not, lower_one, lower_binary, are_numbers, are_truths, lower_two, choosing, choose_truth, lower_select, lower_three, lower_expr}
-use Rattle.weld_lane_form.proofs.Growing.{Grows, grows_at, grows_length, AreBelow, expr_grows}
-use Rattle.weld_lane_form.proofs.LoweredMeans.{left_true, right_true, same_kinds, that_name}
-use Rattle.weld_lane_form.proofs.Forms.{same_self}
+use Rattle.weld_lane_form.specs.Lowering.{LaneNames, Begun, Placed, placed, behind, added, where_true, is_mask_at, is_integer}
+use Rattle.weld_lane_form.proofs.Growing.{Grows, grows_at, grows_length, AreBelow}
+use Rattle.weld_lane_form.proofs.LoweredMeans.{left_true, right_true, same_kinds}
 
 -- ---- truths
 

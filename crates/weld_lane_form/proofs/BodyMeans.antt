@@ -1,10 +1,9 @@
 -- What a body is lowered to is what it merges.
-use Rattle.std.proofs.Common.{◌≡◌, ℕ, ◌+◌, ◌-◌, ◌<◌, ◌≤◌, ◌==◌, Bool, true, false, not, ◌&&◌, if◌then◌else◌, ℤ, pos, List, [], ◌∷◌, ◌++◌, length, map, Option, Some, None, refl, sym, ap, subst, ◌∙◌, IsTrue, append-nil, arith}
+use Rattle.std.proofs.Common.{◌≡◌, ℕ, ◌+◌, ◌-◌, ◌<◌, ◌==◌, Bool, true, false, not, ◌&&◌, if◌then◌else◌, ℤ, List, [], ◌∷◌, ◌++◌, length, map, refl, sym, ap, subst, ◌∙◌, IsTrue, append-nil, arith}
 use Rattle.std.proofs.lemmas.Bool.{eqb-true}
 use Rattle.std.proofs.lemmas.List.{length-append, get_or-append-add}
 use Rattle.weld_builders.specs.Outcome.{done}
 use Rattle.weld_data.specs.Value.{number}
-use Rattle.weld_tree.specs.declared.binder.Binder.{Binder}
 use Rattle.weld_tree.specs.declared.sym.Sym.{Sym}
 use Rattle.weld_tree.specs.ExprTree.{ExprTree, leaf, one, two, three, many, let_in, loop, iterate, Two, binary, and, or, look_up, key_exists, merge}
 use Rattle.weld_lanes.specs.declared.steps.LaneStep.{LaneStep}
@@ -16,8 +15,8 @@ use Rattle.weld_lanes.proofs.Running.{answers_is}
 use Rattle.weld_meaning.specs.Environment.{look_for}
 use Rattle.weld_meaning.specs.Thing.{plain}
 use Rattle.weld_sizes.specs.Sized.{is_that_name}
-use Rattle.weld_lane_form.specs.Bodies.{Lowered, all_answers, IsAt, IsNumberAt, IsMerge, EndsInMerge, MeansBody}
-use Rattle.weld_lane_form.specs.Lowering.{LaneNames, Begun, Placed, placed, nothing_begun, behind, where_true, is_mask_at, is_unlet, lower_expr, lower_last, is_merge, lower_body}
+use Rattle.weld_lane_form.specs.Bodies.{Lowered, all_answers, IsAt, IsNumberAt, EndsInMerge, MeansBody}
+use Rattle.weld_lane_form.specs.Lowering.{LaneNames, Begun, placed, nothing_begun, behind, is_mask_at, is_unlet, lower_expr, lower_last, is_merge, lower_body}
 use Rattle.weld_lane_form.proofs.Growing.{behind_is, true_is, placed_is, Grows, grows_on, AreBelow, below_on, below_bind, below_none, expr_grows, last_grows}
 use Rattle.weld_lane_form.proofs.LoweredMeans.{left_true, right_true, not_false, unlet, that_name, Extends, extends_back, extends_at, extends_less, number_of, expr_at}
 use Rattle.weld_lane_form.proofs.Merging.{ends_means}
@@ -66,7 +65,7 @@ last_by l c ns f b j d i false is less x n h y =
     let z : Extends l c whole = subst (Extends l c) (sym same.0) y in
     let long : length (b.steps ++ ss) ≡ m + 2 = length-append b.steps ss in
     let there : (q : ℕ) → q < 2 → step_at l.steps (m + q) ≡ step_at ss q =
-        λ q small. extends_at l c whole (m + q) z (omega (arith, small, long)) ∙ get_or-append-add b.steps ss q steps.A in
+    λ q small. extends_at l c whole (m + q) z (omega (arith, small, long)) ∙ get_or-append-add b.steps ss q steps.A in
     let here : step_at l.steps m ≡ steps.Truth true = subst (λ (k : ℕ). step_at l.steps k ≡ steps.Truth true) (omega arith) (there 0 (omega arith)) in
     let far : m + 1 < length l.steps = extends_less l c whole (m + 1) z (omega (arith, long)) in
     record {
@@ -111,9 +110,12 @@ body_ends l c ns (two a o e f) b d i k h y long =
     let z = last_is l c ns f v.0 v.1 d i g.less (expr_at l c ns f b v.0 v.1 k v.2 x) v.3 y in
     let rest = right_true (is_merge o) t w.0 in
     let end = z.last in
-    let place : i ≡ length l.steps - 1 = omega (arith, end, long) in
-    (merge_is o (left_true (is_merge o) t w.0), that_name e c.own (left_true (is_that_name e c.own) (is_unlet (look_for c.own ns)) rest),
-     unlet (look_for c.own ns) (right_true (is_that_name e c.own) (is_unlet (look_for c.own ns)) rest), subst (IsNumberAt l ns f) place z.number_is)
+    let place : i ≡ length l.steps - 1 = omega (arith, end, long) in (
+      merge_is o (left_true (is_merge o) t w.0),
+      that_name e c.own (left_true (is_that_name e c.own) (is_unlet (look_for c.own ns)) rest),
+      unlet (look_for c.own ns) (right_true (is_that_name e c.own) (is_unlet (look_for c.own ns)) rest),
+      subst (IsNumberAt l ns f) place z.number_is,
+    )
 body_ends l c ns (three a o e f g) b d i k h y long = cc
 body_ends l c ns (many a o es) b d i k h y long = cc
 body_ends l c ns (let_in a x e f) b d i k h y long =

@@ -1,5 +1,5 @@
 -- Expressions and bodies of the lane form are lowered, where nodes have their types.
-use Rattle.std.proofs.Common.{◌≡◌, ℕ, zero, suc, ◌+◌, ◌<◌, ◌≤◌, ◌==◌, nat_lt, Bool, true, false, not, ◌&&◌, ◌||◌, if◌then◌else◌, List, [], ◌∷◌, ◌++◌, length, Option, Some, None, refl, sym, ap, subst, ◌∙◌, IsTrue, arith}
+use Rattle.std.proofs.Common.{◌≡◌, ℕ, suc, ◌+◌, ◌<◌, ◌==◌, nat_lt, Bool, true, false, not, ◌&&◌, if◌then◌else◌, List, [], ◌∷◌, ◌++◌, length, Option, Some, None, refl, sym, ap, subst, ◌∙◌, IsTrue, arith}
 use Rattle.std.proofs.lemmas.Bool.{eqb-true, eq-eqb}
 use Rattle.std.proofs.lemmas.List.{length-append, get_or-append-add}
 use Rattle.weld_data.specs.declared.kind.Kind.{Kind}
@@ -9,25 +9,23 @@ use Rattle.weld_data.specs.declared.op.BinOp.TheVariants as ops
 use Rattle.weld_data.specs.Lookup.{same_kind}
 use Rattle.weld_data.specs.Operation.{answer_kind}
 use Rattle.weld_tree.specs.declared.binder.Binder.{Binder}
-use Rattle.weld_tree.specs.declared.known.Known.{Known}
-use Rattle.weld_tree.specs.declared.known.Known.TheVariants.{Is}
 use Rattle.weld_tree.specs.TypeTree.{TypeTree, BuildTree, TypeTrees, scalar, vec, struct, dict, build, list, total, keyed, cells, groups, no_types, more_types}
 use Rattle.weld_tree.specs.Types.{takes}
 use Rattle.weld_tree.specs.ExprTree.{At, ExprTree, LegTree, whole, strided, LegTrees, no_legs, more_legs, Leaf, int, truth, chars, name, fresh, leaf, one, two, three, many, let_in, loop, iterate, Two, binary, and, or, look_up, key_exists, merge, Three, if_else, select, slice}
 use Rattle.weld_lanes.specs.declared.steps.LaneStep.{LaneStep}
 use Rattle.weld_lanes.specs.declared.steps.LaneStep.TheVariants as steps
-use Rattle.weld_lanes.specs.Blocks.{step_at}
-use Rattle.weld_lanes.specs.Formed.{is_formed, are_formed, is_arithmetic, is_comparison}
+use Rattle.weld_lanes.specs.Formed.{are_formed, is_arithmetic, is_comparison}
 use Rattle.weld_meaning.specs.Environment.{look_for}
 use Rattle.weld_meaning.specs.Typing.{Types, truth_type, place_type, LegHas, LegsHave, RowHas, body_types, TwoHas, ThreeHas, HasType}
 use Rattle.weld_meaning.proofs.OneType.{one_type}
 use Rattle.weld_check_types.specs.Notes.{AreNoted, LegIsNoted, LegsAreNoted}
 use Rattle.weld_sizes.specs.Sized.{is_that_name}
 use Rattle.weld_sizes.specs.Sized as sized
-use Rattle.weld_sizes.specs.Lanes.{is_lane_kind, is_number_type, is_noted_number, noted_of, element_kind, vector_kind, noted_kind, leg_kind, legs_kind, are_two, is_lane_build, is_lane_start, is_lane_builder, has_lane_form, LaneLoop, is_lane_leaf, is_not, is_lane_one, is_lane_op, is_lane_two, is_select, is_lane, is_lane_body}
+use Rattle.weld_sizes.specs.Lanes.{is_lane_kind, is_noted_number, noted_of, element_kind, noted_kind, leg_kind, legs_kind, are_two, is_lane_build, is_lane_start, is_lane_builder, has_lane_form, LaneLoop, is_lane_op, is_lane_two, is_select, is_lane, is_lane_body}
 use Rattle.weld_lane_form.specs.Bodies.{is_mask}
-use Rattle.weld_lane_form.specs.Lowering.{LaneNames, Begun, Placed, placed, nothing_begun, behind, added, where_true, is_mask_at, is_unlet, lower_leaf, lower_one, lower_binary, are_numbers, are_truths, lower_two, choosing, choose_truth, lower_select, lower_three, lower_expr, lower_last, is_merge, lower_body}
-use Rattle.weld_lane_form.proofs.Growing.{Grows, grows_at, grows_length, AreBelow, expr_grows}
+use Rattle.weld_lane_form.specs.Marking.{names_of}
+use Rattle.weld_lane_form.specs.Lowering.{LaneNames, Begun, Placed, placed, nothing_begun, behind, added, where_true, is_mask_at, is_unlet, lower_binary, are_numbers, are_truths, lower_two, choosing, choose_truth, lower_three, lower_expr, lower_last, is_merge, lower_body}
+use Rattle.weld_lane_form.proofs.Growing.{Grows, grows_at, grows_length, expr_grows}
 use Rattle.weld_lane_form.proofs.LoweredMeans.{left_true, right_true, same_kinds, that_name}
 use Rattle.weld_lane_form.proofs.AllLowered.{both_true, where_is, below_is, no_truth, scalar_kind, sort_type, number_sort, truth_sort, number_type_is, noted_number, noted_is, formed_behind, Lowers, added_lowers, lowers_by, where_lowers, behind_lowers, Known_names, names_below, names_on, names_bind, row_type, Begins, some_type}
 use Rattle.weld_lane_form.proofs.FormsLowered.{lane_loop, let_names, leaf_lowers, one_lowers, not_let, name_type}
@@ -141,6 +139,7 @@ three_lowers c own out select m i j b t u v w k top left right h test first seco
   where
     known : (q : Bool) → is_mask_at b i ≡ q → t ≡ sort_type c.kind q
     known q is = sym rule.1 ∙ first ∙ ap (sort_type c.kind) is
+
     by : (q : Bool) → is_mask_at b i ≡ q → Lowers c (if are_numbers b i j then added b (steps.Select m i j) else where_true (are_truths b i j) (choose_truth m i j b)) t
     by true is =
         let typed = known true is in
@@ -148,7 +147,7 @@ three_lowers c own out select m i j b t u v w k top left right h test first seco
         let no_numbers : are_numbers b i j ≡ false = ap (λ (q : Bool). not q && not (is_mask_at b j)) is in
         lowers_by c (if are_numbers b i j then added b (steps.Select m i j) else where_true (are_truths b i j) (choose_truth m i j b)) (choose_truth m i j b) t
         (ap (λ (q : Bool). if q then added b (steps.Select m i j) else where_true (are_truths b i j) (choose_truth m i j b)) no_numbers
-            ∙ where_is (are_truths b i j) (choose_truth m i j b) (both_true (is_mask_at b i) (is_mask_at b j) is other))
+        ∙ where_is (are_truths b i j) (choose_truth m i j b) (both_true (is_mask_at b i) (is_mask_at b j) is other))
         (choose_lowers c m i j b t top left right h typed)
     by false is =
         let typed = known false is in
@@ -235,6 +234,7 @@ last_lowers c b i h less number = by (i + 1 == length b.steps) refl
   where
     ss : List LaneStep
     ss = steps.Truth true ∷ steps.Select (length b.steps) i i ∷ []
+
     by : (q : Bool) → (i + 1 == length b.steps) ≡ q → Body_lowers c (lower_last b i)
     by true is = record {
       to = b;
@@ -285,6 +285,7 @@ own_builder c own other out k h = by (c.own == c.row) refl
   where
     built : build own ≡ build other → other ≡ own
     built e = cc
+
     at_number : (q : Bool) → (c.own == c.number) ≡ q → (c.own == c.row) ≡ false → other ≡ own
     at_number true is apart =
         let e = eqb-true c.own c.number is in
@@ -292,6 +293,7 @@ own_builder c own other out k h = by (c.own == c.row) refl
         let x : place_type ≡ build other = some_type place_type (build other) (sym (k.number there) ∙ ap (λ (n : ℕ). look_for n out) (sym e) ∙ h) in
         cc
     at_number false is apart = built (some_type (build own) (build other) (sym (k.builder apart is) ∙ h))
+
     by : (q : Bool) → (c.own == c.row) ≡ q → other ≡ own
     by true is =
         let e = eqb-true c.own c.row is in
@@ -425,10 +427,6 @@ begins_is c own r t g lane row is = record {
   number = λ p. passed (c.number == c.row) r _ (Some place_type) p (found_first c.number place_type _);
 }
 
--- the names of a loop
-abbrev pub names_of : LegTrees → Binder → Binder → Binder → LaneNames
-names_of ls b n x = record { kind = legs_kind ls; is_pair = are_two ls; row = x.sym.0; number = n.sym.0; own = b.sym.0 }
-
 -- each loop of the lane form has steps
 pub loop_lowers : (a : At) (ls : LegTrees) (e : ExprTree) (b n x : Binder) (f : ExprTree) (g : Types) (t : TypeTree) → has_lane_form (loop a ls e b n x f) ≡ true → HasType (loop a ls e b n x f) g t → AreNoted (loop a ls e b n x f) g
     → Body_lowers (names_of ls b n x) (lower_body (names_of ls b n x) [] f nothing_begun)
@@ -442,7 +440,7 @@ loop_lowers a ls e b n x f g t h typed noted =
     let row_too : inner.1 ≡ row_type c = legs_are ls g inner.0 inner.1 c.kind lane refl inner.3 noted.0 inner.4 in
     let same : inner.2 ≡ t = one_type e g inner.2 t inner.5 typed.4 in
     let body : AreNoted f (body_types b n x t typed.1 g) =
-        subst (λ (r : TypeTree). AreNoted f (body_types b n x t r g)) (row_too ∙ sym row) (subst (λ (u : TypeTree). AreNoted f (body_types b n x u inner.1 g)) same inner.6) in
+    subst (λ (r : TypeTree). AreNoted f (body_types b n x t r g)) (row_too ∙ sym row) (subst (λ (u : TypeTree). AreNoted f (body_types b n x u inner.1 g)) same inner.6) in
     let out : Types = body_types b n x t typed.1 g in
     let nothing : Known_names c out out [] nothing_begun = record { lets = λ s i is. cc; others = λ s is. refl } in
     body_lowers c start.builder out out [] f nothing_begun t start.item (begins_is c start.builder typed.1 t g lane row start.is) nothing refl (right_true (is_lane_builder c.kind e) _ rest) typed.9 body

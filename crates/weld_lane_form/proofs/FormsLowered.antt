@@ -1,35 +1,28 @@
 -- Each form of the lane form is lowered, where nodes have their types.
-use Rattle.std.proofs.Common.{◌≡◌, ℕ, zero, suc, ◌+◌, ◌<◌, ◌≤◌, ◌==◌, nat_lt, Bool, true, false, not, ◌&&◌, ◌||◌, if◌then◌else◌, ℤ, List, [], ◌∷◌, ◌++◌, length, map, Option, Some, None, refl, sym, ap, subst, ◌∙◌, IsTrue, arith}
+use Rattle.std.proofs.Common.{◌≡◌, ℕ, zero, suc, ◌<◌, ◌==◌, Bool, true, false, not, ◌&&◌, ◌||◌, if◌then◌else◌, List, [], ◌∷◌, ◌++◌, length, Option, Some, None, refl, sym, ap, subst, ◌∙◌, IsTrue}
 use Rattle.std.proofs.lemmas.Bool.{eqb-true}
-use Rattle.std.proofs.lemmas.List.{length-append, get_or-append-add}
 use Rattle.weld_data.specs.declared.kind.Kind.{Kind}
 use Rattle.weld_data.specs.declared.kind.Kind.TheVariants as kinds
-use Rattle.weld_data.specs.declared.op.BinOp.{BinOp}
-use Rattle.weld_data.specs.declared.op.BinOp.TheVariants as ops
 use Rattle.weld_data.specs.Lookup.{same_kind}
-use Rattle.weld_data.specs.Operation.{answer_kind}
 use Rattle.weld_data.specs.Wrapped.{wrapped}
 use Rattle.weld_data.proofs.Wrapping.{IsWrapped-wrapped}
 use Rattle.weld_tree.specs.declared.known.Known.{Known}
 use Rattle.weld_tree.specs.declared.known.Known.TheVariants.{Is}
-use Rattle.weld_tree.specs.TypeTree.{TypeTree, BuildTree, TypeTrees, scalar, vec, struct, dict, build, no_types, more_types}
+use Rattle.weld_tree.specs.TypeTree.{TypeTree, BuildTree, TypeTrees, scalar, struct, build, no_types, more_types}
 use Rattle.weld_tree.specs.ExprTree.{At, ExprTree, leaf, one, two, three, many, let_in, loop, iterate, Leaf, int, truth, chars, name, fresh, One, neg, cast, len, field, finish, started, Two, binary, and, or, look_up, key_exists, merge, Three, if_else, select, slice}
 use Rattle.weld_tree.specs.ExprTree as trees
-use Rattle.weld_lanes.specs.declared.steps.LaneStep.{LaneStep}
 use Rattle.weld_lanes.specs.declared.steps.LaneStep.TheVariants as steps
-use Rattle.weld_lanes.specs.Blocks.{step_at}
-use Rattle.weld_lanes.specs.Formed.{is_formed, are_formed, is_arithmetic, is_comparison}
+use Rattle.weld_lanes.specs.Formed.{is_formed, are_formed}
 use Rattle.weld_meaning.specs.Environment.{look_for}
-use Rattle.weld_meaning.specs.Typing.{Types, truth_type, place_type, IsField, LeafHas, OneHas, TwoHas, ThreeHas, HasType}
+use Rattle.weld_meaning.specs.Typing.{Types, truth_type, IsField, LeafHas, OneHas, HasType}
 use Rattle.weld_check_types.specs.Notes.{AreNoted}
-use Rattle.weld_sizes.specs.Sized.{is_that_name, is_name_leaf}
-use Rattle.weld_sizes.specs.Lanes.{is_lane_kind, is_noted_number, noted_of, LaneLoop, is_among, is_lane_name, is_lane_leaf, is_int_leaf, is_int, is_not, is_lane_one, is_lane_op, is_lane_two, is_select, is_lane}
-use Rattle.weld_lane_form.specs.Bodies.{is_mask, IsNameOf}
-use Rattle.weld_lane_form.specs.Lowering.{LaneNames, Begun, Placed, placed, behind, added, where_true, is_mask_at, place_among, lower_uniform, lower_outside, lower_name, lower_leaf, is_integer, lower_cast_leaf, lower_cast, is_unlet, lower_field, lower_not, lower_one, lower_binary, are_numbers, are_truths, lower_two, choosing, choose_truth, lower_select, lower_three, lower_expr}
+use Rattle.weld_sizes.specs.Sized.{is_that_name}
+use Rattle.weld_sizes.specs.Lanes.{is_lane_kind, is_noted_number, LaneLoop, is_among, is_lane_name, is_lane_leaf, is_int_leaf, is_int, is_not, is_lane_one, is_lane}
+use Rattle.weld_lane_form.specs.Bodies.{IsNameOf}
+use Rattle.weld_lane_form.specs.Lowering.{LaneNames, Begun, Placed, placed, behind, added, where_true, is_mask_at, place_among, lower_uniform, lower_outside, lower_name, lower_leaf, is_integer, lower_cast_leaf, lower_cast, is_unlet, lower_field, lower_not, lower_one}
 use Rattle.weld_lane_form.proofs.Forms.{same_self}
-use Rattle.weld_lane_form.proofs.Growing.{Grows, grows_at, grows_length, AreBelow, expr_grows}
 use Rattle.weld_lane_form.proofs.LoweredMeans.{left_true, right_true, same_kinds, that_name}
-use Rattle.weld_lane_form.proofs.AllLowered.{both_true, or_cases, where_is, below_is, number_kind, no_truth, scalar_kind, sort_type, number_sort, truth_sort, noted_number, noted_is, formed_behind, Lowers, added_lowers, lowers_by, where_lowers, behind_lowers, Known_names, names_below, names_on, row_type, Begins, some_type, lit_formed}
+use Rattle.weld_lane_form.proofs.AllLowered.{both_true, or_cases, below_is, number_kind, sort_type, truth_sort, noted_number, Lowers, added_lowers, where_lowers, behind_lowers, Known_names, row_type, Begins, some_type, lit_formed}
 
 -- the loop as the lane form sees it
 abbrev pub lane_loop : LaneNames → LaneLoop
@@ -71,6 +64,7 @@ outside_lowers c own out b s k h typed apart = by (s == c.row) refl
         let y : (c.own == c.number) ≡ false = subst (λ (n : ℕ). (n == c.number) ≡ false) e apart in
         absurd (build_scalar own c.kind (some_type (build own) (scalar c.kind) (sym (k.builder x y) ∙ ap (λ (n : ℕ). look_for n out) (sym e) ∙ typed)))
     not_own false is other = ap (λ (q : Bool). not (q || false)) apart
+
     by : (q : Bool) → (s == c.row) ≡ q → Lowers c (if q then where_true (not c.is_pair) (added b steps.A) else where_true (not ((s == c.number) || (s == c.own))) (lower_uniform b s (place_among b.names s))) (scalar c.kind)
     by true is =
         let e : s ≡ c.row = eqb-true s c.row is in
@@ -92,10 +86,10 @@ name_lowers c own out g ns b n s t (Some i) k names h typed noted lane is =
 name_lowers c own out g ns b n s t None k names h typed noted lane is =
     or_cases (is_noted_number c.kind n && (if s == c.number then false else true)) (is_noted_number kinds.Bool n && is_among (let_names ns) s) lane
     (λ x.
-        let e : t ≡ scalar c.kind = noted_number c.kind n t noted (left_true (is_noted_number c.kind n) (if s == c.number then false else true) x) in
-        let apart = unlike (s == c.number) (right_true (is_noted_number c.kind n) (if s == c.number then false else true) x) in
-        subst (Lowers c (lower_outside c b s)) (sym e)
-        (outside_lowers c own out b s k h (sym (names.others s is) ∙ typed ∙ ap (λ (u : TypeTree). Some u) e) apart))
+    let e : t ≡ scalar c.kind = noted_number c.kind n t noted (left_true (is_noted_number c.kind n) (if s == c.number then false else true) x) in
+    let apart = unlike (s == c.number) (right_true (is_noted_number c.kind n) (if s == c.number then false else true) x) in
+    subst (Lowers c (lower_outside c b s)) (sym e)
+    (outside_lowers c own out b s k h (sym (names.others s is) ∙ typed ∙ ap (λ (u : TypeTree). Some u) e) apart))
     (λ x. absurd (not_among ns s is (right_true (is_noted_number kinds.Bool n) (is_among (let_names ns) s) x)))
 
 -- ---- forms without parts

@@ -1,5 +1,5 @@
 -- What is begun grows: steps and names are added behind those that are there.
-use Rattle.std.proofs.Common.{◌≡◌, ℕ, zero, suc, ◌+◌, ◌<◌, ◌≤◌, ◌==◌, Bool, true, false, not, ◌&&◌, ◌||◌, if◌then◌else◌, List, [], ◌∷◌, ◌++◌, length, Option, Some, None, refl, sym, ap, subst, ◌∙◌, append_assoc, append-nil, arith}
+use Rattle.std.proofs.Common.{◌≡◌, ℕ, ◌+◌, ◌<◌, ◌≤◌, ◌==◌, Bool, true, false, not, ◌||◌, if◌then◌else◌, List, [], ◌∷◌, ◌++◌, length, Option, Some, None, refl, sym, ap, ◌∙◌, append_assoc, append-nil, arith}
 use Rattle.std.proofs.lemmas.List.{length-append, get_or_append_left}
 use Rattle.weld_data.specs.declared.kind.Kind.{Kind}
 use Rattle.weld_data.specs.declared.op.BinOp.{BinOp}
@@ -10,7 +10,7 @@ use Rattle.weld_lanes.specs.declared.steps.LaneStep.TheVariants as steps
 use Rattle.weld_lanes.specs.Blocks.{step_at}
 use Rattle.weld_lanes.specs.Formed.{is_arithmetic}
 use Rattle.weld_meaning.specs.Environment.{look_for}
-use Rattle.weld_lane_form.specs.Lowering.{LaneNames, Begun, Placed, placed, behind, added, where_true, place_among, lower_uniform, lower_outside, lower_name, lower_leaf, lower_cast_leaf, lower_cast, lower_field, lower_not, lower_one, lower_binary, are_numbers, are_truths, lower_two, choosing, choose_truth, lower_select, lower_three, lower_expr, lower_last, lower_body}
+use Rattle.weld_lane_form.specs.Lowering.{LaneNames, Begun, Placed, placed, behind, added, where_true, place_among, lower_uniform, lower_name, lower_leaf, lower_cast_leaf, lower_cast, lower_field, lower_not, lower_one, lower_binary, are_numbers, are_truths, lower_two, choosing, choose_truth, lower_three, lower_expr, lower_last}
 
 -- ---- what was answered
 

@@ -5,6 +5,7 @@ pub mod Forms
 pub mod FormsLowered
 pub mod Growing
 pub mod LoweredMeans
+pub mod Marked
 pub mod Merging
 pub mod Places
 pub mod Placing

@@ -1,5 +1,5 @@
 -- What an expression is lowered to is what it means.
-use Rattle.std.proofs.Common.{◌≡◌, ℕ, zero, suc, ◌+◌, ◌<◌, ◌≤◌, ◌==◌, Bool, true, false, not, ◌&&◌, ◌||◌, if◌then◌else◌, ℤ, List, [], ◌∷◌, ◌++◌, length, map, slice_get, Option, Some, None, option_map, refl, sym, ap, subst, ◌∙◌, IsTrue, append_assoc, add-one, arith}
+use Rattle.std.proofs.Common.{◌≡◌, ℕ, zero, suc, ◌+◌, ◌<◌, ◌==◌, Bool, true, false, not, ◌&&◌, ◌||◌, if◌then◌else◌, ℤ, List, [], ◌∷◌, ◌++◌, length, map, slice_get, Option, Some, None, option_map, refl, sym, ap, subst, ◌∙◌, IsTrue, append_assoc, arith}
 use Rattle.std.proofs.lemmas.Bool.{eqb-true}
 use Rattle.std.proofs.lemmas.List.{length-append, get_or_append_left, get_or_push, get_or-append-add}
 use Rattle.weld_data.specs.declared.kind.Kind.{Kind}
@@ -15,7 +15,7 @@ use Rattle.weld_tree.specs.ExprTree.{At, ExprTree, leaf, one, two, three, many, 
 use Rattle.weld_tree.specs.ExprTree as trees
 use Rattle.weld_lanes.specs.declared.steps.LaneStep.{LaneStep}
 use Rattle.weld_lanes.specs.declared.steps.LaneStep.TheVariants as steps
-use Rattle.weld_lanes.specs.Answers.{at, is_true, answer, answers}
+use Rattle.weld_lanes.specs.Answers.{at, is_true, answer}
 use Rattle.weld_lanes.specs.Blocks.{step_at}
 use Rattle.weld_lanes.specs.Formed.{are_formed, is_arithmetic, is_comparison}
 use Rattle.weld_lanes.proofs.Running.{answers_is}
@@ -23,10 +23,10 @@ use Rattle.weld_meaning.specs.Environment.{look_for}
 use Rattle.weld_meaning.specs.Evaluation.{Env, eval, three_thing, truth_value}
 use Rattle.weld_meaning.specs.Thing.{Thing, plain}
 use Rattle.weld_sizes.specs.Sized.{is_that_name, is_name_leaf}
-use Rattle.weld_lane_form.specs.Bodies.{Lowered, Stands, is_mask, value_of, all_answers, place_value, with_lets, ComesTo, IsAt, IsNumberAt, IsTruthAt, IsNameOf}
+use Rattle.weld_lane_form.specs.Bodies.{Lowered, is_mask, value_of, all_answers, with_lets, ComesTo, IsAt, IsNumberAt, IsTruthAt, IsNameOf}
 use Rattle.weld_lane_form.specs.Lowering.{LaneNames, Begun, Placed, placed, behind, added, where_true, is_mask_at, place_among, lower_uniform, lower_outside, lower_name, lower_leaf, is_integer, lower_cast_leaf, lower_cast, is_unlet, lower_field, lower_not, lower_one, lower_binary, are_numbers, are_truths, lower_two, choosing, choose_truth, lower_select, lower_three, lower_expr}
 use Rattle.weld_lane_form.proofs.Forms.{at_place, number_at, truth_at, let_at, outside_comes, row_outside, uniform_outside, literal_comes, test_comes, cast_comes, truth_is, not_comes, first_comes, second_comes, arithmetic_comes, comparison_comes, both_comes, either_comes, choice_comes}
-use Rattle.weld_lane_form.proofs.Growing.{behind_is, true_is, IsAdded, added_is, placed_is, Grows, grows_by, grows_at, grows_length, grows_on, AreBelow, below_on, two_parts_grow, three_parts_grow, expr_grows}
+use Rattle.weld_lane_form.proofs.Growing.{behind_is, true_is, added_is, placed_is, Grows, grows_by, grows_length, AreBelow, below_on, two_parts_grow, three_parts_grow, expr_grows}
 
 -- ---- truths
 
@@ -101,9 +101,9 @@ added_at l c ns e b s d i h x comes =
     let a = added_is b s d i h in
     let g = grows_by b s d i h in
     let there : step_at l.steps i ≡ s =
-        extends_at l c d i x g.less
-        ∙ ap (λ (ss : List LaneStep). step_at ss i) a.steps_are
-        ∙ get_or_push b.steps s steps.A i (sym a.place_is) in
+    extends_at l c d i x g.less
+    ∙ ap (λ (ss : List LaneStep). step_at ss i) a.steps_are
+    ∙ get_or_push b.steps s steps.A i (sym a.place_is) in
     at_place l ns e i x.formed (extends_less l c d i x g.less) (subst (ComesTo l ns (eval e)) (sym there) comes)
 
 where_at : (l : Lowered) (c : LaneNames) (ns : List (ℕ × ℕ)) (e : ExprTree) (t : Bool) (b : Begun) (s : LaneStep) (d : Begun) (i : ℕ) → where_true t (added b s) ≡ placed d i → Extends l c d → (t ≡ true → ComesTo l ns (eval e) s) → IsAt l ns e i
@@ -144,7 +144,7 @@ uniform_at : (l : Lowered) (c : LaneNames) (ns : List (ℕ × ℕ)) (p : At) (b 
 uniform_at l c ns p b s (Some u) d i free found h x =
     let a = added_is b (steps.Uniform u) d i h in
     let named : slice_get (map (λ (n : Sym). n.0) l.names) u ≡ Some s =
-        ap (λ (ts : List ℕ). slice_get ts u) x.names_are ∙ get_front d.names x.more_names u s (ap (λ (ts : List ℕ). slice_get ts u) a.names_are ∙ found u refl) in
+    ap (λ (ts : List ℕ). slice_get ts u) x.names_are ∙ get_front d.names x.more_names u s (ap (λ (ts : List ℕ). slice_get ts u) a.names_are ∙ found u refl) in
     let w = get_mapped l.names u s named in
     added_at l c ns (leaf p (name s)) b (steps.Uniform u) d i h x (outside_comes l ns s (steps.Uniform u) free (uniform_outside l s u w.0 w.1 w.2))
 uniform_at l c ns p b s None d i free found h x =
@@ -152,7 +152,7 @@ uniform_at l c ns p b s None d i free found h x =
     let u : ℕ = length b.names in
     let a = added_is more (steps.Uniform u) d i h in
     let named : slice_get (map (λ (n : Sym). n.0) l.names) u ≡ Some s =
-        ap (λ (ts : List ℕ). slice_get ts u) x.names_are ∙ ap (λ (ts : List ℕ). slice_get (ts ++ x.more_names) u) a.names_are ∙ get_behind b.names x.more_names s in
+    ap (λ (ts : List ℕ). slice_get ts u) x.names_are ∙ ap (λ (ts : List ℕ). slice_get (ts ++ x.more_names) u) a.names_are ∙ get_behind b.names x.more_names s in
     let w = get_mapped l.names u s named in
     added_at l c ns (leaf p (name s)) more (steps.Uniform u) d i h x (outside_comes l ns s (steps.Uniform u) free (uniform_outside l s u w.0 w.1 w.2))
 
@@ -297,12 +297,12 @@ choose_at l ns p e f g m j k n formed less first second third fourth test chosen
     let zeroth : at xs n ≡ truth_number (t && u) = answers_is l.kind l.steps us a b n formed (omega (arith, less)) ∙ ap (answer l.kind us a b xs) first in
     let contrary : at xs (n + 1) ≡ truth_number (not t) = answers_is l.kind l.steps us a b (n + 1) formed (omega (arith, less)) ∙ ap (answer l.kind us a b xs) second in
     let other : at xs (n + 2) ≡ truth_number (not t && v) =
-        answers_is l.kind l.steps us a b (n + 2) formed (omega (arith, less)) ∙ ap (answer l.kind us a b xs) third
-        ∙ ap (λ (z : Bool). truth_number (z && v)) (ap is_true contrary ∙ truth_is (not t)) in
+    answers_is l.kind l.steps us a b (n + 2) formed (omega (arith, less)) ∙ ap (answer l.kind us a b xs) third
+    ∙ ap (λ (z : Bool). truth_number (z && v)) (ap is_true contrary ∙ truth_is (not t)) in
     let last : at xs (n + 3) ≡ truth_number ((t && u) || (not t && v)) =
-        answers_is l.kind l.steps us a b (n + 3) formed less ∙ ap (answer l.kind us a b xs) fourth
-        ∙ ap (λ (z : Bool). truth_number (z || is_true (at xs (n + 2)))) (ap is_true zeroth ∙ truth_is (t && u))
-        ∙ ap (λ (z : Bool). truth_number ((t && u) || z)) (ap is_true other ∙ truth_is (not t && v)) in
+    answers_is l.kind l.steps us a b (n + 3) formed less ∙ ap (answer l.kind us a b xs) fourth
+    ∙ ap (λ (z : Bool). truth_number (z || is_true (at xs (n + 2)))) (ap is_true zeroth ∙ truth_is (t && u))
+    ∙ ap (λ (z : Bool). truth_number ((t && u) || z)) (ap is_true other ∙ truth_is (not t && v)) in
     three_come select (eval e inner) (eval f inner) (eval g inner) (plain (truth_value t)) (plain (truth_value u)) (plain (truth_value v)) (test us a b env stands) (chosen us a b env stands) (otherwise us a b env stands)
     ∙ chosen_truth t u v
     ∙ ap (λ (z : ℤ). done (plain (number kinds.Bool z))) (sym last)
@@ -319,7 +319,7 @@ chose_at l c ns p m j k b e f g d i test chosen otherwise h y =
     let x : Extends l c whole = subst (Extends l c) (sym same.0) y in
     let long : length (b.steps ++ ss) ≡ n + 4 = length-append b.steps ss in
     let there : (q : ℕ) → q < 4 → step_at l.steps (n + q) ≡ step_at ss q =
-        λ q small. extends_at l c whole (n + q) x (omega (arith, small, long)) ∙ get_or-append-add b.steps ss q steps.A in
+    λ q small. extends_at l c whole (n + q) x (omega (arith, small, long)) ∙ get_or-append-add b.steps ss q steps.A in
     let here : step_at l.steps n ≡ steps.And m j = subst (λ (z : ℕ). step_at l.steps z ≡ steps.And m j) (omega arith) (there 0 (omega arith)) in
     let less : n + 3 < length l.steps = extends_less l c whole (n + 3) x (omega (arith, long)) in
     subst (IsAt l ns (three p select e f g)) same.1

@@ -1,5 +1,5 @@
 -- The place of a name among others, found one after another.
-use Rattle.std.proofs.Common.{◌≡◌, ℕ, zero, suc, ◌+◌, ◌<◌, ◌≤◌, ◌==◌, ◌≢◌, Bool, true, false, if◌then◌else◌, List, [], ◌∷◌, drop, length, map, get_or, Option, Some, None, option_map, refl, ap, sym, subst, ◌∙◌, arith}
+use Rattle.std.proofs.Common.{◌≡◌, ℕ, zero, suc, ◌+◌, ◌<◌, ◌≤◌, ◌==◌, ◌≢◌, Bool, true, false, if◌then◌else◌, List, [], ◌∷◌, drop, length, map, get_or, Option, Some, None, option_map, refl, ap, sym, ◌∙◌, arith}
 use Rattle.std.proofs.lemmas.Bool.{eq-eqb, eqb-true}
 use Rattle.std.proofs.lemmas.List.{drop_more}
 use Rattle.weld_tree.specs.declared.sym.Sym.{Sym}
@@ -44,6 +44,7 @@ not_found (n ∷ ns) s (suc i) h = none (place_among (map (λ (m : Sym). m.0) (d
     unmapped : (j : ℕ) (o : Option ℕ) → option_map (λ (k : ℕ). k + j) o ≡ None → o ≡ None
     unmapped j None e = refl
     unmapped j (Some k) e = cc
+
     none : (o : Option ℕ) → o ≡ None → option_map (λ (k : ℕ). k + suc i) o ≡ None
     none o e = ap (option_map (λ (k : ℕ). k + suc i)) e
 

@@ -1,12 +1,12 @@
 -- Steps that are placed behind those of parts.
-use Rattle.std.proofs.Common.{◌≡◌, ℕ, ◌+◌, true, List, [], ◌∷◌, ◌++◌, length, Option, Some, None, refl, ap, sym, subst, ◌∙◌, append_assoc, arith}
+use Rattle.std.proofs.Common.{◌≡◌, ℕ, ◌+◌, true, List, [], ◌∷◌, ◌++◌, length, Option, None, refl, ap, sym, subst, ◌∙◌, append_assoc, arith}
 use Rattle.std.proofs.lemmas.List.{length-append}
 use Rattle.weld_tree.specs.ExprTree.{ExprTree, Two}
 use Rattle.weld_lanes.specs.declared.steps.LaneStep.{LaneStep}
 use Rattle.weld_lanes.specs.declared.steps.LaneStep.TheVariants as steps
 use Rattle.weld_lane_form.specs.Lowering.{LaneNames, Begun, Placed, placed, behind, added, choosing, choose_truth, lower_two, lower_select, lower_expr, lower_body}
 use Rattle.weld_lane_form.specs.Made.{IsPlaced}
-use Rattle.weld_lane_form.proofs.Growing.{IsAdded, added_is}
+use Rattle.weld_lane_form.proofs.Growing.{added_is}
 
 pub behind_some : (p : Placed) (f : Begun → ℕ → Placed) (d g : Begun) (i : ℕ) (r : Option ℕ) → p ≡ placed d i → IsPlaced (f d i) r g → IsPlaced (behind p f) r g
 behind_some p f d g i r e h = subst (λ (q : Placed). IsPlaced (behind q f) r g) (sym e) h
@@ -82,16 +82,16 @@ chosen_truth t i j b c d e g x y z w first second third fourth =
     let zn : n + 2 ≡ z = let k = r.place_is in omega (arith, k, long, longer) in
     let wn : n + 3 ≡ w = let k = s.place_is in omega (arith, k, long, longer, longest) in
     let whole : g.steps ≡ b.steps ++ (steps.And t i ∷ steps.Not t ∷ steps.And y j ∷ steps.Or x z ∷ []) =
-        s.steps_are ∙ ap (λ (ss : List LaneStep). ss ++ steps.Or x z ∷ []) r.steps_are
-        ∙ ap (λ (ss : List LaneStep). (ss ++ steps.And y j ∷ []) ++ steps.Or x z ∷ []) q.steps_are
-        ∙ ap (λ (ss : List LaneStep). ((ss ++ steps.Not t ∷ []) ++ steps.And y j ∷ []) ++ steps.Or x z ∷ []) p.steps_are
-        ∙ append_assoc ((b.steps ++ steps.And t i ∷ []) ++ steps.Not t ∷ []) (steps.And y j ∷ []) (steps.Or x z ∷ [])
-        ∙ append_assoc (b.steps ++ steps.And t i ∷ []) (steps.Not t ∷ []) (steps.And y j ∷ steps.Or x z ∷ [])
-        ∙ append_assoc b.steps (steps.And t i ∷ []) (steps.Not t ∷ steps.And y j ∷ steps.Or x z ∷ []) in
+    s.steps_are ∙ ap (λ (ss : List LaneStep). ss ++ steps.Or x z ∷ []) r.steps_are
+    ∙ ap (λ (ss : List LaneStep). (ss ++ steps.And y j ∷ []) ++ steps.Or x z ∷ []) q.steps_are
+    ∙ ap (λ (ss : List LaneStep). ((ss ++ steps.Not t ∷ []) ++ steps.And y j ∷ []) ++ steps.Or x z ∷ []) p.steps_are
+    ∙ append_assoc ((b.steps ++ steps.And t i ∷ []) ++ steps.Not t ∷ []) (steps.And y j ∷ []) (steps.Or x z ∷ [])
+    ∙ append_assoc (b.steps ++ steps.And t i ∷ []) (steps.Not t ∷ []) (steps.And y j ∷ steps.Or x z ∷ [])
+    ∙ append_assoc b.steps (steps.And t i ∷ []) (steps.Not t ∷ steps.And y j ∷ steps.Or x z ∷ []) in
     let places : choosing n t i j ≡ steps.And t i ∷ steps.Not t ∷ steps.And y j ∷ steps.Or x z ∷ [] =
-        ap (λ (k : ℕ). steps.And t i ∷ steps.Not t ∷ steps.And k j ∷ steps.Or n (n + 2) ∷ []) yn
-        ∙ ap (λ (k : ℕ). steps.And t i ∷ steps.Not t ∷ steps.And y j ∷ steps.Or k (n + 2) ∷ []) xn
-        ∙ ap (λ (k : ℕ). steps.And t i ∷ steps.Not t ∷ steps.And y j ∷ steps.Or x k ∷ []) zn in
+    ap (λ (k : ℕ). steps.And t i ∷ steps.Not t ∷ steps.And k j ∷ steps.Or n (n + 2) ∷ []) yn
+    ∙ ap (λ (k : ℕ). steps.And t i ∷ steps.Not t ∷ steps.And y j ∷ steps.Or k (n + 2) ∷ []) xn
+    ∙ ap (λ (k : ℕ). steps.And t i ∷ steps.Not t ∷ steps.And y j ∷ steps.Or x k ∷ []) zn in
     same_begun (b.steps ++ choosing n t i j) (b.steps ++ (steps.And t i ∷ steps.Not t ∷ steps.And y j ∷ steps.Or x z ∷ [])) b.names g.names (n + 3) w g whole refl
     (ap (λ (ss : List LaneStep). b.steps ++ ss) places) (sym (s.names_are ∙ r.names_are ∙ q.names_are ∙ p.names_are)) wn
 
@@ -104,6 +104,6 @@ last_copied b c d i t w first second =
     let long = ap length p.steps_are ∙ length-append b.steps (steps.Truth true ∷ []) in
     let wn : length b.steps + 1 ≡ w = let k = q.place_is in omega (arith, k, long) in
     let whole : d.steps ≡ b.steps ++ (steps.Truth true ∷ steps.Select t i i ∷ []) =
-        q.steps_are ∙ ap (λ (ss : List LaneStep). ss ++ steps.Select t i i ∷ []) p.steps_are ∙ append_assoc b.steps (steps.Truth true ∷ []) (steps.Select t i i ∷ []) in
+    q.steps_are ∙ ap (λ (ss : List LaneStep). ss ++ steps.Select t i i ∷ []) p.steps_are ∙ append_assoc b.steps (steps.Truth true ∷ []) (steps.Select t i i ∷ []) in
     same_begun (b.steps ++ (steps.Truth true ∷ steps.Select (length b.steps) i i ∷ [])) (b.steps ++ (steps.Truth true ∷ steps.Select t i i ∷ [])) b.names d.names (length b.steps + 1) w d whole refl
     (ap (λ (k : ℕ). b.steps ++ (steps.Truth true ∷ steps.Select k i i ∷ [])) (sym p.place_is)) (sym (q.names_are ∙ p.names_are)) wn

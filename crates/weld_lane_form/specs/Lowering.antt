@@ -1,5 +1,5 @@
 -- The steps that a loop's body is lowered to, form by form.
-use Rattle.std.specs.Prelude.{ℕ, suc, ◌+◌, ◌==◌, Bool, true, false, not, ◌&&◌, ◌||◌, if◌then◌else◌, ℤ, List, [], ◌∷◌, ◌++◌, length, map, Option, Some, None, option_map}
+use Rattle.std.specs.Prelude.{ℕ, ◌+◌, ◌==◌, Bool, true, false, not, ◌&&◌, ◌||◌, if◌then◌else◌, List, [], ◌∷◌, ◌++◌, length, Option, Some, None, option_map}
 use Rattle.weld_data.specs.declared.kind.Kind.{Kind}
 use Rattle.weld_data.specs.declared.kind.Kind.TheVariants as kinds
 use Rattle.weld_data.specs.declared.op.BinOp.{BinOp}
@@ -194,7 +194,7 @@ abbrev pub lower_last : Begun → ℕ → Placed
 lower_last b i =
     where_true (not (is_mask_at b i))
     (if i + 1 == length b.steps then placed b i
-     else placed (record { steps = b.steps ++ (steps.Truth true ∷ steps.Select (length b.steps) i i ∷ []); names = b.names }) (length b.steps + 1))
+    else placed (record { steps = b.steps ++ (steps.Truth true ∷ steps.Select (length b.steps) i i ∷ []); names = b.names }) (length b.steps + 1))
 
 abbrev pub is_merge : Two → Bool
 is_merge (binary op) = false

@@ -4,5 +4,7 @@
 mod asking;
 mod lets;
 mod making;
+mod marking;
 
 pub use making::{LaneBody, LoopNames, lower};
+pub use marking::mark_lanes;

@@ -1,6 +1,6 @@
 //! The steps that the body of a loop is lowered to.
 
-ghost use Rattle.std.specs.Prelude.{◌≡◌, ◌&&◌, [], ◌∷◌, IfOk};
+ghost use Rattle.std.specs.Prelude.{◌≡◌, ◌&&◌, [], ◌∷◌, IfOk, IfSome};
 ghost use Rattle.weld_meaning.specs.Environment.{look_for};
 ghost use Rattle.weld_tree.specs.ExprView.{view_leaf, view_one, view_two, view_three};
 ghost use Rattle.weld_sizes.specs.Sized.{is_that_name};
@@ -46,6 +46,7 @@ pub(crate) struct Making {
 pub fn lower(names: LoopNames, e: &Expr, alloc: Global) -> Result<Option<LaneBody>, AllocError>
     ensures means { MayMean names.is_pair names.row.0 names.own.0 e.now result }
     ensures whole { IsWhole (lane_names names) e.now result }
+    ensures kind { IfOk result (λ made. IfSome made (λ body. body.program.kind ≡ names.kind)) }
 {
     let mut making = Making {
         steps: Vec::new(alloc),

@@ -31,8 +31,8 @@ pub(crate) enum Lets<'a> {
     And(Sym, &'a Lets<'a>),
 }
 
-/// Whether the loop is of the lane form. It takes no memory.
-pub(crate) fn has_lane_form(e: &Expr) -> bool
+/// Whether the expression is a loop of the lane form. It takes no memory.
+pub fn has_lane_form(e: &Expr) -> bool
     ensures { result ≡ has_lane_form e.now }
 {
     match &e.form {
@@ -96,8 +96,9 @@ fn is_noted_number(kind: Kind, known: &Known) -> bool
     }
 }
 
-/// The kind of one leg, or of two that are of one kind, whole vectors of numbers; else that of truth values.
-fn legs_kind(legs: &Legs) -> Kind
+/// The kind of the numbers of one leg, or of two that are of one kind, whole vectors of numbers; else that of truth values. It
+/// takes no memory.
+pub fn legs_kind(legs: &Legs) -> Kind
     ensures { result ≡ legs_kind (pack_legs legs.now) }
 {
     match legs.as_slice() {
@@ -114,8 +115,8 @@ fn legs_kind(legs: &Legs) -> Kind
     }
 }
 
-/// Whether there are two legs or more.
-fn are_two(legs: &Legs) -> bool
+/// Whether there are two legs or more. It takes no memory.
+pub fn are_two(legs: &Legs) -> bool
     ensures { result ≡ are_two (pack_legs legs.now) }
 {
     match legs.as_slice() {

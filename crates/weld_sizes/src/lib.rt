@@ -10,5 +10,6 @@ mod marks;
 
 pub use count::{count_lanes, count_sized};
 pub use form::has_sized_form;
+pub use lanes::{are_two, has_lane_form, legs_kind};
 pub use marking::mark_sizes;
 pub use marks::Marks;

@@ -1,4 +1,4 @@
-use Rattle.std.proofs.Common.{rules, ◌≡◌, ℕ, List, [], map, Option, Some, refl, sym, ap, subst, ◌∙◌}
+use Rattle.std.proofs.Common.{◌≡◌, ℕ, List, [], map, Option, Some, refl, subst}
 use Rattle.weld_tree.specs.declared.sym.Sym.{Sym}
 use Rattle.weld_tree.specs.ExprTree.{ExprTree}
 use Rattle.weld_lanes.specs.declared.steps.LaneStep.{LaneStep}
@@ -21,5 +21,5 @@ returns-clause-means c =
     let n = c.args.names in
     let l = made_lowered (record { program = c.new-program.result; uniforms = c.make_body.new.making.uniforms }) n.is_pair n.row.0 in
     let h = started (lane_names n) c.args.e.now (view_lets c.no_lets-end.result) c.new.result.items c.new-2.result.items (begun c.make_body.new.making) c.in-Ok-Some.field-0 c.in-Ok-Some.field-0-0
-        c.no_lets-end.ensures c.new.ensures.items c.new-2.ensures.items c.in-Ok-Some.field-0-is c.in-Ok-Some.ensures in
+    c.no_lets-end.ensures c.new.ensures.items c.new-2.ensures.items c.in-Ok-Some.field-0-is c.in-Ok-Some.ensures in
     body_means l (lane_names n) c.args.e.now (begun c.make_body.new.making) c.in-Ok-Some.field-0-0 h c.new-program.ensures.kind refl refl c.new-program.result.formed c.new-program.ensures.steps refl
