@@ -1,0 +1,7 @@
+//! Tests of `weld_lanes`: kernels beside plain lists.
+//!
+//! They stand in a crate of their own, since a crate with tests is proved twice.
+#![tactic(auto)]
+
+#[cfg(test)]
+mod tests;
