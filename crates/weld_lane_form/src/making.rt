@@ -293,7 +293,7 @@ fn choose_truths(making: &mut Making, t: u32, i: u32, j: u32) -> Result<Option<u
 {
     let both = add(making, LaneStep::And(t, i))?;
     let contrary = add(making, LaneStep::Not(t))?;
-    let other = add(making, LaneStep::And(contrary, i))?;
+    let other = add(making, LaneStep::And(contrary, j))?;
     match add(making, LaneStep::Or(both, other)) {
         Ok(place) => Ok(Some(place)),
         Err(e) => Err(e),
