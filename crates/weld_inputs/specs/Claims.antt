@@ -42,7 +42,7 @@ ClaimsGive [] (v ∷ vs) = ⊥
 ClaimsGive (c ∷ cs) [] = ⊥
 ClaimsGive (c ∷ cs) (v ∷ vs) = ClaimGives c v × ClaimsGive cs vs
 
--- the claim at this number is the first that gives none, where the first one here has the number `first`
+-- the claim at this number is the first that gives none, where the first here has the number `first`
 abbrev pub ClaimsFail : List Claim → ℕ → ℕ → Code → Type 0
 ClaimsFail [] first number code = ⊥
 ClaimsFail (c ∷ cs) first number code =
@@ -57,7 +57,8 @@ IsReading cs first answer = IfOk answer (ClaimsGive cs) × IfErr answer (Tells (
 
 -- the claim is the parameter's, on this block
 abbrev pub IsOfParam : Binder → Block → Claim → Type 0
-IsOfParam b k (Param t block) = (t.now ≡ noted_type b.note) × IsReadable t.now × (block_of block ≡ k)
+IsOfParam b k (Param t block) =
+    (t.now ≡ noted_type b.note) × IsReadable t.now × (block_of block ≡ k)
 IsOfParam b k (Declaration d block) = ⊥
 
 -- the claim is the declaration's, on this block
@@ -66,7 +67,8 @@ IsOfDeclared d k (Param t block) = ⊥
 IsOfDeclared d k (Declaration e block) = (e.now ≡ d) × IsDeclared e.now × (block_of block ≡ k)
 
 -- in order each of these has a claim on its block, as many as there are blocks
-abbrev pub AreClaims : {A : Type 0} → (A → Block → Claim → Type 0) → List A → List Block → List Claim → Type 0
+abbrev pub AreClaims : {A : Type 0} → (A → Block → Claim → Type 0)
+    → List A → List Block → List Claim → Type 0
 AreClaims R [] ks [] = Unit {0}
 AreClaims R [] ks (c ∷ cs) = ⊥
 AreClaims R (a ∷ owners) [] [] = Unit {0}

@@ -42,7 +42,8 @@ fn read_claim(
     requires may { MayBeRead claim.now }
     requires some_worker { 0 < workers }
     ensures value { IfOk result (λ v. ClaimGives claim.now (view_val v)) }
-    ensures unfit { IfErr result (Tells (λ (n : ℕ) (code : _). (n ≡ number) × ClaimFails claim.now code)) }
+    ensures unfit { IfErr result
+        (Tells (λ (n : ℕ) (code : _). (n ≡ number) × ClaimFails claim.now code)) }
 {
     match claim {
         Claim::Param(ty, block) => read_param(rt, alloc, block, ty, number, workers),

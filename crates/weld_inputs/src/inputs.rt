@@ -34,8 +34,10 @@ fn claim_blocks<'a>(
     job: &'a Job,
 ) -> Result<(Vec<Claim<'a>>, bool), AllocError>
     requires may { AreDeclared (declared_of made.now) }
-    ensures claimed { IfOk result (λ r. AreClaims IsOfDeclared (declared_of made.now) job.now.blocks r.0.items) }
-    ensures all { IfOk result (λ r. IsWhole (length (declared_of made.now)) (length r.0.items) r.1) }
+    ensures claimed { IfOk result
+        (λ r. AreClaims IsOfDeclared (declared_of made.now) job.now.blocks r.0.items) }
+    ensures all { IfOk result
+        (λ r. IsWhole (length (declared_of made.now)) (length r.0.items) r.1) }
 {
     let mut claims = Vec::new(alloc);
     for object in made {

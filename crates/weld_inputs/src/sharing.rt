@@ -159,11 +159,13 @@ fn read_halves<R: Threads + Sync>(
     let front_workers = part_of(workers, size_of(front), size_of(back));
     let back_workers = workers - front_workers;
     let mut read_front = || -> Result<Vals, DataStop>
-        requires { IsSync R.row × All MayBeRead front.now × (0 < front_workers) × (first + length front.now < 2 ^ 64) }
+        requires { IsSync R.row × All MayBeRead front.now × (0 < front_workers)
+            × (first + length front.now < 2 ^ 64) }
         ensures { IsReading front.entry.now first result }
     { read_shared(rt, alloc, front, first, front_workers) };
     let mut read_back = || -> Result<Vals, DataStop>
-        requires { IsSync R.row × All MayBeRead back.now × (0 < back_workers) × (second + length back.now < 2 ^ 64) }
+        requires { IsSync R.row × All MayBeRead back.now × (0 < back_workers)
+            × (second + length back.now < 2 ^ 64) }
         ensures { IsReading back.entry.now second result }
     { read_shared(rt, alloc, back, second, back_workers) };
     let (values, more) = join_mut(rt, &mut read_front, &mut read_back);
