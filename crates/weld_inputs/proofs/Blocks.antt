@@ -1,113 +1,108 @@
 -- Blocks are matched with declarations one by one.
-use Rattle.std.proofs.Common.{◌≡◌, inl, inr, sym, ◌∙◌, ℕ, zero, suc, ◌+◌, ◌<◌, ◌≤◌, Bool, false, List, [], ◌∷◌, ◌++◌, length, drop, get_or, refl, ap, subst, append_assoc, append-nil, add-one, arith}
+use Rattle.std.proofs.Common.{◌≡◌, inl, inr, sym, ◌∙◌, ℕ, suc, ◌+◌, ◌<◌, ◌≤◌, Bool, false, List, [], ◌∷◌, ◌++◌, length, drop, get_or, refl, ap, subst, add-one, arith}
 use Rattle.std.proofs.Math.Seq.{drop-cons}
-use Rattle.std.proofs.lemmas.List.{drop_all}
-use Rattle.std.proofs.lemmas.Option.{none-some, slice_get_within, get_or_from_slice_get}
-use Rattle.std.specs.Prelude.{Some, None, slice_get}
+use Rattle.std.specs.List.{All}
+use Rattle.std.proofs.lemmas.List.Elements.{All-nil, All-cons}
 use Rattle.weld_data.specs.Value.{Value}
 use Rattle.weld_tree.specs.declared.code.Code.{Code}
 use Rattle.weld_tree.specs.declared.code.Code.TheVariants as codes_of
 use Rattle.weld_job.specs.Job.{Block}
 use Rattle.weld_inputs.specs.declared.arguments.stop.DataStop.{DataStop}
 use Rattle.weld_inputs.specs.declared.arguments.stop.DataStop.TheVariants.{Unfit, Memory}
+use Rattle.weld_inputs.specs.declared.claim.Claim.{Claim}
+use Rattle.weld_inputs.specs.declared.claim.Claim.TheVariants.{Param, Declaration}
 use Rattle.weld_inputs.specs.Arguments.{Tells}
 use Rattle.weld_script.specs.declared.made.Declared.{Declared}
 use Rattle.weld_script.specs.declared.made.Made.{Made}
 use Rattle.weld_script.specs.declared.made.Made.TheVariants as makes
 use Rattle.weld_script.specs.Script.{IsDeclared, AreDeclared, declared_of, declared_by}
 use Rattle.weld_inputs.specs.Inputs.{Gives, Fails, BlocksGive, BlocksFail, DataGive}
+use Rattle.weld_inputs.specs.Claims.{MayBeRead, ClaimGives, ClaimFails, ClaimsGive, ClaimsFail, AreClaims, IsOfDeclared}
 
--- the first objects and blocks gave these values; what is left decides
-pub record SoFar (ms : List Made) (ks : List Block) (i : ℕ) (left : List Block) (number : ℕ) (vs : List Value) : Type 0 where
-  pub may : AreDeclared (declared_of (drop i ms))
-  pub counted : number ≤ i + 1
-  pub given : (ws : List Value) → BlocksGive (declared_of (drop i ms)) left ws → BlocksGive (declared_of ms) ks (vs ++ ws)
-  pub failed : (n : ℕ) (code : Code) → BlocksFail (declared_of (drop i ms)) left number n code → BlocksFail (declared_of ms) ks 1 n code
+-- ---- one block
 
-pub nothing_yet : (ms : List Made) (ks : List Block) → AreDeclared (declared_of ms) → SoFar ms ks 0 ks 1 []
-nothing_yet ms ks may = record { may = may; counted = omega arith; given = λ ws h. h; failed = λ n code h. h }
+one_gives : (b : Declared) (k : Block) (c : Claim) (v : Value) → IsOfDeclared b k c → ClaimGives c v → Gives k.form k.content b v
+one_gives b k (Param t block) v r g = absurd r
+one_gives b k (Declaration d block) v (e, i, f) g = subst (λ (x : Declared). Gives k.form k.content x v) e (subst (λ (x : Block). Gives x.form x.content d.now v) f g)
+
+one_fails : (b : Declared) (k : Block) (c : Claim) (code : Code) → IsOfDeclared b k c → ClaimFails c code → Fails k.form k.content b code
+one_fails b k (Param t block) code r h = absurd r
+one_fails b k (Declaration d block) code (e, i, f) h = subst (λ (x : Declared). Fails k.form k.content x code) e (subst (λ (x : Block). Fails x.form x.content d.now code) f h)
+
+one_may : (b : Declared) (k : Block) (c : Claim) → IsOfDeclared b k c → MayBeRead c
+one_may b k (Param t block) r = absurd r
+one_may b k (Declaration d block) r = r.1
+
+-- ---- all blocks
+
+-- who claims a block may be given a value
+pub may_be_read : (bs : List Declared) (ks : List Block) (cs : List Claim) → AreClaims IsOfDeclared bs ks cs → All MayBeRead cs
+may_be_read [] ks [] r = All-nil MayBeRead
+may_be_read [] ks (c ∷ cs) r = absurd r
+may_be_read (b ∷ bs) ks [] r = All-nil MayBeRead
+may_be_read (b ∷ bs) [] (c ∷ cs) r = absurd r
+may_be_read (b ∷ bs) (k ∷ ks) (c ∷ cs) r = All-cons MayBeRead c cs (one_may b k c r.0) (may_be_read bs ks cs r.1)
+
+-- all have their values, and no block is left
+pub all_given : (bs : List Declared) (ks : List Block) (cs : List Claim) (vs : List Value) → length bs ≡ length cs → length ks ≤ length cs → AreClaims IsOfDeclared bs ks cs → ClaimsGive cs vs → BlocksGive bs ks vs
+all_given [] [] [] [] e l r g = tt
+all_given [] [] [] (v ∷ vs) e l r g = absurd g
+all_given [] (k ∷ ks) [] vs e l r g = absurd (omega (arith, l))
+all_given [] ks (c ∷ cs) vs e l r g = absurd r
+all_given (b ∷ bs) ks [] vs e l r g = absurd (omega (arith, e))
+all_given (b ∷ bs) [] (c ∷ cs) vs e l r g = absurd r
+all_given (b ∷ bs) (k ∷ ks) (c ∷ cs) [] e l r g = absurd g
+all_given (b ∷ bs) (k ∷ ks) (c ∷ cs) (v ∷ vs) e l r g = (one_gives b k c v r.0 g.0, all_given bs ks cs vs (omega (arith, e)) (omega (arith, l)) r.1 g.1)
+
+-- a claim fails
+failed : (bs : List Declared) (ks : List Block) (cs : List Claim) (first n : ℕ) (code : Code) → AreClaims IsOfDeclared bs ks cs → ClaimsFail cs first n code → BlocksFail bs ks first n code
+failed bs ks [] first n code r h = absurd h
+failed [] ks (c ∷ cs) first n code r h = absurd r
+failed (b ∷ bs) [] (c ∷ cs) first n code r h = absurd r
+failed (b ∷ bs) (k ∷ ks) (c ∷ cs) first n code r (inl h) = inl (h.0, one_fails b k c code r.0 h.1)
+failed (b ∷ bs) (k ∷ ks) (c ∷ cs) first n code r (inr (v, g, h)) = inr (v, one_gives b k c v r.0 g, failed bs ks cs (first + 1) n code r.1 h)
+
+pub unfit : (bs : List Declared) (ks : List Block) (cs : List Claim) (stop : DataStop) → AreClaims IsOfDeclared bs ks cs → Tells (ClaimsFail cs 1) stop → Tells (BlocksFail bs ks 1) stop
+unfit bs ks cs Memory r h = tt
+unfit bs ks cs (Unfit n code) r h = failed bs ks cs 1 n code r h
+
+-- the claims give their values, and the next declaration has no block
+pub missing : (bs : List Declared) (ks : List Block) (cs : List Claim) (vs : List Value) (first n : ℕ) → n ≡ first + length cs → length cs < length bs → AreClaims IsOfDeclared bs ks cs → ClaimsGive cs vs → BlocksFail bs ks first n codes_of.Missing
+missing [] ks [] vs first n e l r g = absurd (omega (arith, l))
+missing [] ks (c ∷ cs) vs first n e l r g = absurd r
+missing (b ∷ bs) [] [] vs first n e l r g = (omega (arith, e), refl)
+missing (b ∷ bs) (k ∷ ks) [] vs first n e l r g = absurd r
+missing (b ∷ bs) [] (c ∷ cs) vs first n e l r g = absurd r
+missing (b ∷ bs) (k ∷ ks) (c ∷ cs) [] first n e l r g = absurd g
+missing (b ∷ bs) (k ∷ ks) (c ∷ cs) (v ∷ vs) first n e l r g = inr (v, one_gives b k c v r.0 g.0, missing bs ks cs vs (first + 1) n (omega (arith, e)) (omega (arith, l)) r.1 g.1)
+
+-- all have their values, and a block is left
+pub one_too_many : (bs : List Declared) (ks : List Block) (cs : List Claim) (vs : List Value) (first n : ℕ) → n ≡ first + length cs → length bs ≡ length cs → length cs < length ks → AreClaims IsOfDeclared bs ks cs → ClaimsGive cs vs → BlocksFail bs ks first n codes_of.Extra
+one_too_many [] [] [] vs first n e o l r g = absurd (omega (arith, l))
+one_too_many [] (k ∷ ks) [] vs first n e o l r g = (omega (arith, e), refl)
+one_too_many [] ks (c ∷ cs) vs first n e o l r g = absurd r
+one_too_many (b ∷ bs) ks [] vs first n e o l r g = absurd (omega (arith, o))
+one_too_many (b ∷ bs) [] (c ∷ cs) vs first n e o l r g = absurd r
+one_too_many (b ∷ bs) (k ∷ ks) (c ∷ cs) [] first n e o l r g = absurd g
+one_too_many (b ∷ bs) (k ∷ ks) (c ∷ cs) (v ∷ vs) first n e o l r g = inr (v, one_gives b k c v r.0 g.0, one_too_many bs ks cs vs (first + 1) n (omega (arith, e)) (omega (arith, o)) (omega (arith, l)) r.1 g.1)
+
+-- ---- the object that is next
 
 next_made : (ms : List Made) (i : ℕ) (m : Made) → i < length ms → m ≡ get_or ms i m → declared_of (drop i ms) ≡ declared_by m ++ declared_of (drop (i + 1) ms)
 next_made ms i m l e = ap declared_of (drop-cons ms i m l ∙ ap (λ (x : Made). x ∷ drop (suc i) ms) (sym e) ∙ ap (λ (k : ℕ). m ∷ drop k ms) (sym (add-one i)))
 
 -- an object that is no declaration has no block
-pub skipped : (ms : List Made) (ks : List Block) (i : ℕ) (m : Made) (left : List Block) (number : ℕ) (vs : List Value) → declared_by m ≡ [] → i < length ms → m ≡ get_or ms i m → SoFar ms ks i left number vs → SoFar ms ks (i + 1) left number vs
-skipped ms ks i m left number vs none l e s =
-    let here : declared_of (drop i ms) ≡ declared_of (drop (i + 1) ms) = next_made ms i m l e ∙ ap (λ (ds : List Declared). ds ++ declared_of (drop (i + 1) ms)) none in
-    record {
-      may = subst AreDeclared here s.may;
-      counted = omega (arith, s.counted);
-      given = λ ws h. s.given ws (subst (λ (ds : List Declared). BlocksGive ds left ws) (sym here) h);
-      failed = λ n code h. s.failed n code (subst (λ (ds : List Declared). BlocksFail ds left number n code) (sym here) h);
-    }
+pub skipped : (ms : List Made) (i : ℕ) (m : Made) → declared_by m ≡ [] → i < length ms → m ≡ get_or ms i m → declared_of (drop i ms) ≡ declared_of (drop (i + 1) ms)
+skipped ms i m none l e = next_made ms i m l e ∙ ap (λ (ds : List Declared). ds ++ declared_of (drop (i + 1) ms)) none
 
-pub may_next : (ms : List Made) (ks : List Block) (i : ℕ) (m : Made) (d : Declared) (left : List Block) (number : ℕ) (vs : List Value) → m ≡ makes.Declared d → i < length ms → m ≡ get_or ms i m → SoFar ms ks i left number vs → IsDeclared d
-may_next ms ks i m d left number vs is l e s =
-    let here : declared_of (drop i ms) ≡ d ∷ declared_of (drop (i + 1) ms) = next_made ms i m l e ∙ ap (λ (x : Made). declared_by x ++ declared_of (drop (i + 1) ms)) is in
-    let may : AreDeclared (d ∷ declared_of (drop (i + 1) ms)) = subst AreDeclared here s.may in may.0
+pub next_declared : (ms : List Made) (i : ℕ) (m : Made) (d : Declared) → m ≡ makes.Declared d → i < length ms → m ≡ get_or ms i m → declared_of (drop i ms) ≡ d ∷ declared_of (drop (i + 1) ms)
+next_declared ms i m d is l e = next_made ms i m l e ∙ ap (λ (x : Made). declared_by x ++ declared_of (drop (i + 1) ms)) is
 
--- one declaration more has its value
-pub one_more : (ms : List Made) (ks : List Block) (i : ℕ) (m : Made) (d : Declared) (block : Block) (more : List Block) (number : ℕ) (vs ws : List Value) (v : Value) → m ≡ makes.Declared d → i < length ms → m ≡ get_or ms i m → SoFar ms ks i (block ∷ more) number vs → ws ≡ vs ++ v ∷ [] → Gives block.form block.content d v → SoFar ms ks (i + 1) more (number + 1) ws
-one_more ms ks i m d block more number vs ws v is l e s a g =
-    let rest = declared_of (drop (i + 1) ms) in
-    let here : declared_of (drop i ms) ≡ d ∷ rest = next_made ms i m l e ∙ ap (λ (x : Made). declared_by x ++ rest) is in
-    let may : AreDeclared (d ∷ rest) = subst AreDeclared here s.may in
-    subst (SoFar ms ks (i + 1) more (number + 1)) (sym a) (record {
-      may = may.1;
-      counted = omega (arith, s.counted);
-      given = λ us h. subst (BlocksGive (declared_of ms) ks) (sym (append_assoc vs (v ∷ []) us)) (s.given (v ∷ us) (subst (λ (cs : List Declared). BlocksGive cs (block ∷ more) (v ∷ us)) (sym here) (g, h)));
-      failed = λ n code h. s.failed n code (subst (λ (cs : List Declared). BlocksFail cs (block ∷ more) number n code) (sym here) (inr (v, g, h)));
-    })
+pub first_may : (d : Declared) (ds rest : List Declared) → ds ≡ d ∷ rest → AreDeclared ds → IsDeclared d
+first_may d ds rest e may = let all : AreDeclared (d ∷ rest) = subst AreDeclared e may in all.0
 
-no_block : (left : List Block) → length left ≡ 0 → left ≡ []
-no_block [] h = refl
-no_block (k ∷ left) h = absurd (omega arith)
-
-pub missing : (ms : List Made) (ks : List Block) (i : ℕ) (m : Made) (d : Declared) (left : List Block) (number : ℕ) (vs : List Value) → m ≡ makes.Declared d → i < length ms → m ≡ get_or ms i m → SoFar ms ks i left number vs → length left ≡ 0 → BlocksFail (declared_of ms) ks 1 number codes_of.Missing
-missing ms ks i m d left number vs is l e s n =
-    let rest = declared_of (drop (i + 1) ms) in
-    let here : declared_of (drop i ms) ≡ d ∷ rest = next_made ms i m l e ∙ ap (λ (x : Made). declared_by x ++ rest) is in
-    s.failed number codes_of.Missing (subst (λ (cs : List Declared). BlocksFail cs left number number codes_of.Missing) (sym here)
-    (subst (λ (x : List Block). BlocksFail (d ∷ rest) x number number codes_of.Missing) (sym (no_block left n)) (refl, refl)))
-
-pub unfit : (ms : List Made) (ks : List Block) (i : ℕ) (m : Made) (d : Declared) (block : Block) (more : List Block) (number : ℕ) (vs : List Value) (stop : DataStop) → m ≡ makes.Declared d → i < length ms → m ≡ get_or ms i m → SoFar ms ks i (block ∷ more) number vs
-    → Tells (λ (n : ℕ) (code : Code). (n ≡ number) × Fails block.form block.content d code) stop → Tells (BlocksFail (declared_of ms) ks 1) stop
-unfit ms ks i m d block more number vs Memory is l e s h = tt
-unfit ms ks i m d block more number vs (Unfit n code) is l e s h =
-    let rest = declared_of (drop (i + 1) ms) in
-    let here : declared_of (drop i ms) ≡ d ∷ rest = next_made ms i m l e ∙ ap (λ (x : Made). declared_by x ++ rest) is in
-    s.failed n code (subst (λ (cs : List Declared). BlocksFail cs (block ∷ more) number n code) (sym here) (inl h))
-
-nothing_left : (ms : List Made) (i : ℕ) → length ms ≤ i → declared_of (drop i ms) ≡ []
-nothing_left ms i l = ap declared_of (drop_all i ms l)
-
-pub all_given : (ms : List Made) (ks : List Block) (i number : ℕ) (left : List Block) (vs : List Value) → length ms ≤ i → SoFar ms ks i left number vs → length left ≡ 0 → BlocksGive (declared_of ms) ks vs
-all_given ms ks i number [] vs l s e = subst (BlocksGive (declared_of ms) ks) (append-nil vs) (s.given [] (subst (λ (cs : List Declared). BlocksGive cs [] []) (sym (nothing_left ms i l)) tt))
-all_given ms ks i number (k ∷ left) vs l s e = absurd (omega arith)
-
-pub one_too_many : (ms : List Made) (ks : List Block) (i number : ℕ) (left : List Block) (vs : List Value) → length ms ≤ i → SoFar ms ks i left number vs → 0 < length left → BlocksFail (declared_of ms) ks 1 number codes_of.Extra
-one_too_many ms ks i number [] vs l s h = absurd (omega arith)
-one_too_many ms ks i number (k ∷ left) vs l s h = s.failed number codes_of.Extra (subst (λ (cs : List Declared). BlocksFail cs (k ∷ left) number number codes_of.Extra) (sym (nothing_left ms i l)) (refl, refl))
-
--- ---- blocks by their places
-
--- the block at a place, and those after it
-pub block_at : (ks : List Block) (at : ℕ) (block : Block) → Some block ≡ slice_get ks at → drop at ks ≡ block ∷ drop (at + 1) ks
-block_at ks at block e =
-    drop-cons ks at block (slice_get_within ks at block (sym e))
-    ∙ ap (λ (x : Block). x ∷ drop (suc at) ks) (get_or_from_slice_get ks at block block (sym e))
-    ∙ ap (λ (n : ℕ). block ∷ drop n ks) (sym (add-one at))
-
--- no block is left
-pub no_block_at : (ks : List Block) (at : ℕ) → None ≡ slice_get ks at → length (drop at ks) ≡ 0
-no_block_at [] at e = ap length (drop_all at [] (omega arith))
-no_block_at (k ∷ ks) zero e = absurd (none-some k e)
-no_block_at (k ∷ ks) (suc at) e = no_block_at ks at e
-
--- what was given so far, where the block at the place is next
-pub next_at : (ms : List Made) (ks : List Block) (i at : ℕ) (block : Block) (number : ℕ) (vs : List Value) → Some block ≡ slice_get ks at
-    → SoFar ms ks i (drop at ks) number vs → SoFar ms ks i (block ∷ drop (at + 1) ks) number vs
-next_at ms ks i at block number vs e s = subst (λ (ls : List Block). SoFar ms ks i ls number vs) (block_at ks at block e) s
+pub others_may : (d : Declared) (ds rest : List Declared) → ds ≡ d ∷ rest → AreDeclared ds → AreDeclared rest
+others_may d ds rest e may = let all : AreDeclared (d ∷ rest) = subst AreDeclared e may in all.1
 
 -- what blocks give where no stray bytes stand before them
 pub data_give : (stray : Bool) (ds : List Declared) (ks : List Block) (vs : List Value) → stray ≡ false → BlocksGive ds ks vs → DataGive stray ds ks vs

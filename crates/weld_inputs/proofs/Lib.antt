@@ -1,4 +1,6 @@
 pub mod ArgumentsBlocks
 pub mod ArgumentsOneAnswer
 mod Blocks
+mod Claims
 mod OneAnswer
+mod Owners

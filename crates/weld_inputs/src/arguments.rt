@@ -6,4 +6,5 @@ pub mod laws;
 mod stop;
 
 pub use arguments::read_arguments;
+pub(crate) use block::read_block as read_param;
 pub use stop::DataStop;

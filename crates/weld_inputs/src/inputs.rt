@@ -1,15 +1,17 @@
 //! The blocks of a job's data, matched with the declarations of a script.
 
-ghost use Rattle.std.specs.Prelude.{◌≡◌, ◌<◌, ◌++◌, ◌∷◌, [], ℕ, IfOk, IfErr, OnOk};
-ghost use Rattle.weld_data.specs.Value.{Value};
+ghost use Rattle.std.specs.Prelude.{◌<◌, length, IfOk, IfErr};
+ghost use Rattle.weld_job.specs.Extents.{block_of};
 ghost use Rattle.weld_inputs.specs.Arguments.{Tells};
+ghost use Rattle.weld_inputs.specs.Claims.{AreClaims, IsOfDeclared, IsWhole};
 ghost use Rattle.weld_script.specs.Script.{AreDeclared, AreInputs, IsDeclared, declared_of};
-ghost use Rattle.weld_inputs.specs.Inputs.{Gives, Fails, BlocksGive, BlocksFail, Inputs, IsUnfit};
+ghost use Rattle.weld_inputs.specs.Inputs.{BlocksGive, BlocksFail, Inputs, IsUnfit};
 
 use crate::arguments::DataStop;
-use crate::block::read_block;
+use crate::claim::Claim;
 use crate::laws::inputs_have_their_types;
-use std::alloc::Global;
+use crate::sharing::read_claims;
+use std::alloc::{AllocError, Global};
 use std::thread::Threads;
 use weld_data::Vals;
 use weld_job::{Block, Job};
@@ -17,26 +19,37 @@ use weld_script::laws::scripts_declare;
 use weld_script::{Declared, Made, Script};
 use weld_tree::Code;
 
-/// Appends the value that the block of this number gives the declaration.
-fn add_input(
-    rt: &(impl Threads + Sync),
-    alloc: Global,
-    declared: &Declared,
-    block: &Block<'_>,
-    number: u64,
-    workers: u32,
-    inputs: &mut Vals,
-) -> Result<(), DataStop>
+/// The declaration's claim on the block.
+fn claim_block<'a>(declared: &'a Declared, block: Block<'a>) -> Claim<'a>
     requires may { IsDeclared declared.now }
-    requires some_worker { 0 < workers }
-    ensures ok { OnOk result ((v : Value) × (inputs.new ≡ inputs.old ++ v ∷ []) × Gives block.now.form block.now.content.now declared.now v) }
-    ensures unfit { IfErr result (Tells (λ (n : ℕ) (code : _). (n ≡ number) × Fails block.now.form block.now.content.now declared.now code)) }
+    ensures { IsOfDeclared declared.now (block_of block.entry) result }
 {
-    let value = read_block(rt, alloc, block, declared, number, workers)?;
-    match inputs.push(value) {
-        Ok(()) => Ok(()),
-        Err(_) => Err(DataStop::Memory),
+    Claim::Declaration(declared, block)
+}
+
+/// The declarations' claims, in order, of as many as have a block; and whether all have one.
+fn claim_blocks<'a>(
+    alloc: Global,
+    made: &'a [Made],
+    job: &'a Job,
+) -> Result<(Vec<Claim<'a>>, bool), AllocError>
+    requires may { AreDeclared (declared_of made.now) }
+    ensures claimed { IfOk result
+        (λ r. AreClaims IsOfDeclared (declared_of made.now) job.now.blocks r.0.items) }
+    ensures all { IfOk result
+        (λ r. IsWhole (length (declared_of made.now)) (length r.0.items) r.1) }
+{
+    let mut claims = Vec::new(alloc);
+    for object in made {
+        let Made::Declared(declared) = object else {
+            continue;
+        };
+        let Some(block) = job.block(claims.len()) else {
+            return Ok((claims, false));
+        };
+        claims.push(claim_block(declared, block))?;
     }
+    Ok((claims, true))
 }
 
 /// The values that the blocks give the declarations among the objects.
@@ -52,25 +65,18 @@ fn read_blocks(
     ensures inputs { IfOk result (BlocksGive (declared_of made.now) job.now.blocks) }
     ensures unfit { IfErr result (Tells (BlocksFail (declared_of made.now) job.now.blocks 1)) }
 {
-    let mut inputs = Vals::new(alloc);
-    let mut at = 0;
-    let mut number = 1;
-    for object in made {
-        let Made::Declared(declared) = object else {
-            continue;
-        };
-        let Some(block) = job.block(at) else {
-            return Err(DataStop::Unfit(number, Code::Missing));
-        };
-        match add_input(rt, alloc, declared, &block, number, workers, &mut inputs) {
-            Ok(()) => {}
-            Err(stop) => return Err(stop),
-        }
-        at += 1;
-        number += 1;
-    }
-    if at < job.block_count() {
-        Err(DataStop::Unfit(number, Code::Extra))
+    let Ok((claims, is_all)) = claim_blocks(alloc, made, job) else {
+        return Err(DataStop::Memory);
+    };
+    let inputs = match read_claims(rt, alloc, claims.as_slice(), workers) {
+        Ok(inputs) => inputs,
+        Err(stop) => return Err(stop),
+    };
+    let next = claims.len() as u64 + 1;
+    if !is_all {
+        Err(DataStop::Unfit(next, Code::Missing))
+    } else if claims.len() < job.block_count() {
+        Err(DataStop::Unfit(next, Code::Extra))
     } else {
         Ok(inputs)
     }
@@ -83,8 +89,8 @@ fn read_blocks(
 /// `Unfit` tells of stray bytes before the blocks by the number 0 and FORM; of a declaration without a block by its number,
 /// from 1, and MISSING; of a block of another form than its declaration's by FORM; of a value that doesn't read as its type
 /// by SYNTAX, RANGE or REPEAT, as `read_value` does; of a table by FORM, LENGTH, SYNTAX or RANGE, as `read_table` does; and
-/// of a block more than there are declarations by EXTRA. A long list of scalars is read in as many pieces as there are
-/// workers, side by side; these have no part in the answer.
+/// of a block more than there are declarations by EXTRA. Long blocks of several declarations are read side by
+/// side, and a long list of scalars in pieces, by so many workers; these have no part in the answer.
 pub fn read_inputs(
     rt: &(impl Threads + Sync),
     alloc: Global,

@@ -3,7 +3,9 @@
 
 pub mod arguments;
 mod block;
+mod claim;
 mod inputs;
 pub mod laws;
+mod sharing;
 
 pub use inputs::read_inputs;

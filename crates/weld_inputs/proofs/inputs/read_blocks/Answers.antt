@@ -1,50 +1,41 @@
-use Rattle.std.proofs.Common.{◌≡◌, ◌+◌, ◌<◌, ◌≤◌, length, drop, arith, rules, length-drop}
-use Rattle.std.proofs.lemmas.Bool.Decides.{nat_tests}
-use Rattle.weld_job.specs.Extents.{block_of}
-use Rattle.weld_inputs.proofs.Blocks.{one_more, missing, unfit, all_given, one_too_many, next_at, no_block_at}
+use Rattle.std.proofs.Common.{◌≡◌, ◌+◌, ◌<◌, ◌≤◌, length, sym, subst, arith, rules}
+use Rattle.std.specs.List.{All}
+use Rattle.weld_inputs.specs.Arguments.{Tells}
+use Rattle.weld_inputs.specs.Claims.{MayBeRead, ClaimsGive, ClaimsFail}
+use Rattle.weld_script.specs.Script.{declared_of}
+use Rattle.weld_inputs.proofs.Blocks.{may_be_read, unfit, missing, one_too_many, all_given}
+use Rattle.weld_inputs.proofs.Owners.{whole, not_whole}
 use Rattle.weld_inputs.proofs.inputs.read_blocks.Goals as goal
 
-pub returns-in_default-block-clause-unfit : goal.returns-in_default-block-clause-unfit
-returns-in_default-block-clause-unfit g c =
-    let ks = c.args.job.now.blocks in
-    let within : c.loop-object.object-index < length c.args.made.now = search rules in
-    missing c.args.made.now ks c.loop-object.object-index c.object-item.result c.in-Declared.declared (drop c.loop-object.at ks) c.loop-object.number c.loop-object.inputs
-    c.in-Declared.is within c.object-item.is c.loop-object.invariant.0 (no_block_at ks c.loop-object.at c.in_default-block.ensures)
+pub read_claims-requires-clause-may : goal.read_claims-requires-clause-may
+read_claims-requires-clause-may g c κs within = subst (All MayBeRead) (sym c.as_slice.ensures.value) (may_be_read (declared_of c.args.made.now) c.args.job.now.blocks c.in-Ok.claims.items c.in-Ok.ensures.claimed)
 
 pub returns-in-Err-clause-unfit : goal.returns-in-Err-clause-unfit
 returns-in-Err-clause-unfit g c =
-    let ks = c.args.job.now.blocks in
-    let within : c.loop-object.object-index < length c.args.made.now = search rules in
-    unfit c.args.made.now ks c.loop-object.object-index c.object-item.result c.in-Declared.declared (block_of c.in-Some.block) (drop (c.loop-object.at + 1) ks) c.loop-object.number c.loop-object.inputs c.in-Err.stop
-    c.in-Declared.is within c.object-item.is
-    (next_at c.args.made.now ks c.loop-object.object-index c.loop-object.at (block_of c.in-Some.block) c.loop-object.number c.loop-object.inputs c.in-Some.ensures c.loop-object.invariant.0)
-    c.in-Err.ensures.unfit
+    unfit (declared_of c.args.made.now) c.args.job.now.blocks c.in-Ok.claims.items c.in-Err.stop c.in-Ok.ensures.claimed
+    (subst (λ cs. Tells (ClaimsFail cs 1) c.in-Err.stop) c.as_slice.ensures.value c.in-Err.ensures.unfit)
 
-pub loop-object-preserved : goal.loop-object-preserved
-loop-object-preserved g c =
-    let ks = c.args.job.now.blocks in
-    let within : c.loop-object.object-index < length c.args.made.now = search rules in
-    let (v, added, gives) = c.in-Ok.ensures.ok in
-    let placed : c.loop-object.at + 1 ≤ c.loop-object.object-index + 1 = omega (arith, c.loop-object.invariant.1) in (
-      one_more c.args.made.now ks c.loop-object.object-index c.object-item.result c.in-Declared.declared (block_of c.in-Some.block) (drop (c.loop-object.at + 1) ks) c.loop-object.number c.loop-object.inputs c.add_input.new.inputs v
-          c.in-Declared.is within c.object-item.is
-          (next_at c.args.made.now ks c.loop-object.object-index c.loop-object.at (block_of c.in-Some.block) c.loop-object.number c.loop-object.inputs c.in-Some.ensures c.loop-object.invariant.0)
-          added gives,
-      placed,
-    )
+pub returns-then-not-is_all-clause-unfit : goal.returns-then-not-is_all-clause-unfit
+returns-then-not-is_all-clause-unfit g c =
+    let cs = c.in-Ok.claims.items in
+    let number : c.len.result + 1 ≡ 1 + length cs = omega (arith, c.len.ensures) in
+    missing (declared_of c.args.made.now) c.args.job.now.blocks cs c.in-Ok-read_claims.inputs 1 (c.len.result + 1) number
+    (not_whole (length ((declared_of c.args.made.now))) (length cs) c.in-Ok.is_all c.if-not-is_all.true c.in-Ok.ensures.all)
+    c.in-Ok.ensures.claimed (subst (λ ds. ClaimsGive ds c.in-Ok-read_claims.inputs) c.as_slice.ensures.value c.in-Ok-read_claims.ensures.values)
 
-pub returns-then-at-block_count-clause-unfit : goal.returns-then-at-block_count-clause-unfit
-returns-then-at-block_count-clause-unfit g c =
-    let ks = c.args.job.now.blocks in
-    let over : length c.args.made.now ≤ c.loop-object.object-index = search rules in
-    let below : c.loop-object.at < length ks = grind (arith, nat_tests, c.block_count.ensures, c.if-at-block_count.true) in
-    let some : 0 < length (drop c.loop-object.at ks) = omega (arith, length-drop c.loop-object.at ks) in
-    one_too_many c.args.made.now ks c.loop-object.object-index c.loop-object.number (drop c.loop-object.at ks) c.loop-object.inputs over c.loop-object.invariant.0 some
+pub returns-then-len-block_count-clause-unfit : goal.returns-then-len-block_count-clause-unfit
+returns-then-len-block_count-clause-unfit g c =
+    let cs = c.in-Ok.claims.items in
+    let number : c.len.result + 1 ≡ 1 + length cs = omega (arith, c.len.ensures) in
+    let below : length cs < length c.args.job.now.blocks = search rules in
+    one_too_many (declared_of c.args.made.now) c.args.job.now.blocks cs c.in-Ok-read_claims.inputs 1 (c.len.result + 1) number
+    (whole (length ((declared_of c.args.made.now))) (length cs) c.in-Ok.is_all c.if-not-is_all.false c.in-Ok.ensures.all) below
+    c.in-Ok.ensures.claimed (subst (λ ds. ClaimsGive ds c.in-Ok-read_claims.inputs) c.as_slice.ensures.value c.in-Ok-read_claims.ensures.values)
 
-pub returns-else-at-block_count-clause-inputs : goal.returns-else-at-block_count-clause-inputs
-returns-else-at-block_count-clause-inputs g c =
-    let ks = c.args.job.now.blocks in
-    let over : length c.args.made.now ≤ c.loop-object.object-index = search rules in
-    let past : length ks ≤ c.loop-object.at = grind (arith, nat_tests, c.block_count.ensures, c.if-at-block_count.false) in
-    let none : length (drop c.loop-object.at ks) ≡ 0 = omega (arith, length-drop c.loop-object.at ks) in
-    all_given c.args.made.now ks c.loop-object.object-index c.loop-object.number (drop c.loop-object.at ks) c.loop-object.inputs over c.loop-object.invariant.0 none
+pub returns-clause-inputs : goal.returns-clause-inputs
+returns-clause-inputs g c =
+    let cs = c.in-Ok.claims.items in
+    let past : length c.args.job.now.blocks ≤ length cs = search rules in
+    all_given (declared_of c.args.made.now) c.args.job.now.blocks cs c.in-Ok-read_claims.inputs
+    (whole (length ((declared_of c.args.made.now))) (length cs) c.in-Ok.is_all c.if-not-is_all.false c.in-Ok.ensures.all) past
+    c.in-Ok.ensures.claimed (subst (λ ds. ClaimsGive ds c.in-Ok-read_claims.inputs) c.as_slice.ensures.value c.in-Ok-read_claims.ensures.values)
