@@ -1,0 +1,7 @@
+pub mod Parts
+pub mod Renaming
+pub mod Taking
+pub mod Typing
+pub mod Counting
+pub mod Pairs
+pub mod PairRule

@@ -1,0 +1,2 @@
+//! Loops over what other loops make that hold their builder in a pair.
+#![tactic(auto)]
