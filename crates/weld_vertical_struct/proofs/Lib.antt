@@ -5,3 +5,4 @@ pub mod Typing
 pub mod Counting
 pub mod Pairs
 pub mod PairRule
+pub mod Opening
