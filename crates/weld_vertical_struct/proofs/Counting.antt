@@ -1,4 +1,4 @@
--- With the names of a pair's parts for the pair, binders, loops, legs and weight stay; and where the pair is used by its parts.
+-- With the names of a pair's parts for the pair, binders, loops and legs stay; and where the pair is used by its parts.
 use Rattle.std.proofs.Common.{◌≡◌, ◌≢◌, ℕ, ◌+◌, ◌==◌, if◌then◌else◌, Bool, true, false, not, ◌&&◌, ◌||◌, [], ◌∷◌, ◌++◌, Option, Some, None, refl, ap, sym, subst, ◌∙◌, ◌⊎◌, inl, inr, eq-eqb, ne_eqb, eqb-true, arith, ◌<◌}
 use Rattle.std.proofs.lemmas.Bool.{cases_eq}
 use Rattle.weld_tree.specs.declared.binder.Binder.{Binder}
@@ -7,7 +7,6 @@ use Rattle.weld_tree.specs.Program.{loops, loops_in, loops_in_leg, loops_in_legs
 use Rattle.weld_meaning.specs.Names.{IsFree, AreFree, LegIsFree, LegsAreFree, Binds, AllBind, LegBinds, LegsBind}
 use Rattle.weld_print.specs.Spellable.{IsSpellable, AreSpellable, LegIsSpellable, LegsAreSpellable}
 use Rattle.weld_rewriting.specs.Within.{legs, legs_in, legs_within, legs_among}
-use Rattle.weld_rewriting.specs.Weight.{weight, weight_in, weight_in_leg, weight_in_legs, choice_weight}
 use Rattle.weld_substitution.specs.Uses.{is_name, uses}
 use Rattle.weld_substitution.specs.Redex.{is_field}
 use Rattle.weld_substitution.proofs.UsedNames.{used_or_free}
@@ -94,29 +93,6 @@ module _ (m : Pair) where
     legs_among_stay : (ls : LegTrees) → legs_among (legs_parted m.s m.x m.i ls) ≡ legs_among ls
     legs_among_stay no_legs = refl
     legs_among_stay (more_legs l ls) = omega (arith, legs_within_stay l, legs_among_stay ls)
-
-  mutual
-    pub weight_stays : (e : ExprTree) → weight (parts m e) ≡ weight e
-    weight_stays (leaf a l) = refl
-    weight_stays (one a o e) = one_stays weight 0 (λ a l. refl) (λ a o e. refl) a o e (parts m e) (weight_stays e)
-    weight_stays (two a o e f) = omega (arith, weight_stays e, weight_stays f)
-    weight_stays (three a o c e f) = omega (arith, weight_stays c, weight_stays e, weight_stays f)
-    weight_stays (many a o es) = weight_in_stays es
-    weight_stays (let_in a b e f) = omega (arith, weight_stays e, weight_stays f)
-    weight_stays (loop a ls e b n y f) = omega (arith, weight_in_legs_stays ls, weight_stays e)
-    weight_stays (iterate a e b f) = omega (arith, weight_stays e)
-
-    weight_in_stays : (es : ExprTrees) → weight_in (all_parted m.s m.x m.i es) ≡ weight_in es
-    weight_in_stays no_exprs = refl
-    weight_in_stays (more_exprs e es) = omega (arith, weight_stays e, weight_in_stays es)
-
-    weight_in_leg_stays : (l : LegTree) → weight_in_leg (leg_parted m.s m.x m.i l) ≡ weight_in_leg l
-    weight_in_leg_stays (whole e) = weight_stays e
-    weight_in_leg_stays (strided e f g h) = omega (arith, weight_stays e, weight_stays f, weight_stays g, weight_stays h)
-
-    weight_in_legs_stays : (ls : LegTrees) → weight_in_legs (legs_parted m.s m.x m.i ls) ≡ weight_in_legs ls
-    weight_in_legs_stays no_legs = refl
-    weight_in_legs_stays (more_legs l ls) = omega (arith, weight_in_leg_stays l, weight_in_legs_stays ls)
 
   -- ---- free names: those that were, and the names of the parts
 

@@ -1,4 +1,5 @@
 pub mod Parts
+pub mod Once
 pub mod Renaming
 pub mod Taking
 pub mod Typing
@@ -6,3 +7,9 @@ pub mod Counting
 pub mod Pairs
 pub mod PairRule
 pub mod Opening
+pub mod Weights
+pub mod Swept
+pub mod Left
+pub mod Choosing
+pub mod Trying
+pub mod Depth

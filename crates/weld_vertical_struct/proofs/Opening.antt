@@ -1,4 +1,4 @@
--- Taking pairs apart rewrites, and makes nothing heavier; so a loop over what a loop makes that holds its builder in pairs may be
+-- Taking pairs apart rewrites; so a loop over what a loop makes that holds its builder in pairs may be
 -- rewritten to one loop.
 use Rattle.std.specs.Prelude.{is_some}
 use Rattle.std.proofs.Common.{◌≡◌, ◌≢◌, ℕ, zero, suc, ◌+◌, ◌≤◌, ◌<◌, ◌==◌, if◌then◌else◌, Bool, true, false, ◌&&◌, ◌||◌, [], ◌∷◌, ◌++◌, Option, Some, None, refl, ap, sym, subst, ◌∙◌, ◌⊎◌, inl, inr, eqb-true, arith}
@@ -7,7 +7,6 @@ use Rattle.weld_tree.specs.ExprTree.{At, ExprTree, leaf, one, two, three, many, 
 use Rattle.weld_tree.specs.Program.{bound, IsOneOf}
 use Rattle.weld_meaning.specs.Names.{IsFree, Binds}
 use Rattle.weld_rewriting.specs.Tidy.{IsTidy}
-use Rattle.weld_rewriting.specs.Weight.{weight, weight_in_legs, choice_weight}
 use Rattle.weld_rewriting.specs.Within.{StaysWithin}
 use Rattle.weld_rewriting.specs.Shape.{IsCongruence, EachPart, LegsRelate, LegRelates}
 use Rattle.weld_rewriting.specs.Rewriting.{Rewrites}
@@ -21,12 +20,7 @@ use Rattle.weld_vertical_struct.specs.Held.{depth, opened_loop, opened_result, o
 use Rattle.weld_vertical_struct.proofs.Parts.{Pair, IsPartNumber, IsElse, IsOfParts}
 use Rattle.weld_vertical_struct.proofs.Counting.{of_parts}
 use Rattle.weld_vertical_struct.proofs.Pairs.{IsPairOf, pair_of_parts, name_first, name_second}
-use Rattle.weld_vertical_struct.proofs.PairRule.{pair_rewrites, as_heavy}
-
--- what the rule answers may take the place of the `let`, and is as heavy
-pub record IsGood (d e : ExprTree) : Type 0 where
-  pub rewrites : Rewrites d e
-  pub heavy : weight d ≡ weight e
+use Rattle.weld_vertical_struct.proofs.PairRule.{pair_rewrites}
 
 -- ---- which expressions are names and pairs
 
@@ -63,14 +57,11 @@ pair_by P e f k (iterate a d b g) h = let nothing : ⊥ = cc in absurd nothing
 
 -- the answer of one `let`, where this part is the name
 abbrev LetOf : At → Binder → ℕ → ExprTree → ExprTree → ExprTree → ExprTree → Type 0
-LetOf a b i v e f g = (d : ExprTree) → IsTidy (let_in a b v g) → let_of_part a b i (name_of e) f g ≡ Some d → IsGood d (let_in a b v g)
+LetOf a b i v e f g = (d : ExprTree) → IsTidy (let_in a b v g) → let_of_part a b i (name_of e) f g ≡ Some d → Rewrites d (let_in a b v g)
 
-one_let : (a w : At) (b : Binder) (x i j : ℕ) (v f g : ExprTree) → i ≢ j → ((n : ℕ) → ((n == 0) || (n == 1)) ≡ true → (n ≡ i) ⊎ (n ≡ j)) → ((m : Pair) → m.s ≡ b.sym.0 → m.x ≡ x → m.i ≡ i → m.j ≡ j → IsPairOf m v (leaf w (name x)) f) → IsFree v x → IsTidy (let_in a b v g) → is_apart b.sym.0 x g ≡ true → IsGood (let_in a (unnoted b) f (parted b.sym.0 x i g)) (let_in a b v g)
+one_let : (a w : At) (b : Binder) (x i j : ℕ) (v f g : ExprTree) → i ≢ j → ((n : ℕ) → ((n == 0) || (n == 1)) ≡ true → (n ≡ i) ⊎ (n ≡ j)) → ((m : Pair) → m.s ≡ b.sym.0 → m.x ≡ x → m.i ≡ i → m.j ≡ j → IsPairOf m v (leaf w (name x)) f) → IsFree v x → IsTidy (let_in a b v g) → is_apart b.sym.0 x g ≡ true → Rewrites (let_in a (unnoted b) f (parted b.sym.0 x i g)) (let_in a b v g)
 one_let a w b x i j v f g ne numbers shape there tidy apart =
-    record {
-      rewrites = pair_rewrites m a w b refl v f g (shape m refl refl refl refl) (of_parts m numbers g clear apart) unnamed;
-      heavy = as_heavy m a w b refl v f g (shape m refl refl refl refl) (of_parts m numbers g clear apart) unnamed;
-    }
+    pair_rewrites m a w b refl v f g (shape m refl refl refl refl) (of_parts m numbers g clear apart) unnamed
   where
     unnamed : IsFree v b.sym.0 → ⊥
     unnamed = own_name a b v g tidy
@@ -92,16 +83,16 @@ let_first a w b e f g d tidy h = by (name_of e) refl h
         either false true p q k = inr (eqb-true n 1 q)
         either false false p q k = let nothing : ⊥ = cc in absurd nothing
 
-    found : (x : ℕ) → name_of e ≡ Some x → (c : Bool) → is_apart b.sym.0 x g ≡ c → (if c then Some (let_in a (unnoted b) f (parted b.sym.0 x 0 g)) else None) ≡ Some d → IsGood d (let_in a b (pair_of_parts w e f) g)
+    found : (x : ℕ) → name_of e ≡ Some x → (c : Bool) → is_apart b.sym.0 x g ≡ c → (if c then Some (let_in a (unnoted b) f (parted b.sym.0 x 0 g)) else None) ≡ Some d → Rewrites d (let_in a b (pair_of_parts w e f) g)
     found x k true p q =
         let is : let_in a (unnoted b) f (parted b.sym.0 x 0 g) ≡ d = cc in
-        subst (λ y. IsGood y (let_in a b (pair_of_parts w e f) g)) is
-        (name_by (λ y. IsTidy (let_in a b (pair_of_parts w y f) g) → IsGood (let_in a (unnoted b) f (parted b.sym.0 x 0 g)) (let_in a b (pair_of_parts w y f) g)) x
+        subst (λ y. Rewrites y (let_in a b (pair_of_parts w e f) g)) is
+        (name_by (λ y. IsTidy (let_in a b (pair_of_parts w y f) g) → Rewrites (let_in a (unnoted b) f (parted b.sym.0 x 0 g)) (let_in a b (pair_of_parts w y f) g)) x
         (λ u t. one_let a u b x 0 1 (pair_of_parts w (leaf u (name x)) f) f g (omega arith) numbers
         (λ m s0 x0 i0 j0. subst (λ z. IsPairOf m (pair_of_parts w (leaf u (name z)) f) (leaf u (name z)) f) x0 (name_first m i0 j0 w (leaf u (name m.x)) f)) (inl refl) t p) e k tidy)
     found x k false p q = let nothing : ⊥ = cc in absurd nothing
 
-    by : (o : Option ℕ) → name_of e ≡ o → let_of_part a b 0 o f g ≡ Some d → IsGood d (let_in a b (pair_of_parts w e f) g)
+    by : (o : Option ℕ) → name_of e ≡ o → let_of_part a b 0 o f g ≡ Some d → Rewrites d (let_in a b (pair_of_parts w e f) g)
     by None k h = let nothing : ⊥ = cc in absurd nothing
     by (Some x) k h = found x k (is_apart b.sym.0 x g) refl h
 
@@ -116,33 +107,33 @@ let_second a w b e f g d tidy h = by (name_of e) refl h
         either false true p q k = inl (eqb-true n 1 q)
         either false false p q k = let nothing : ⊥ = cc in absurd nothing
 
-    found : (x : ℕ) → name_of e ≡ Some x → (c : Bool) → is_apart b.sym.0 x g ≡ c → (if c then Some (let_in a (unnoted b) f (parted b.sym.0 x 1 g)) else None) ≡ Some d → IsGood d (let_in a b (pair_of_parts w f e) g)
+    found : (x : ℕ) → name_of e ≡ Some x → (c : Bool) → is_apart b.sym.0 x g ≡ c → (if c then Some (let_in a (unnoted b) f (parted b.sym.0 x 1 g)) else None) ≡ Some d → Rewrites d (let_in a b (pair_of_parts w f e) g)
     found x k true p q =
         let is : let_in a (unnoted b) f (parted b.sym.0 x 1 g) ≡ d = cc in
-        subst (λ y. IsGood y (let_in a b (pair_of_parts w f e) g)) is
-        (name_by (λ y. IsTidy (let_in a b (pair_of_parts w f y) g) → IsGood (let_in a (unnoted b) f (parted b.sym.0 x 1 g)) (let_in a b (pair_of_parts w f y) g)) x
+        subst (λ y. Rewrites y (let_in a b (pair_of_parts w f e) g)) is
+        (name_by (λ y. IsTidy (let_in a b (pair_of_parts w f y) g) → Rewrites (let_in a (unnoted b) f (parted b.sym.0 x 1 g)) (let_in a b (pair_of_parts w f y) g)) x
         (λ u t. one_let a u b x 1 0 (pair_of_parts w f (leaf u (name x))) f g (omega arith) numbers
         (λ m s0 x0 i0 j0. subst (λ z. IsPairOf m (pair_of_parts w f (leaf u (name z))) (leaf u (name z)) f) x0 (name_second m i0 j0 w (leaf u (name m.x)) f)) (inr (inl refl)) t p) e k tidy)
     found x k false p q = let nothing : ⊥ = cc in absurd nothing
 
-    by : (o : Option ℕ) → name_of e ≡ o → let_of_part a b 1 o f g ≡ Some d → IsGood d (let_in a b (pair_of_parts w f e) g)
+    by : (o : Option ℕ) → name_of e ≡ o → let_of_part a b 1 o f g ≡ Some d → Rewrites d (let_in a b (pair_of_parts w f e) g)
     by None k h = let nothing : ⊥ = cc in absurd nothing
     by (Some x) k h = found x k (is_apart b.sym.0 x g) refl h
 
-let_good : (a : At) (b : Binder) (v g d : ExprTree) → IsTidy (let_in a b v g) → let_without_pair a b (pair_of v) g ≡ Some d → IsGood d (let_in a b v g)
+let_good : (a : At) (b : Binder) (v g d : ExprTree) → IsTidy (let_in a b v g) → let_without_pair a b (pair_of v) g ≡ Some d → Rewrites d (let_in a b v g)
 let_good a b v g d tidy h = by (pair_of v) refl h
   where
-    either : (w : At) (e f : ExprTree) (o p : Option ExprTree) → IsTidy (let_in a b (pair_of_parts w e f) g) → let_of_part a b 0 (name_of e) f g ≡ o → let_of_part a b 1 (name_of f) e g ≡ p → first_of o p ≡ Some d → IsGood d (let_in a b (pair_of_parts w e f) g)
+    either : (w : At) (e f : ExprTree) (o p : Option ExprTree) → IsTidy (let_in a b (pair_of_parts w e f) g) → let_of_part a b 0 (name_of e) f g ≡ o → let_of_part a b 1 (name_of f) e g ≡ p → first_of o p ≡ Some d → Rewrites d (let_in a b (pair_of_parts w e f) g)
     either w e f (Some y) p tidy i j q = let_first a w b e f g d tidy (i ∙ q)
     either w e f None p tidy i j q = let_second a w b f e g d tidy (j ∙ q)
 
-    by : (o : Option (ExprTree × ExprTree)) → pair_of v ≡ o → let_without_pair a b o g ≡ Some d → IsGood d (let_in a b v g)
+    by : (o : Option (ExprTree × ExprTree)) → pair_of v ≡ o → let_without_pair a b o g ≡ Some d → Rewrites d (let_in a b v g)
     by None k h = let nothing : ⊥ = cc in absurd nothing
     by (Some y) k h =
-        pair_by (λ u. IsTidy (let_in a b u g) → IsGood d (let_in a b u g)) y.0 y.1
+        pair_by (λ u. IsTidy (let_in a b u g) → Rewrites d (let_in a b u g)) y.0 y.1
         (λ w t. either w y.0 y.1 (let_of_part a b 0 (name_of y.0) y.1 g) (let_of_part a b 1 (name_of y.1) y.0 g) t refl refl h) v k tidy
 
-pub pairs_good : (e d : ExprTree) → IsTidy e → pairs_rule e ≡ Some d → IsGood d e
+pub pairs_good : (e d : ExprTree) → IsTidy e → pairs_rule e ≡ Some d → Rewrites d e
 pairs_good (leaf w l) d t h = let nothing : ⊥ = cc in absurd nothing
 pairs_good (one a o e) d t h = let nothing : ⊥ = cc in absurd nothing
 pairs_good (two a o e f) d t h = let nothing : ⊥ = cc in absurd nothing
@@ -163,40 +154,40 @@ pub record Laws : Type 0 where
   pub within : (d e : ExprTree) → StaysWithin d e → IsTidy e → IsTidy d
 
 module _ (laws : Laws) where
-  good_itself : (e : ExprTree) → IsGood e e
-  good_itself e = record { rewrites = laws.itself e; heavy = refl }
+  good_itself : (e : ExprTree) → Rewrites e e
+  good_itself e = laws.itself e
 
-  settled_good : (e : ExprTree) → IsTidy e → IsGood (settled pairs_rule e) e
+  settled_good : (e : ExprTree) → IsTidy e → Rewrites (settled pairs_rule e) e
   settled_good e t = by (pairs_rule e) refl
     where
-      by : (o : Option ExprTree) → pairs_rule e ≡ o → IsGood (or_same o e) e
+      by : (o : Option ExprTree) → pairs_rule e ≡ o → Rewrites (or_same o e) e
       by None h = good_itself e
       by (Some d) h = pairs_good e d t h
 
-  within_good : (k : ExprTree → ExprTree) → ((e : ExprTree) → IsTidy e → IsGood (k e) e) → (e : ExprTree) → IsTidy e → IsGood (within_body k e) e
+  within_good : (k : ExprTree → ExprTree) → ((e : ExprTree) → IsTidy e → Rewrites (k e) e) → (e : ExprTree) → IsTidy e → Rewrites (within_body k e) e
   within_good k f (leaf a l) t = good_itself (leaf a l)
   within_good k f (one a o e) t = good_itself (one a o e)
   within_good k f (two a o e g) t = good_itself (two a o e g)
   within_good k f (three a o c e g) t =
       let p = laws.parts (three a o c e g) t in let x = f e p.1 in let y = f g p.2 in
-      record { rewrites = laws.through.at_three a o c (k e) (k g) c e g (laws.itself c) x.rewrites y.rewrites; heavy = omega (arith, x.heavy, y.heavy) }
+      laws.through.at_three a o c (k e) (k g) c e g (laws.itself c) x y
   within_good k f (many a o es) t = good_itself (many a o es)
   within_good k f (let_in a b v g) t =
       let p = laws.parts (let_in a b v g) t in let x = f g p.1 in
-      record { rewrites = laws.through.at_let a b v (k g) v g (laws.itself v) x.rewrites; heavy = omega (arith, x.heavy) }
+      laws.through.at_let a b v (k g) v g (laws.itself v) x
   within_good k f (loop a ls e b n y g) t = good_itself (loop a ls e b n y g)
   within_good k f (iterate a e b g) t = good_itself (iterate a e b g)
 
-  pub opened_good : (n : ℕ) (e : ExprTree) → IsTidy e → IsGood (opened n e) e
+  pub opened_good : (n : ℕ) (e : ExprTree) → IsTidy e → Rewrites (opened n e) e
   opened_good zero e t = good_itself e
   opened_good (suc n) e t =
       let x = settled_good e t in
-      let y = within_good (opened n) (opened_good n) (settled pairs_rule e) (laws.within (settled pairs_rule e) e x.rewrites.within t) in
-      record { rewrites = laws.in_turn (opened (suc n) e) (settled pairs_rule e) e y.rewrites x.rewrites; heavy = y.heavy ∙ x.heavy }
+      let y = within_good (opened n) (opened_good n) (settled pairs_rule e) (laws.within (settled pairs_rule e) e x.within t) in
+      laws.in_turn (opened (suc n) e) (settled pairs_rule e) e y x
 
   -- ---- the body of a producer
 
-  loop_good : (e : ExprTree) → IsTidy e → IsGood (opened_loop e) e
+  loop_good : (e : ExprTree) → IsTidy e → Rewrites (opened_loop e) e
   loop_good (leaf a l) t = good_itself (leaf a l)
   loop_good (one a o e) t = good_itself (one a o e)
   loop_good (two a o e f) t = good_itself (two a o e f)
@@ -205,7 +196,7 @@ module _ (laws : Laws) where
   loop_good (let_in a b e f) t = good_itself (let_in a b e f)
   loop_good (loop a ls e b n x f) t =
       let p = laws.parts (loop a ls e b n x f) t in let y = opened_good depth f p.2 in
-      record { rewrites = laws.through.at_loop a ls ls e e b n x (opened depth f) f (legs_same ls) (laws.itself e) y.rewrites; heavy = omega (arith, y.heavy) }
+      laws.through.at_loop a ls ls e e b n x (opened depth f) f (legs_same ls) (laws.itself e) y
     where
       leg_same : (l : LegTree) → LegRelates Rewrites l l
       leg_same (whole e) = laws.itself e
@@ -216,9 +207,9 @@ module _ (laws : Laws) where
       legs_same (more_legs l ls) = (leg_same l, legs_same ls)
   loop_good (iterate a e b f) t = good_itself (iterate a e b f)
 
-  result_good : (e : ExprTree) → IsTidy e → IsGood (opened_result e) e
+  result_good : (e : ExprTree) → IsTidy e → Rewrites (opened_result e) e
   result_good (leaf a l) t = good_itself (leaf a l)
-  result_good (one a o e) t = let y = loop_good e (laws.parts (one a o e) t) in record { rewrites = laws.through.at_one a o (opened_loop e) e y.rewrites; heavy = y.heavy }
+  result_good (one a o e) t = let y = loop_good e (laws.parts (one a o e) t) in laws.through.at_one a o (opened_loop e) e y
   result_good (two a o e f) t = good_itself (two a o e f)
   result_good (three a o c e f) t = good_itself (three a o c e f)
   result_good (many a o es) t = good_itself (many a o es)
@@ -226,7 +217,7 @@ module _ (laws : Laws) where
   result_good (loop a ls e b n x f) t = good_itself (loop a ls e b n x f)
   result_good (iterate a e b f) t = good_itself (iterate a e b f)
 
-  pub producer_good : (e : ExprTree) → IsTidy e → IsGood (opened_producer e) e
+  pub producer_good : (e : ExprTree) → IsTidy e → Rewrites (opened_producer e) e
   producer_good (leaf a l) t = good_itself (leaf a l)
   producer_good (one a o e) t = good_itself (one a o e)
   producer_good (two a o e f) t = good_itself (two a o e f)
@@ -236,10 +227,7 @@ module _ (laws : Laws) where
   producer_good (loop a no_legs e b n x f) t = good_itself (loop a no_legs e b n x f)
   producer_good (loop a (more_legs (whole v) ls) e b n x f) t =
       let p = laws.parts (loop a (more_legs (whole v) ls) e b n x f) t in let y = result_good v p.0.0 in
-      record {
-        rewrites = laws.through.at_loop a (more_legs (whole (opened_result v)) ls) (more_legs (whole v) ls) e e b n x f f (y.rewrites, legs_same ls) (laws.itself e) (laws.itself f);
-        heavy = omega (arith, y.heavy);
-      }
+      laws.through.at_loop a (more_legs (whole (opened_result v)) ls) (more_legs (whole v) ls) e e b n x f f (y, legs_same ls) (laws.itself e) (laws.itself f)
     where
       leg_same : (l : LegTree) → LegRelates Rewrites l l
       leg_same (whole e) = laws.itself e
@@ -256,4 +244,4 @@ module _ (laws : Laws) where
   pub held_rewrites : ((e : ExprTree) → IsTidy e → is_consumer e ≡ true → Rewrites (fused e) e) → (e : ExprTree) → IsTidy e → is_held e ≡ true → Rewrites (held_fused e) e
   held_rewrites fuses e t h =
       let x = producer_good e t in
-      laws.in_turn (held_fused e) (opened_producer e) e (fuses (opened_producer e) (laws.within (opened_producer e) e x.rewrites.within t) h) x.rewrites
+      laws.in_turn (held_fused e) (opened_producer e) e (fuses (opened_producer e) (laws.within (opened_producer e) e x.within t) h) x

@@ -17,7 +17,6 @@ use Rattle.weld_meaning.specs.Available.{Taken, Apart, TakesAll, without, at_pat
 use Rattle.weld_meaning.specs.Names.{IsFree, AgreeOn, Binds}
 use Rattle.weld_rewriting.specs.Placed.{IsPlaced}
 use Rattle.weld_rewriting.specs.Within.{times, legs, StaysWithin}
-use Rattle.weld_rewriting.specs.Weight.{weight}
 use Rattle.weld_rewriting.specs.Rewriting.{Rewrites}
 use Rattle.weld_rewriting.proofs.Counts.{times-append}
 use Rattle.weld_rewriting.proofs.Parts.{body_of_let}
@@ -29,7 +28,7 @@ use Rattle.weld_vertical_struct.proofs.Parts.{Pair, IsPartNumber, IsElse, part, 
 use Rattle.weld_vertical_struct.proofs.Renaming.{to_end, root, tail, root_first, tail_first, root_behind, tail_other, tail_else, IsPartOf, ArePaired}
 use Rattle.weld_vertical_struct.proofs.Taking.{Moved, origin_parted, taken_moved, splits_parted, keeps_parted}
 use Rattle.weld_vertical_struct.proofs.Typing.{TypesArePaired, type_parted, noted_parted, ThingsArePaired, eval_parted}
-use Rattle.weld_vertical_struct.proofs.Counting.{bound_stay, loops_stay, legs_stay, weight_stays, IsNamed, parted_named, parted_made, parted_spellable, not_named}
+use Rattle.weld_vertical_struct.proofs.Counting.{bound_stay, loops_stay, legs_stay, IsNamed, parted_named, parted_made, parted_spellable, not_named}
 use Rattle.weld_vertical_struct.proofs.Pairs.{IsPairOf}
 
 module _ (m : Pair) (a w : At) (b : Binder) (own : b.sym.0 ≡ m.s) (v f g : ExprTree) (shape : IsPairOf m v (leaf w (name m.x)) f) (uses : IsOfParts m g) (unnamed : IsFree v m.s → ⊥) where
@@ -291,9 +290,6 @@ module _ (m : Pair) (a w : At) (b : Binder) (own : b.sym.0 ≡ m.s) (v f g : Exp
           by (inl y) = inr (y, k.1)
           by (inr (inl e)) = inl (shape.part_names t e)
           by (inr (inr e)) = absurd (k.1 (e ∙ sym own))
-
-  pub as_heavy : weight answer ≡ weight pattern
-  as_heavy = omega (arith, shape.heavy, weight_stays m g)
 
   pub pair_rewrites : Rewrites answer pattern
   pair_rewrites = record {

@@ -16,7 +16,6 @@ use Rattle.weld_meaning.specs.Names.{IsFree}
 use Rattle.weld_check_types.specs.Notes.{AreNoted}
 use Rattle.weld_print.specs.Spellable.{IsSpellable}
 use Rattle.weld_rewriting.specs.Within.{times, legs}
-use Rattle.weld_rewriting.specs.Weight.{weight}
 use Rattle.weld_rewriting.proofs.Counts.{times-append}
 use Rattle.weld_vertical_struct.proofs.Parts.{Pair}
 use Rattle.weld_vertical_struct.proofs.Renaming.{IsPartOf}
@@ -78,7 +77,6 @@ pub record IsPairOf (m : Pair) (v e f : ExprTree) : Type 0 where
   pub binders : length (bound v) ≡ length (bound e) + length (bound f)
   pub loop_count : loops v ≡ loops e + loops f
   pub leg_count : legs v ≡ legs e + legs f
-  pub heavy : weight v ≡ weight e + weight f
   pub part_names : (t : ℕ) → IsFree e t → IsFree v t
   pub rest_names : (t : ℕ) → IsFree f t → IsFree v t
   pub made : IsWellMade v → IsWellMade f
@@ -146,7 +144,6 @@ name_first m p q w e f = record {
   binders = omega (arith, length-append (bound e) (bound f ++ []), length-append (bound f) []);
   loop_count = omega arith;
   leg_count = omega arith;
-  heavy = omega arith;
   part_names = λ t h. inl h;
   rest_names = λ t h. inr (inl h);
   made = λ h. h.1.1.0;
@@ -187,7 +184,6 @@ name_second m p q w e f = record {
   binders = omega (arith, length-append (bound f) (bound e ++ []), length-append (bound e) []);
   loop_count = omega arith;
   leg_count = omega arith;
-  heavy = omega arith;
   part_names = λ t h. inr (inl h);
   rest_names = λ t h. inl h;
   made = λ h. h.1.0;

@@ -6,10 +6,10 @@ use Rattle.weld_rewriting.specs.Nodes.{EachNode}
 use Rattle.weld_rewriting.specs.Sweep.{RootRule}
 use Rattle.weld_rewriting.specs.Tested.{tested}
 use Rattle.weld_vertical.specs.Sinking.{is_consumer, fused}
-use Rattle.weld_vertical_struct.specs.Parting.{opened}
+use Rattle.weld_vertical_struct.specs.Parting.{opened, has_pair}
 
 -- so many lets and ifs behind one another are looked through: no program that a text spells has more lets
-unfoldable pub depth : ℕ
+abbrev pub depth : ℕ
 depth = 1024
 
 -- ---- a producer with its pairs taken apart
@@ -52,6 +52,47 @@ opened_producer (many a o es) = many a o es
 opened_producer (let_in a b e f) = let_in a b e f
 opened_producer (loop a ls e b n x f) = loop a (opened_legs ls) e b n x f
 opened_producer (iterate a e b f) = iterate a e b f
+
+-- ---- in code
+
+abbrev pub loop_has_pair : ExprTree → Bool
+loop_has_pair (leaf a l) = false
+loop_has_pair (one a o e) = false
+loop_has_pair (two a o e f) = false
+loop_has_pair (three a o c e f) = false
+loop_has_pair (many a o es) = false
+loop_has_pair (let_in a b e f) = false
+loop_has_pair (loop a ls e b n x f) = has_pair f
+loop_has_pair (iterate a e b f) = false
+
+abbrev pub result_has_pair : ExprTree → Bool
+result_has_pair (leaf a l) = false
+result_has_pair (one a o e) = loop_has_pair e
+result_has_pair (two a o e f) = false
+result_has_pair (three a o c e f) = false
+result_has_pair (many a o es) = false
+result_has_pair (let_in a b e f) = false
+result_has_pair (loop a ls e b n x f) = false
+result_has_pair (iterate a e b f) = false
+
+abbrev pub leg_has_pair : LegTree → Bool
+leg_has_pair (whole e) = result_has_pair e
+leg_has_pair (strided e f g h) = false
+
+abbrev pub legs_have_pair : LegTrees → Bool
+legs_have_pair no_legs = false
+legs_have_pair (more_legs l ls) = leg_has_pair l
+
+-- whether there is a `let` of a pair in the body of the loop that makes the first leg
+abbrev pub producer_has_pair : ExprTree → Bool
+producer_has_pair (leaf a l) = false
+producer_has_pair (one a o e) = false
+producer_has_pair (two a o e f) = false
+producer_has_pair (three a o c e f) = false
+producer_has_pair (many a o es) = false
+producer_has_pair (let_in a b e f) = false
+producer_has_pair (loop a ls e b n x f) = legs_have_pair ls
+producer_has_pair (iterate a e b f) = false
 
 -- ---- the rule
 

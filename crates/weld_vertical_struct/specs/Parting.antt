@@ -29,6 +29,10 @@ abbrev pub parted_one : ℕ → ℕ → ℕ → At → Option ℕ → ExprTree �
 parted_one s x i a (Some n) e = leaf a (name (part_name s x i n))
 parted_one s x i a None e = e
 
+abbrev pub part_of_field : ℕ → ℕ → ℕ → At → Option ℕ → Option ExprTree
+part_of_field s x i a None = None
+part_of_field s x i a (Some n) = Some (leaf a (name (part_name s x i n)))
+
 abbrev mutual
   -- the expression with `x` for the pair's part of number `i` and `s` for the other, where `s` was the pair; what lambdas do stays
   pub parted : ℕ → ℕ → ℕ → ExprTree → ExprTree
@@ -181,3 +185,88 @@ within_body k (iterate a e b f) = iterate a e b f
 abbrev pub opened : ℕ → ExprTree → ExprTree
 opened zero e = e
 opened (suc n) e = within_body (opened n) (settled pairs_rule e)
+
+-- ---- in code
+
+abbrev pub one_part_is_apart : ℕ → ℕ → One → ExprTree → Bool
+one_part_is_apart s x o e = one_apart (field_taken s o e) (not (is_field o && is_part s e) && is_apart s x e)
+
+abbrev pub name_at : ℕ → ℕ → ℕ → Option ℕ → Option ℕ
+name_at s x i None = None
+name_at s x i (Some n) = Some (part_name s x i n)
+
+-- the name of the part that the expression takes of the pair
+abbrev pub name_of_field : ℕ → ℕ → ℕ → ExprTree → Option ℕ
+name_of_field s x i (leaf a l) = None
+name_of_field s x i (one a o e) = name_at s x i (field_taken s o e)
+name_of_field s x i (two a o e f) = None
+name_of_field s x i (three a o c e f) = None
+name_of_field s x i (many a o es) = None
+name_of_field s x i (let_in a b e f) = None
+name_of_field s x i (loop a ls e b n y f) = None
+name_of_field s x i (iterate a e b f) = None
+
+-- a field of the pair becomes the name of the part
+abbrev pub fields_rule : ℕ → ℕ → ℕ → RootRule
+fields_rule s x i (leaf a l) = None
+fields_rule s x i (one a o e) = part_of_field s x i a (field_taken s o e)
+fields_rule s x i (two a o e f) = None
+fields_rule s x i (three a o c e f) = None
+fields_rule s x i (many a o es) = None
+fields_rule s x i (let_in a b e f) = None
+fields_rule s x i (loop a ls e b n y f) = None
+fields_rule s x i (iterate a e b f) = None
+
+-- the number of the part that is a name, and the name, of a pair that its `let`'s body uses by its parts
+abbrev pub choice : ℕ → ℕ → Option ℕ → ExprTree → Option (ℕ × ℕ)
+choice s i None g = None
+choice s i (Some x) g = if is_apart s x g then Some (i, x) else None
+
+abbrev pub first_choice : Option (ℕ × ℕ) → Option (ℕ × ℕ) → Option (ℕ × ℕ)
+first_choice (Some c) o = Some c
+first_choice None o = o
+
+abbrev pub chosen : ℕ → Option (ExprTree × ExprTree) → ExprTree → Option (ℕ × ℕ)
+chosen s None g = None
+chosen s (Some p) g = first_choice (choice s 0 (name_of p.0) g) (choice s 1 (name_of p.1) g)
+
+abbrev pub chosen_at : ExprTree → Option (ℕ × ℕ)
+chosen_at (leaf a l) = None
+chosen_at (one a o e) = None
+chosen_at (two a o e f) = None
+chosen_at (three a o c e f) = None
+chosen_at (many a o es) = None
+chosen_at (let_in a b v g) = chosen b.sym.0 (pair_of v) g
+chosen_at (loop a ls e b n y f) = None
+chosen_at (iterate a e b f) = None
+
+-- the part of another number
+abbrev pub other_part : ℕ → Option (ExprTree × ExprTree) → ExprTree → ExprTree
+other_part n None d = d
+other_part zero (Some p) d = p.1
+other_part (suc n) (Some p) d = p.0
+
+-- the `let` without its pair, by what was chosen
+abbrev pub without_pair : ℕ → ℕ → ExprTree → ExprTree
+without_pair i x (leaf a l) = leaf a l
+without_pair i x (one a o e) = one a o e
+without_pair i x (two a o e f) = two a o e f
+without_pair i x (three a o c e f) = three a o c e f
+without_pair i x (many a o es) = many a o es
+without_pair i x (let_in a b v g) = let_in a (unnoted b) (other_part i (pair_of v) v) (parted b.sym.0 x i g)
+without_pair i x (loop a ls e b n y f) = loop a ls e b n y f
+without_pair i x (iterate a e b f) = iterate a e b f
+
+abbrev pub is_pair : ExprTree → Bool
+is_pair e = is_some (pair_of e)
+
+-- whether a `let` of a pair is reached from the body's top through bodies of lets and arms of ifs
+abbrev pub has_pair : ExprTree → Bool
+has_pair (leaf a l) = false
+has_pair (one a o e) = false
+has_pair (two a o e f) = false
+has_pair (three a o c e f) = has_pair e || has_pair f
+has_pair (many a o es) = false
+has_pair (let_in a b v g) = is_pair v || has_pair g
+has_pair (loop a ls e b n y f) = false
+has_pair (iterate a e b f) = false

@@ -1,2 +1,5 @@
 //! Loops over what other loops make that hold their builder in a pair.
 #![tactic(auto)]
+
+mod apart;
+mod lets;
