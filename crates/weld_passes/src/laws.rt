@@ -28,6 +28,7 @@ use weld_rewriting::replacing::{rewriting_is_an_order, rewritten_programs, tidin
 use weld_rewriting::rounds::laws::{rounds_rewrite, sweeps_fall};
 use weld_types::laws::the_walk_is_typing;
 use weld_vertical::laws::{chains_are_one_loop, loops_may_be_fused};
+use weld_vertical_struct::laws::held_loops_may_be_fused;
 use weld_vertical_zip::laws::made_legs_may_be_spliced;
 
 /// The rules of all passes as one make lighter and are sound; and where none of them matches, a program is in
@@ -40,6 +41,7 @@ pub fn all_rules_may_be_tried()
     lets_may_be_rewritten();
     guards_may_be_rewritten();
     loops_may_be_fused();
+    held_loops_may_be_fused();
     made_legs_may_be_spliced();
     legs_may_stand_once();
     loops_may_be_joined();

@@ -1,5 +1,4 @@
--- Taking pairs apart rewrites; so a loop over what a loop makes that holds its builder in pairs may be
--- rewritten to one loop.
+-- Taking pairs apart rewrites.
 use Rattle.std.specs.Prelude.{is_some}
 use Rattle.std.proofs.Common.{◌≡◌, ◌≢◌, ℕ, zero, suc, ◌+◌, ◌≤◌, ◌<◌, ◌==◌, if◌then◌else◌, Bool, true, false, ◌&&◌, ◌||◌, [], ◌∷◌, ◌++◌, Option, Some, None, refl, ap, sym, subst, ◌∙◌, ◌⊎◌, inl, inr, eqb-true, arith}
 use Rattle.weld_tree.specs.declared.binder.Binder.{Binder}
@@ -14,9 +13,8 @@ use Rattle.weld_rewriting.specs.Sweep.{RootRule, or_same, settled}
 use Rattle.weld_rewriting.specs.Either.{first_of}
 use Rattle.weld_substitution.proofs.Clear.{binds_each, second_of, own_name, clear_of}
 use Rattle.weld_substitution.proofs.Unnamed.{binds_so}
-use Rattle.weld_vertical.specs.Sinking.{is_consumer, fused}
 use Rattle.weld_vertical_struct.specs.Parting.{parted, is_apart, leaf_name, name_of, two_of, parts_of, pair_of, unnoted, let_of_part, let_without_pair, pairs_rule, within_body, opened}
-use Rattle.weld_vertical_struct.specs.Held.{depth, opened_loop, opened_result, opened_leg, opened_legs, opened_producer, is_held, held_fused}
+use Rattle.weld_vertical_struct.specs.Held.{depth, opened_loop, opened_result, opened_leg, opened_legs, opened_producer}
 use Rattle.weld_vertical_struct.proofs.Parts.{Pair, IsPartNumber, IsElse, IsOfParts}
 use Rattle.weld_vertical_struct.proofs.Counting.{of_parts}
 use Rattle.weld_vertical_struct.proofs.Pairs.{IsPairOf, pair_of_parts, name_first, name_second}
@@ -238,10 +236,3 @@ module _ (laws : Laws) where
       legs_same (more_legs l ls) = (leg_same l, legs_same ls)
   producer_good (loop a (more_legs (strided v u w y) ls) e b n x f) t = good_itself (loop a (more_legs (strided v u w y) ls) e b n x f)
   producer_good (iterate a e b f) t = good_itself (iterate a e b f)
-
-  -- ---- the rule
-
-  pub held_rewrites : ((e : ExprTree) → IsTidy e → is_consumer e ≡ true → Rewrites (fused e) e) → (e : ExprTree) → IsTidy e → is_held e ≡ true → Rewrites (held_fused e) e
-  held_rewrites fuses e t h =
-      let x = producer_good e t in
-      laws.in_turn (held_fused e) (opened_producer e) e (fuses (opened_producer e) (laws.within (opened_producer e) e x.within t) h) x

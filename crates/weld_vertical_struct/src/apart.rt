@@ -16,7 +16,13 @@ fn field_taken(pair: Sym, one: &OneForm, part: &Expr) -> Option<u32>
     ensures { result ≡ field_taken pair.0 (view_one one.now) part.now }
 {
     match one {
-        OneForm::Field(number) => { if is_use(part, pair) { Some(*number) } else { None } }
+        OneForm::Field(number) => {
+            if is_use(part, pair) {
+                Some(*number)
+            } else {
+                None
+            }
+        }
         OneForm::Neg | OneForm::Not | OneForm::Cast(_) | OneForm::Len => None,
         OneForm::Finish | OneForm::Builder(_) => None,
     }
@@ -74,8 +80,7 @@ fn one_is_apart(one: &OneForm, part: &Expr, pair: Sym, name: Sym) -> bool
     match field_taken(pair, one, part) {
         Some(number) => number == 0 || number == 1,
         None => {
-            !(matches!(one, OneForm::Field(_)) && is_part(part, pair))
-                && is_apart(part, pair, name)
+            !(matches!(one, OneForm::Field(_)) && is_part(part, pair)) && is_apart(part, pair, name)
         }
     }
 }

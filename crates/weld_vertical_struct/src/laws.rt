@@ -1,0 +1,25 @@
+//! The law of the rule, the contract of a function that does nothing.
+
+ghost use Rattle.weld_tree.specs.ExprTree.{ExprTree};
+ghost use Rattle.weld_rewriting.specs.Rules.{Falls, IsSound};
+ghost use Rattle.weld_rewriting.specs.Sweep.{IsStill};
+ghost use Rattle.weld_vertical_struct.specs.Held.{held_rule, HasNoHeldLoop};
+
+use crate::parting::pairs_are_taken_apart;
+use weld_rewriting::pass::laws::rules_are_tests;
+use weld_rewriting::replacing::{rewriting_is_an_order, tidiness_is_kept};
+use weld_vertical::laws::loops_may_be_fused;
+
+/// What the rule answers is lighter than a loop over what another makes that holds its builder in
+/// pairs, and may take its place; and where the rule is still, none stands.
+pub fn held_loops_may_be_fused()
+    ensures falls { Falls held_rule }
+    ensures sound { IsSound held_rule }
+    ensures still { (e : ExprTree) → IsStill held_rule e → HasNoHeldLoop e }
+{
+    pairs_are_taken_apart();
+    loops_may_be_fused();
+    rules_are_tests();
+    rewriting_is_an_order();
+    tidiness_is_kept();
+}
