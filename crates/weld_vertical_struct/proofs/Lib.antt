@@ -13,3 +13,4 @@ pub mod Left
 pub mod Choosing
 pub mod Trying
 pub mod Depth
+pub mod Cases
