@@ -7,7 +7,7 @@ use Rattle.weld_tree.specs.Program.{bound, IsOneOf}
 use Rattle.weld_meaning.specs.Names.{IsFree, Binds}
 use Rattle.weld_rewriting.specs.Tidy.{IsTidy}
 use Rattle.weld_rewriting.specs.Within.{StaysWithin}
-use Rattle.weld_rewriting.specs.Shape.{IsCongruence, EachPart, LegsRelate, LegRelates}
+use Rattle.weld_rewriting.specs.Shape.{IsCongruence, EachPart, LegHasEach, LegsHaveEach, LegsRelate, LegRelates}
 use Rattle.weld_rewriting.specs.Rewriting.{Rewrites}
 use Rattle.weld_rewriting.specs.Sweep.{RootRule, or_same, settled}
 use Rattle.weld_rewriting.specs.Either.{first_of}
@@ -222,17 +222,14 @@ module _ (laws : Laws) where
   producer_good (three a o c e f) t = good_itself (three a o c e f)
   producer_good (many a o es) t = good_itself (many a o es)
   producer_good (let_in a b e f) t = good_itself (let_in a b e f)
-  producer_good (loop a no_legs e b n x f) t = good_itself (loop a no_legs e b n x f)
-  producer_good (loop a (more_legs (whole v) ls) e b n x f) t =
-      let p = laws.parts (loop a (more_legs (whole v) ls) e b n x f) t in let y = result_good v p.0.0 in
-      laws.through.at_loop a (more_legs (whole (opened_result v)) ls) (more_legs (whole v) ls) e e b n x f f (y, legs_same ls) (laws.itself e) (laws.itself f)
+  producer_good (loop a ls e b n x f) t =
+      laws.through.at_loop a (opened_legs ls) ls e e b n x f f (legs_good ls (laws.parts (loop a ls e b n x f) t).0) (laws.itself e) (laws.itself f)
     where
-      leg_same : (l : LegTree) → LegRelates Rewrites l l
-      leg_same (whole e) = laws.itself e
-      leg_same (strided e f g h) = (laws.itself e, laws.itself f, laws.itself g, laws.itself h)
+      leg_good : (l : LegTree) → LegHasEach IsTidy l → LegRelates Rewrites (opened_leg l) l
+      leg_good (whole e) t = result_good e t
+      leg_good (strided e f g h) t = (laws.itself e, laws.itself f, laws.itself g, laws.itself h)
 
-      legs_same : (ls : LegTrees) → LegsRelate Rewrites ls ls
-      legs_same no_legs = tt
-      legs_same (more_legs l ls) = (leg_same l, legs_same ls)
-  producer_good (loop a (more_legs (strided v u w y) ls) e b n x f) t = good_itself (loop a (more_legs (strided v u w y) ls) e b n x f)
+      legs_good : (ls : LegTrees) → LegsHaveEach IsTidy ls → LegsRelate Rewrites (opened_legs ls) ls
+      legs_good no_legs t = tt
+      legs_good (more_legs l ls) t = (leg_good l t.0, legs_good ls t.1)
   producer_good (iterate a e b f) t = good_itself (iterate a e b f)

@@ -1,27 +1,24 @@
--- The rule by that of loops over what other loops make.
-use Rattle.std.proofs.Common.{◌≡◌, if◌then◌else◌, Bool, true, false, Option, Some, None, is_some, refl, ap, sym, ◌∙◌}
+-- A rule tried once the pairs are taken apart.
+use Rattle.std.proofs.Common.{◌≡◌, Bool, true, false, Option, Some, None, is_some, refl, ap, sym, subst, ◌∙◌}
 use Rattle.weld_tree.specs.ExprTree.{ExprTree}
-use Rattle.weld_rewriting.specs.Sweep.{or_same, settled}
-use Rattle.weld_vertical.specs.Sinking.{is_consumer, fused}
-use Rattle.weld_vertical.specs.Fusing.{loops_rule}
-use Rattle.weld_vertical_struct.specs.Held.{opened_producer, is_held, held_fused, held_rule, producer_has_pair}
+use Rattle.weld_rewriting.specs.Sweep.{RootRule, or_same, settled}
+use Rattle.weld_vertical_struct.specs.Held.{opened_producer, opened_rule, producer_has_pair}
 use Rattle.weld_vertical_struct.proofs.Weights.{producer_unopened}
 
--- where there is no pair, one rule is the other
-pub held_is : (e : ExprTree) → producer_has_pair e ≡ false → held_rule e ≡ loops_rule e
-held_is e h = ap (λ d. if is_consumer d then Some (fused d) else None) (producer_unopened e h)
+-- where there is no pair, it is as it was
+pub opened_is : (r : RootRule) (e : ExprTree) → producer_has_pair e ≡ false → opened_rule r e ≡ r e
+opened_is r e h = ap r (producer_unopened e h)
 
--- else it is the other once the pairs are taken apart
-pub held_none : (e : ExprTree) → is_some (loops_rule (opened_producer e)) ≡ false → held_rule e ≡ None
-held_none e h = by (is_consumer (opened_producer e)) h
+pub opened_left : (r : RootRule) (e : ExprTree) → is_some (r (opened_producer e)) ≡ false → settled (opened_rule r) e ≡ e
+opened_left r e h = by (r (opened_producer e)) h
   where
-    by : (b : Bool) → is_some (if b then Some (fused (opened_producer e)) else None) ≡ false → (if b then Some (fused (opened_producer e)) else None) ≡ None
-    by true k = let nothing : ⊥ = cc in absurd nothing
-    by false k = refl
+    by : (o : Option ExprTree) → is_some o ≡ false → or_same o e ≡ e
+    by (Some d) k = let nothing : ⊥ = cc in absurd nothing
+    by None k = refl
 
-pub held_some : (e : ExprTree) → is_some (loops_rule (opened_producer e)) ≡ true → settled held_rule e ≡ settled loops_rule (opened_producer e)
-held_some e h = by (is_consumer (opened_producer e)) h
+pub opened_matched : (r : RootRule) (e : ExprTree) → is_some (r (opened_producer e)) ≡ true → settled r (opened_producer e) ≡ settled (opened_rule r) e
+opened_matched r e h = by (r (opened_producer e)) h
   where
-    by : (b : Bool) → is_some (if b then Some (fused (opened_producer e)) else None) ≡ true → or_same (if b then Some (fused (opened_producer e)) else None) e ≡ or_same (if b then Some (fused (opened_producer e)) else None) (opened_producer e)
-    by true k = refl
-    by false k = let nothing : ⊥ = cc in absurd nothing
+    by : (o : Option ExprTree) → is_some o ≡ true → or_same o (opened_producer e) ≡ or_same o e
+    by (Some d) k = refl
+    by None k = let nothing : ⊥ = cc in absurd nothing

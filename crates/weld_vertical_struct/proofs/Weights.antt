@@ -5,9 +5,8 @@ use Rattle.weld_tree.specs.ExprTree.{At, ExprTree, leaf, one, two, three, many, 
 use Rattle.weld_rewriting.specs.Weight.{weight, weight_in, weight_in_leg, weight_in_legs}
 use Rattle.weld_rewriting.specs.Sweep.{or_same, settled}
 use Rattle.weld_rewriting.specs.Either.{first_of}
-use Rattle.weld_vertical.specs.Sinking.{is_consumer, fused}
 use Rattle.weld_vertical_struct.specs.Parting.{field_taken, parted_one, parted, all_parted, leg_parted, legs_parted, is_apart, name_of, two_of, parts_of, pair_of, unnoted, let_of_part, let_without_pair, pairs_rule, within_body, opened, is_pair, has_pair}
-use Rattle.weld_vertical_struct.specs.Held.{depth, opened_loop, opened_result, opened_leg, opened_legs, opened_producer, loop_has_pair, result_has_pair, leg_has_pair, legs_have_pair, producer_has_pair, is_held, held_fused}
+use Rattle.weld_vertical_struct.specs.Held.{depth, opened_loop, opened_result, opened_leg, opened_legs, opened_producer, loop_has_pair, result_has_pair, leg_has_pair, legs_have_pair, producer_has_pair}
 use Rattle.weld_vertical_struct.proofs.Parts.{field_by}
 
 module _ (s x i : ℕ) where
@@ -149,6 +148,14 @@ result_weighs (let_in a b v g) = refl
 result_weighs (loop a ls e b n y f) = refl
 result_weighs (iterate a e b f) = refl
 
+leg_weighs : (l : LegTree) → weight_in_leg (opened_leg l) ≡ weight_in_leg l
+leg_weighs (whole e) = result_weighs e
+leg_weighs (strided e f g h) = refl
+
+legs_weigh : (ls : LegTrees) → weight_in_legs (opened_legs ls) ≡ weight_in_legs ls
+legs_weigh no_legs = refl
+legs_weigh (more_legs l ls) = omega (arith, leg_weighs l, legs_weigh ls)
+
 pub producer_weighs : (e : ExprTree) → weight (opened_producer e) ≡ weight e
 producer_weighs (leaf a l) = refl
 producer_weighs (one a o e) = refl
@@ -156,15 +163,8 @@ producer_weighs (two a o e f) = refl
 producer_weighs (three a o c e f) = refl
 producer_weighs (many a o es) = refl
 producer_weighs (let_in a b v g) = refl
-producer_weighs (loop a no_legs e b n y f) = refl
-producer_weighs (loop a (more_legs (whole v) ls) e b n y f) = omega (arith, result_weighs v)
-producer_weighs (loop a (more_legs (strided v u w z) ls) e b n y f) = refl
+producer_weighs (loop a ls e b n y f) = omega (arith, legs_weigh ls)
 producer_weighs (iterate a e b f) = refl
-
--- ---- the rule makes lighter
-
-pub held_lighter : ((e : ExprTree) → is_consumer e ≡ true → weight (fused e) < weight e) → (e : ExprTree) → is_held e ≡ true → weight (held_fused e) < weight e
-held_lighter lighter e h = omega (arith, lighter (opened_producer e) h, producer_weighs e)
 
 -- ---- where there is no pair
 
@@ -210,6 +210,14 @@ result_unopened (let_in a b v g) h = refl
 result_unopened (loop a ls e b n y f) h = refl
 result_unopened (iterate a e b f) h = refl
 
+leg_unopened : (l : LegTree) → leg_has_pair l ≡ false → opened_leg l ≡ l
+leg_unopened (whole e) h = ap whole (result_unopened e h)
+leg_unopened (strided e f g k) h = refl
+
+legs_unopened : (ls : LegTrees) → legs_have_pair ls ≡ false → opened_legs ls ≡ ls
+legs_unopened no_legs h = refl
+legs_unopened (more_legs l ls) h = let k = or_none (leg_has_pair l) (legs_have_pair ls) h in let x = leg_unopened l k.0 in let y = legs_unopened ls k.1 in λ i. more_legs (x i) (y i)
+
 pub producer_unopened : (e : ExprTree) → producer_has_pair e ≡ false → opened_producer e ≡ e
 producer_unopened (leaf a l) h = refl
 producer_unopened (one a o e) h = refl
@@ -217,7 +225,5 @@ producer_unopened (two a o e f) h = refl
 producer_unopened (three a o c e f) h = refl
 producer_unopened (many a o es) h = refl
 producer_unopened (let_in a b v g) h = refl
-producer_unopened (loop a no_legs e b n y f) h = refl
-producer_unopened (loop a (more_legs (whole v) ls) e b n y f) h = ap (λ w. loop a (more_legs (whole w) ls) e b n y f) (result_unopened v h)
-producer_unopened (loop a (more_legs (strided v u w z) ls) e b n y f) h = refl
+producer_unopened (loop a ls e b n y f) h = ap (λ ks. loop a ks e b n y f) (legs_unopened ls h)
 producer_unopened (iterate a e b f) h = refl

@@ -1,11 +1,11 @@
 -- A loop over what another loop makes that holds its builder in pairs, as one loop: the pairs of the other's body are taken apart
 -- first.
-use Rattle.std.specs.Prelude.{◌≡◌, ℕ, Bool, false}
+use Rattle.std.specs.Prelude.{◌≡◌, ℕ, Bool, false, ◌||◌}
 use Rattle.weld_tree.specs.ExprTree.{ExprTree, leaf, one, two, three, many, let_in, loop, iterate, LegTree, whole, strided, LegTrees, no_legs, more_legs}
 use Rattle.weld_rewriting.specs.Nodes.{EachNode}
 use Rattle.weld_rewriting.specs.Sweep.{RootRule}
-use Rattle.weld_rewriting.specs.Tested.{tested}
 use Rattle.weld_vertical.specs.Sinking.{is_consumer, fused}
+use Rattle.weld_vertical.specs.Fusing.{loops_rule}
 use Rattle.weld_vertical_struct.specs.Parting.{opened, has_pair}
 
 -- so many lets and ifs behind one another are looked through: no program that a text spells has more lets
@@ -40,9 +40,9 @@ opened_leg (strided e f g h) = strided e f g h
 
 abbrev pub opened_legs : LegTrees → LegTrees
 opened_legs no_legs = no_legs
-opened_legs (more_legs l ls) = more_legs (opened_leg l) ls
+opened_legs (more_legs l ls) = more_legs (opened_leg l) (opened_legs ls)
 
--- a loop with the pairs taken apart in the body of the loop that makes its first leg; any other node as it is
+-- a loop with the pairs taken apart in the bodies of the loops that make its legs; any other node as it is
 abbrev pub opened_producer : ExprTree → ExprTree
 opened_producer (leaf a l) = leaf a l
 opened_producer (one a o e) = one a o e
@@ -81,9 +81,9 @@ leg_has_pair (strided e f g h) = false
 
 abbrev pub legs_have_pair : LegTrees → Bool
 legs_have_pair no_legs = false
-legs_have_pair (more_legs l ls) = leg_has_pair l
+legs_have_pair (more_legs l ls) = leg_has_pair l || legs_have_pair ls
 
--- whether there is a `let` of a pair in the body of the loop that makes the first leg
+-- whether there is a `let` of a pair in the body of a loop that makes a leg
 abbrev pub producer_has_pair : ExprTree → Bool
 producer_has_pair (leaf a l) = false
 producer_has_pair (one a o e) = false
@@ -94,7 +94,11 @@ producer_has_pair (let_in a b e f) = false
 producer_has_pair (loop a ls e b n x f) = legs_have_pair ls
 producer_has_pair (iterate a e b f) = false
 
--- ---- the rule
+-- ---- rules
+
+-- the rule tried once the pairs are taken apart; where it doesn't match then, nothing changes
+abbrev pub opened_rule : RootRule → RootRule
+opened_rule r e = r (opened_producer e)
 
 -- once the pairs are taken apart, the loop is over what another makes, which merges once a row, or once or not at all
 abbrev pub is_held : ExprTree → Bool
@@ -104,7 +108,7 @@ abbrev pub held_fused : ExprTree → ExprTree
 held_fused e = fused (opened_producer e)
 
 abbrev pub held_rule : RootRule
-held_rule = tested is_held held_fused
+held_rule = opened_rule loops_rule
 
 -- no node of the expression is such a loop
 abbrev pub HasNoHeldLoop : ExprTree → Type 0

@@ -9,4 +9,4 @@ mod pass;
 mod rule;
 
 pub use pass::fuse_held;
-pub use rule::Held;
+pub use rule::Opened;

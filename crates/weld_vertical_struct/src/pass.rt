@@ -6,10 +6,11 @@ ghost use Rattle.weld_rewriting.specs.Passed.{IsPassed};
 ghost use Rattle.weld_vertical_struct.specs.Held.{HasNoHeldLoop};
 
 use crate::laws::held_loops_may_be_fused;
-use crate::rule::Held;
+use crate::rule::Opened;
 use std::alloc::{AllocError, Global};
 use weld_meaning::Accepted;
 use weld_rewriting::pass::run_pass;
+use weld_vertical::Loops;
 
 /// The program with loops over what other loops make as one loop, also where the other holds its
 /// builder in pairs: where a `let` down its body is of a pair, one part of which is a name, and uses
@@ -22,5 +23,6 @@ pub fn fuse_held(alloc: Global, p: Accepted) -> Result<Accepted, AllocError>
     ensures no_redex_of_its_own { IfOk result (λ q. HasNoHeldLoop q.body) }
 {
     held_loops_may_be_fused();
-    run_pass(alloc, &Held, p)
+    let rule = Opened { rule: &Loops };
+    run_pass(alloc, &rule, p)
 }

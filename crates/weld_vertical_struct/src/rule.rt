@@ -1,6 +1,6 @@
-//! The rule of the pass.
+//! Rules tried once pairs are taken apart.
 
-ghost use Rattle.std.specs.Prelude.{◌≡◌, IfOk};
+ghost use Rattle.std.specs.Prelude.{◌≡◌, IfOk, map};
 ghost use Rattle.weld_tree.specs.ExprTree.{At, pack_legs};
 ghost use Rattle.weld_tree.specs.ExprView.{view_form, view_leg};
 ghost use Rattle.weld_vertical_struct.specs.Held.{leg_has_pair, legs_have_pair, loop_has_pair, opened_leg, opened_legs, opened_loop, opened_producer, opened_result, producer_has_pair, result_has_pair};
@@ -9,26 +9,27 @@ use crate::lets::{has_pair, open};
 use std::alloc::{AllocError, Global};
 use weld_rewriting::sweep::Rule;
 use weld_tree::{Expr, Form, Leg, Legs};
-use weld_vertical::Loops;
 
-/// A loop over what another loop makes becomes one loop, also where the other holds its builder in
-/// pairs.
+/// The rule, tried at a node once the pairs are taken apart in the bodies of the loops that make its
+/// legs. Where it doesn't match then, the node stays as it was.
 #[derive(Clone, Copy)]
-pub struct Held;
+pub struct Opened<'a, R> {
+    pub rule: &'a R,
+}
 
-impl Rule for Held {
-    ghost use Rattle.weld_vertical_struct.specs.Held.{held_rule};
+impl<'a, R: Rule> Rule for Opened<'a, R> {
+    ghost use Rattle.weld_vertical_struct.specs.Held.{opened_rule};
 
-    ghost rule = { λ _. held_rule };
+    ghost rule = { λ o. opened_rule (R.rule o.rule.now) };
 
-    #[tactic(auto, using(crate::proofs::Weights::producer_unopened, crate::proofs::Trying::held_none, crate::proofs::Trying::held_some, crate::proofs::Trying::held_is))]
+    #[tactic(auto, using(crate::proofs::Trying::opened_is, crate::proofs::Trying::opened_left, crate::proofs::Trying::opened_matched))]
     fn try_at(&self, alloc: Global, e: &mut Expr) -> Result<bool, AllocError> {
         if !producer_has_pair(&*e) {
-            return Loops.try_at(alloc, e);
+            return self.rule.try_at(alloc, e);
         }
         let mut copy = e.copy(alloc)?;
         open_producer(alloc, &mut copy)?;
-        if !Loops.try_at(alloc, &mut copy)? {
+        if !self.rule.try_at(alloc, &mut copy)? {
             return Ok(false);
         }
         *e = copy;
@@ -36,23 +37,30 @@ impl Rule for Held {
     }
 }
 
-/// Takes pairs apart in the body of the loop that makes the first leg.
+/// Takes pairs apart in the bodies of the loops that make the legs.
 fn open_producer(alloc: Global, e: &mut Expr) -> Result<(), AllocError>
     ensures { IfOk result (λ _. e.new ≡ opened_producer e.old) }
 {
     match &mut e.form {
-        Form::For(legs, _, _, _, _, _) => open_first_leg(alloc, legs),
+        Form::For(legs, _, _, _, _, _) => open_legs(alloc, legs),
         _ => Ok(()),
     }
 }
 
-fn open_first_leg(alloc: Global, legs: &mut Legs) -> Result<(), AllocError>
+fn open_legs(alloc: Global, legs: &mut Legs) -> Result<(), AllocError>
     ensures { IfOk result (λ _. pack_legs legs.new ≡ opened_legs (pack_legs legs.old)) }
 {
-    match legs.as_mut_slice() {
-        [leg, ..] => open_leg(alloc, leg),
-        _ => Ok(()),
+    open_each_leg(alloc, legs.as_mut_slice())
+}
+
+fn open_each_leg(alloc: Global, legs: &mut [Leg]) -> Result<(), AllocError>
+    ensures { IfOk result (λ _.
+        map view_leg legs.new ≡ map opened_leg (map view_leg legs.old)) }
+{
+    for leg in legs.iter_mut() {
+        open_leg(alloc, leg)?;
     }
+    Ok(())
 }
 
 fn open_leg(alloc: Global, leg: &mut Leg) -> Result<(), AllocError>
@@ -82,23 +90,26 @@ fn open_loop(alloc: Global, e: &mut Expr) -> Result<(), AllocError>
     }
 }
 
-/// Whether there is a `let` of a pair in the body of the loop that makes the first leg.
+/// Whether there is a `let` of a pair in the body of a loop that makes a leg.
 fn producer_has_pair(e: &Expr) -> bool
     ensures { result ≡ producer_has_pair e.now }
 {
     match &e.form {
-        Form::For(legs, _, _, _, _, _) => first_leg_has_pair(legs),
+        Form::For(legs, _, _, _, _, _) => legs_have_pair(legs),
         _ => false,
     }
 }
 
-fn first_leg_has_pair(legs: &Legs) -> bool
+#[tactic(auto, using(crate::proofs::Left::pair_there, crate::proofs::Left::no_pair_left))]
+fn legs_have_pair(legs: &Legs) -> bool
     ensures { result ≡ legs_have_pair (pack_legs legs.now) }
 {
-    match legs.as_slice() {
-        [leg, ..] => leg_has_pair(leg),
-        _ => false,
+    for leg in legs.as_slice() {
+        if leg_has_pair(leg) {
+            return true;
+        }
     }
+    false
 }
 
 fn leg_has_pair(leg: &Leg) -> bool
