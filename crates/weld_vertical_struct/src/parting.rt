@@ -13,8 +13,8 @@ use weld_rewriting::replacing::{
 
 /// A tidy `let` of a pair, one part of which is a name that its body doesn't use, may be rewritten to
 /// one of the other part, where the body uses the pair by its parts alone; so may a body be, down
-/// through the bodies of lets and the arms of ifs, and the body of the loop that makes a loop's first
-/// leg.
+/// through the bodies of lets and the arms of ifs, and the bodies of the loops that make a
+/// loop's legs.
 pub fn pairs_are_taken_apart()
     ensures at_a_let { (e d : ExprTree) → IsTidy e → pairs_rule e ≡ Some d → Rewrites d e }
     ensures down_a_body { (n : ℕ) (e : ExprTree) → IsTidy e → Rewrites (opened n e) e }
