@@ -16,4 +16,4 @@ run_pieces-requires-clause-merges g c =
     let outside = outside_given names k c.deref.result.now c.in-Some.made.uniforms.items _ (map g.L.Lane.number c.deref-in-Some-2.result.now) env c.deref.ensures.value (ap (map g.L.Lane.number) c.deref-in-Some-2.ensures.value) found in
     rows_merge g.L.Lane.number k c.in-Some.made.program c.in-Some.made.uniforms.items names c.args.body.now c.args.node.now c.deref-in-Some-2.result.now c.args.columns.now.first.now c.args.columns.now.second.now env (lists_of c.args.legs.now) c.args.to
     (c.is_same.ensures is_same ∙ c.requires.kind) c.requires.named (c.is_own_apart.ensures is_apart) outside c.requires.columns
-    (meant c.in_ok-made.field-0 c.in-Some.made names.is_pair names.row.0 names.own.0 c.args.body.now c.in-Some.is c.in_ok-made.ensures)
+    (meant c.in_ok-made.field-0 c.in-Some.made names.is_pair names.row.0 names.own.0 c.args.body.now c.in-Some.is c.in_ok-made.ensures.means)
