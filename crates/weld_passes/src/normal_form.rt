@@ -70,7 +70,7 @@ fn optimise_body(alloc: Global, body: &mut Expr) -> Result<(), AllocError>
 {
     all_rules_may_be_tried();
     fuse_chain(alloc, body)?;
-    let held_legs = Opened { rule: &Zips };
+    let held_legs = Opened { rule: Zips };
     let held_or_beside = Either {
         first: &held_legs,
         second: &Beside,
@@ -83,7 +83,7 @@ fn optimise_body(alloc: Global, body: &mut Expr) -> Result<(), AllocError>
         first: &Doubles,
         second: &over_one,
     };
-    let held = Opened { rule: &Loops };
+    let held = Opened { rule: Loops };
     let of_held = Either {
         first: &held,
         second: &of_legs,

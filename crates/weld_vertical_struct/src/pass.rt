@@ -23,6 +23,6 @@ pub fn fuse_held(alloc: Global, p: Accepted) -> Result<Accepted, AllocError>
     ensures no_redex_of_its_own { IfOk result (λ q. HasNoHeldLoop q.body) }
 {
     held_loops_may_be_fused();
-    let rule = Opened { rule: &Loops };
+    let rule = Opened { rule: Loops };
     run_pass(alloc, &rule, p)
 }

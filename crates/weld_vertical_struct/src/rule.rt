@@ -13,14 +13,14 @@ use weld_tree::{Expr, Form, Leg, Legs};
 /// The rule, tried at a node once the pairs are taken apart in the bodies of the loops that make its
 /// legs. Where it doesn't match then, the node stays as it was.
 #[derive(Clone, Copy)]
-pub struct Opened<'a, R> {
-    pub rule: &'a R,
+pub struct Opened<R> {
+    pub rule: R,
 }
 
-impl<'a, R: Rule> Rule for Opened<'a, R> {
+impl<R: Rule> Rule for Opened<R> {
     ghost use Rattle.weld_vertical_struct.specs.Held.{opened_rule};
 
-    ghost rule = { λ o. opened_rule (R.rule o.rule.now) };
+    ghost rule = { λ o. opened_rule (R.rule o.rule) };
 
     #[tactic(auto, using(crate::proofs::Trying::opened_is, crate::proofs::Trying::opened_left, crate::proofs::Trying::opened_matched))]
     fn try_at(&self, alloc: Global, e: &mut Expr) -> Result<bool, AllocError> {
