@@ -34,9 +34,13 @@ held_legs_rule = opened_rule zips_rule
 abbrev pub HasNoHeldLeg : ExprTree → Type 0
 HasNoHeldLeg e = EachNode (λ node. is_zipped (opened_producer node) ≡ false) e
 
+-- the rules on the legs of a loop, and on loops side by side
+abbrev pub legs_rules : RootRule
+legs_rules = either doubles_rule (either spare_legs_rule (either held_legs_rule beside_rule))
+
 -- the rules of all passes as one
 abbrev pub all_rules : RootRule
-all_rules = either lets_rule (either guards_rule (either loops_rule (either held_rule (either doubles_rule (either spare_legs_rule (either held_legs_rule beside_rule))))))
+all_rules = either lets_rule (either guards_rule (either loops_rule (either held_rule legs_rules)))
 
 -- the body after so many sweeps with them, once its chain of loops was fused
 abbrev pub optimised_body : ℕ → ExprTree → ExprTree

@@ -13,11 +13,9 @@ ghost use Rattle.weld_passes.specs.Normal.{all_rules, optimised_body, IsOptimise
 
 use crate::laws::{all_rules_may_be_tried, bodies_are_rewritten};
 use crate::normal::Normal;
-use crate::spare_legs::SpareLegs;
+use crate::of_legs::OfLegs;
 use std::alloc::{AllocError, Global};
-use weld_horizontal::Doubles;
 use weld_inline::Lets;
-use weld_joining::Beside;
 use weld_meaning::Accepted;
 use weld_predicate::Guards;
 use weld_print::reads_back::{printed_programs_read_back, texts_spell_the_spellable};
@@ -27,7 +25,6 @@ use weld_rewriting::rounds::sweep_until_still;
 use weld_tree::{Expr, Program};
 use weld_vertical::{Loops, fuse_chain};
 use weld_vertical_struct::Opened;
-use weld_vertical_zip::Zips;
 
 /// The program in normal form (as far as this project goes): no `let` stands in it that can be put in
 /// place, no guarded merge that can be merged always, no loop over what another loop makes row by row,
@@ -70,23 +67,10 @@ fn optimise_body(alloc: Global, body: &mut Expr) -> Result<(), AllocError>
 {
     all_rules_may_be_tried();
     fuse_chain(alloc, body)?;
-    let held_legs = Opened { rule: Zips };
-    let held_or_beside = Either {
-        first: &held_legs,
-        second: &Beside,
-    };
-    let over_one = Either {
-        first: &SpareLegs,
-        second: &held_or_beside,
-    };
-    let of_legs = Either {
-        first: &Doubles,
-        second: &over_one,
-    };
     let held = Opened { rule: Loops };
     let of_held = Either {
         first: &held,
-        second: &of_legs,
+        second: &OfLegs,
     };
     let of_loops = Either {
         first: &Loops,
