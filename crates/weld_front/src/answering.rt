@@ -95,10 +95,10 @@ fn answer_parts<R: Threads + Sync, G: Gate>(
     ensures { IfOk result (λ answer. AnswersParts asked.options job answer.status answer.text) }
 {
     match asked.options.command {
-        Command::Run => answer_run(rt, alloc, &job, asked, gate),
+        Command::Run => answer_run(rt, alloc, job, asked, gate),
         Command::Check => check_job(rt, alloc, job),
         Command::Show => answer_show(alloc, &job),
-        Command::Session => answer_session(rt, alloc, &job, asked, gate),
+        Command::Session => answer_session(rt, alloc, job, asked, gate),
         Command::Soak => unreachable!(),
     }
 }

@@ -1,7 +1,8 @@
-ghost use Rattle.std.specs.Prelude.{◌≡◌, IfOk};
+ghost use Rattle.std.specs.Prelude.{◌≡◌, ◌<◌, IfOk, IfErr};
 ghost use Rattle.weld_data.specs.View.{view_val};
 ghost use Rattle.weld_tree.specs.Program.{loops};
-ghost use Rattle.weld_meaning.specs.Typing.{ProgramHas};
+ghost use Rattle.weld_inputs.specs.Arguments.{Arguments, IsUnfit, Tells};
+ghost use Rattle.weld_meaning.specs.Typing.{ParamsFit, ProgramHas};
 ghost use Rattle.weld_meaning.specs.Meaning.{ArgumentsFit, meaning};
 ghost use Rattle.weld_check_types.specs.Notes.{ProgramIsNoted};
 ghost use Rattle.weld_eval.specs.Answers.{Answers};
@@ -70,25 +71,26 @@ pub(crate) fn count_loops(program: &Program) -> u64
     program.body.loops()
 }
 
-/// What an accepted program is answered with on arguments of its types.
+/// What an accepted program is answered with on arguments of its types, which are let go before the answer is made.
 fn run_on<R: Threads + Sync, G: Gate>(
     rt: &R,
     alloc: Global,
     program: Accepted,
     ty: &Ty,
-    arguments: &Vals,
+    arguments: Vals,
     asked: Asked,
     gate: &G,
 ) -> Result<Answer, AllocError>
     requires typed { ProgramHas program ty.now }
     requires noted { ProgramIsNoted program }
-    requires fit { ArgumentsFit program.params arguments.now }
-    ensures { IfOk result (λ answer. ProgramConcludes asked.options program ty.now arguments.now answer.status answer.text) }
+    requires fit { ArgumentsFit program.params arguments }
+    ensures { IfOk result (λ answer. ProgramConcludes asked.options program ty.now arguments answer.status answer.text) }
 {
     typed_programs_are_never_stuck();
     let loops = count_loops(program.program());
-    match run_program(rt, alloc, program, arguments, asked, gate) {
+    match run_program(rt, alloc, program, &arguments, asked, gate) {
         Ok((value, note)) => {
+            drop(arguments);
             let options = asked.options;
             done(
                 rt,
@@ -106,28 +108,39 @@ fn run_on<R: Threads + Sync, G: Gate>(
     }
 }
 
-/// What an accepted program is answered with on the data of the job.
+/// The arguments that the job's data give the program. The job is let go.
+fn take_arguments(
+    rt: &(impl Threads + Sync),
+    alloc: Global,
+    program: &Accepted,
+    job: Job,
+    workers: u32,
+) -> Result<Vals, DataStop>
+    requires fit { ParamsFit program.now.params }
+    requires some_worker { 0 < workers }
+    ensures arguments { IfOk result (Arguments program.now.params job) }
+    ensures typed { IfOk result (ArgumentsFit program.now.params) }
+    ensures unfit { IfErr result (Tells (IsUnfit program.now.params job)) }
+{
+    read_arguments(rt, alloc, &program.program().params, &job, workers)
+}
+
+/// What an accepted program is answered with on the data of the job, which is let go before the program is run.
 fn run_job<R: Threads + Sync, G: Gate>(
     rt: &R,
     alloc: Global,
     checked: Checked,
-    job: &Job,
+    job: Job,
     asked: Asked,
     gate: &G,
 ) -> Result<Answer, AllocError>
     requires typed { ProgramHas checked.program checked.ty }
     requires noted { ProgramIsNoted checked.program }
-    ensures { IfOk result (λ answer. ProgramAnswers asked.options checked.program checked.ty job.now answer.status answer.text) }
+    ensures { IfOk result (λ answer. ProgramAnswers asked.options checked.program checked.ty job answer.status answer.text) }
 {
     let Checked { program, ty } = checked;
-    match read_arguments(
-        rt,
-        alloc,
-        &program.program().params,
-        job,
-        asked.options.workers,
-    ) {
-        Ok(arguments) => run_on(rt, alloc, program, &ty, &arguments, asked, gate),
+    match take_arguments(rt, alloc, &program, job, asked.options.workers) {
+        Ok(arguments) => run_on(rt, alloc, program, &ty, arguments, asked, gate),
         Err(DataStop::Unfit(number, code)) => unfit(alloc, number, code),
         Err(DataStop::Memory) => Err(AllocError),
     }
@@ -137,11 +150,11 @@ fn run_job<R: Threads + Sync, G: Gate>(
 pub(crate) fn answer_run<R: Threads + Sync, G: Gate>(
     rt: &R,
     alloc: Global,
-    job: &Job,
+    job: Job,
     asked: Asked,
     gate: &G,
 ) -> Result<Answer, AllocError>
-    ensures { IfOk result (λ answer. RunAnswers asked.options job.now answer.status answer.text) }
+    ensures { IfOk result (λ answer. RunAnswers asked.options job answer.status answer.text) }
 {
     notes_play_no_part();
     meaning_looks_past_spelling();

@@ -1,10 +1,12 @@
-ghost use Rattle.std.specs.Prelude.{◌≡◌, IfOk, MatchOption};
+ghost use Rattle.std.specs.Prelude.{◌≡◌, ◌<◌, IfOk, IfErr, MatchOption};
 ghost use Rattle.weld_data.specs.View.{view_val};
 ghost use Rattle.weld_meaning.specs.Meaning.{ArgumentsFit, meaning};
 ghost use Rattle.weld_check_types.specs.Notes.{ProgramIsNoted};
 ghost use Rattle.weld_check_types.specs.Unnoted.{IsSameButNotes};
 ghost use Rattle.weld_eval.specs.Answers.{Answers};
 ghost use Rattle.weld_share.specs.Counts.{IsNote};
+ghost use Rattle.weld_inputs.specs.Arguments.{Tells};
+ghost use Rattle.weld_inputs.specs.Inputs.{Inputs, IsUnfit};
 ghost use Rattle.weld_script.specs.Script.{AreInputs, declared_of};
 ghost use Rattle.weld_session.specs.Answer.{IsGathered};
 ghost use Rattle.weld_front.specs.Sessions.{IsPastSizes, IsCountedOf, ScriptConcludes, ScriptAnswers, SessionAnswers, SoakAnswers};
@@ -119,6 +121,7 @@ fn conclude_script<R: Threads + Sync, G: Gate>(
     let loops = count_loops(program.program());
     match run_gathered(rt, alloc, program, &inputs, asked, gate) {
         Ok((value, note)) => {
+            drop(inputs);
             let options = asked.options;
             done(
                 rt,
@@ -136,18 +139,34 @@ fn conclude_script<R: Threads + Sync, G: Gate>(
     }
 }
 
-/// What a script is answered with on the data of the job.
+/// The values that the job's data give the declarations. The job is let go.
+fn take_inputs(
+    rt: &(impl Threads + Sync),
+    alloc: Global,
+    script: &Script,
+    job: Job,
+    workers: u32,
+) -> Result<Vals, DataStop>
+    requires some_worker { 0 < workers }
+    ensures inputs { IfOk result (Inputs (declared_of script.now.made) job) }
+    ensures typed { IfOk result (AreInputs (declared_of script.now.made)) }
+    ensures unfit { IfErr result (Tells (IsUnfit (declared_of script.now.made) job)) }
+{
+    read_inputs(rt, alloc, script, &job, workers)
+}
+
+/// What a script is answered with on the data of the job, which is let go before the program is run.
 fn answer_script<R: Threads + Sync, G: Gate>(
     rt: &R,
     alloc: Global,
     script: &Script,
-    job: &Job,
+    job: Job,
     asked: Asked,
     gate: &G,
 ) -> Result<Answer, AllocError>
-    ensures { IfOk result (λ answer. ScriptAnswers asked.options script.now job.now answer.status answer.text) }
+    ensures { IfOk result (λ answer. ScriptAnswers asked.options script.now job answer.status answer.text) }
 {
-    match read_inputs(rt, alloc, script, job, asked.options.workers) {
+    match take_inputs(rt, alloc, script, job, asked.options.workers) {
         Ok(inputs) => conclude_script(rt, alloc, script, inputs, asked, gate),
         Err(DataStop::Unfit(number, code)) => unfit(alloc, number, code),
         Err(DataStop::Memory) => Err(AllocError),
@@ -158,11 +177,11 @@ fn answer_script<R: Threads + Sync, G: Gate>(
 pub(crate) fn answer_session<R: Threads + Sync, G: Gate>(
     rt: &R,
     alloc: Global,
-    job: &Job,
+    job: Job,
     asked: Asked,
     gate: &G,
 ) -> Result<Answer, AllocError>
-    ensures { IfOk result (λ answer. SessionAnswers asked.options job.now answer.status answer.text) }
+    ensures { IfOk result (λ answer. SessionAnswers asked.options job answer.status answer.text) }
 {
     match read_script(alloc, job.text()) {
         Ok(script) => answer_script(rt, alloc, &script, job, asked, gate),

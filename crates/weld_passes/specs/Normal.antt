@@ -1,5 +1,5 @@
 -- The normal form of programs, and what stands in a program's place when it is run or shown.
-use Rattle.std.specs.Prelude.{◌≡◌, ◌+◌, ◌≤◌, ℕ}
+use Rattle.std.specs.Prelude.{◌≡◌, ◌+◌, ◌≤◌, ℕ, false}
 use Rattle.weld_tree.specs.Blank.{AreSame}
 use Rattle.weld_tree.specs.ExprTree.{ExprTree}
 use Rattle.weld_tree.specs.Program.{ProgramTree, loops}
@@ -15,7 +15,10 @@ use Rattle.weld_inline.specs.Inlining.{HasNoSuchLet, lets_rule}
 use Rattle.weld_predicate.specs.Predicating.{HasNoGuard, guards_rule}
 use Rattle.weld_vertical.specs.Chains.{IsChainProgram, chain_fused}
 use Rattle.weld_vertical.specs.Fusing.{HasNoSuchLoop, loops_rule}
+use Rattle.weld_vertical_struct.specs.Held.{HasNoHeldLoop, held_rule, opened_rule, opened_producer}
 use Rattle.weld_vertical_zip.specs.Zips.{HasNoMadeLeg, zips_rule}
+use Rattle.weld_vertical_zip.specs.Zipping.{is_zipped}
+use Rattle.weld_rewriting.specs.Nodes.{EachNode}
 use Rattle.weld_horizontal.specs.Doubles.{HasNoDouble, doubles_rule}
 use Rattle.weld_joining.specs.Joining.{HasNoPair, beside_rule}
 
@@ -23,23 +26,37 @@ use Rattle.weld_joining.specs.Joining.{HasNoPair, beside_rule}
 abbrev pub spare_legs_rule : RootRule
 spare_legs_rule = followed 16 zips_rule doubles_rule
 
+-- a list on a leg of a `zip` isn't made, also where the loop that makes it holds its builder in pairs
+abbrev pub held_legs_rule : RootRule
+held_legs_rule = opened_rule zips_rule
+
+-- no node of the expression is a `zip` with such a leg
+abbrev pub HasNoHeldLeg : ExprTree → Type 0
+HasNoHeldLeg e = EachNode (λ node. is_zipped (opened_producer node) ≡ false) e
+
+-- the rules on the legs of a loop, and on loops side by side
+abbrev pub legs_rules : RootRule
+legs_rules = either doubles_rule (either spare_legs_rule (either held_legs_rule beside_rule))
+
 -- the rules of all passes as one
 abbrev pub all_rules : RootRule
-all_rules = either lets_rule (either guards_rule (either loops_rule (either doubles_rule (either spare_legs_rule beside_rule))))
+all_rules = either lets_rule (either guards_rule (either loops_rule (either held_rule legs_rules)))
 
 -- the body after so many sweeps with them, once its chain of loops was fused
 abbrev pub optimised_body : ℕ → ExprTree → ExprTree
 optimised_body n e = swept_times n all_rules (chain_fused e)
 
 -- nothing stands in the program that a pass would rewrite (as far as this project goes): no `let` that can be put in
--- place, no guarded merge that can be merged always, no loop over what another loop makes row by row, no such list on a
--- leg of a `zip`, no leg that stands twice in one loop, and no two lets of loops over one name or of their results with
--- none but results of names between them
+-- place, no guarded merge that can be merged always, no loop over what another loop makes row by row, no such
+-- list on a leg of a `zip`, also where what makes it holds its builder in pairs, no leg that stands twice in one loop, and no two lets of
+-- loops over one name or of their results with none but results of names between them
 pub record IsNormal (q : ProgramTree) : Type 0 where
   pub no_let : HasNoSuchLet q.body
   pub no_guard : HasNoGuard q.body
   pub no_loop_over_a_loop : HasNoSuchLoop q.body
+  pub no_held_loop : HasNoHeldLoop q.body
   pub no_made_leg : HasNoMadeLeg q.body
+  pub no_held_leg : HasNoHeldLeg q.body
   pub no_leg_twice : HasNoDouble q.body
   pub no_loops_side_by_side : HasNoPair q.body
 

@@ -23,11 +23,12 @@ use weld_joining::laws::loops_may_be_joined;
 use weld_meaning::laws::{the_walk_is_linear_use, types_are_unique};
 use weld_predicate::laws::guards_may_be_rewritten;
 use weld_print::reads_back::{printed_programs_read_back, texts_spell_the_spellable};
-use weld_rewriting::pass::laws::{rules_may_be_joined, rules_may_follow};
+use weld_rewriting::pass::laws::{rules_are_tests, rules_may_be_joined, rules_may_follow};
 use weld_rewriting::replacing::{rewriting_is_an_order, rewritten_programs, tidiness_is_kept};
 use weld_rewriting::rounds::laws::{rounds_rewrite, sweeps_fall};
 use weld_types::laws::the_walk_is_typing;
 use weld_vertical::laws::{chains_are_one_loop, loops_may_be_fused};
+use weld_vertical_struct::laws::{held_loops_may_be_fused, rules_may_be_tried_on_parts};
 use weld_vertical_zip::laws::made_legs_may_be_spliced;
 
 /// The rules of all passes as one make lighter and are sound; and where none of them matches, a program is in
@@ -40,9 +41,12 @@ pub fn all_rules_may_be_tried()
     lets_may_be_rewritten();
     guards_may_be_rewritten();
     loops_may_be_fused();
+    held_loops_may_be_fused();
+    rules_may_be_tried_on_parts();
     made_legs_may_be_spliced();
     legs_may_stand_once();
     loops_may_be_joined();
+    rules_are_tests();
     rules_may_be_joined();
     rules_may_follow();
 }

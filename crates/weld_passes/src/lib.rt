@@ -4,6 +4,7 @@
 pub mod laws;
 mod normal;
 mod normal_form;
+mod of_legs;
 mod spare_legs;
 
 pub use normal::Normal;

@@ -13,11 +13,9 @@ ghost use Rattle.weld_passes.specs.Normal.{all_rules, optimised_body, IsOptimise
 
 use crate::laws::{all_rules_may_be_tried, bodies_are_rewritten};
 use crate::normal::Normal;
-use crate::spare_legs::SpareLegs;
+use crate::of_legs::OfLegs;
 use std::alloc::{AllocError, Global};
-use weld_horizontal::Doubles;
 use weld_inline::Lets;
-use weld_joining::Beside;
 use weld_meaning::Accepted;
 use weld_predicate::Guards;
 use weld_print::reads_back::{printed_programs_read_back, texts_spell_the_spellable};
@@ -26,11 +24,13 @@ use weld_rewriting::replacing::{rewritten_programs, tidiness_is_kept};
 use weld_rewriting::rounds::sweep_until_still;
 use weld_tree::{Expr, Program};
 use weld_vertical::{Loops, fuse_chain};
+use weld_vertical_struct::Opened;
 
 /// The program in normal form (as far as this project goes): no `let` stands in it that can be put in
 /// place, no guarded merge that can be merged always, no loop over what another loop makes row by row,
-/// no such list on a leg of a `zip`, no leg that stands twice in one loop, and no two lets of loops over
-/// one name or of their results with none but results of names between them. It means the same on all
+/// no such list on a leg of a `zip`, also where what makes it holds its builder in pairs, no leg that
+/// stands twice in one loop, and no two lets of loops over one name or of their results with none but
+/// results of names between them. It means the same on all
 /// arguments that fit, faults included, and has no more legs and loops; where it was a chain of loops,
 /// each but the first is gone; and where some text spelled it, noted types apart, its printed text
 /// spells it. It asks for a program whose nodes have their types noted, as the checker leaves it. It
@@ -67,17 +67,14 @@ fn optimise_body(alloc: Global, body: &mut Expr) -> Result<(), AllocError>
 {
     all_rules_may_be_tried();
     fuse_chain(alloc, body)?;
-    let over_one = Either {
-        first: &SpareLegs,
-        second: &Beside,
-    };
-    let of_legs = Either {
-        first: &Doubles,
-        second: &over_one,
+    let held = Opened { rule: Loops };
+    let of_held = Either {
+        first: &held,
+        second: &OfLegs,
     };
     let of_loops = Either {
         first: &Loops,
-        second: &of_legs,
+        second: &of_held,
     };
     let others = Either {
         first: &Guards,

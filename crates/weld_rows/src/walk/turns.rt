@@ -17,6 +17,7 @@ use weld_eval::frame::{Frame, bind};
 use weld_eval::thing::{Held, Owned, into_value};
 use weld_eval_forms::turn::pair_of;
 use weld_tree::{Expr, Form};
+use weld_turns::turns_in_slots;
 
 /// How many turns an `iterate` may take.
 const TURN_LIMIT: u32 = 1_000_000;
@@ -58,7 +59,8 @@ fn first_state(e: &Expr, frame: &Frame, alloc: Global) -> Result<Val, Stop>
 }
 
 /// The turns of an `iterate` from a state, until one says that it is the last; the millionth may be the
-/// last, and one more is a fault. The loops in a turn run in place, since each acts on its own builder.
+/// last, and one more is a fault. They run in slots where the state and the body are numbers; else the loops in a turn run in
+/// place, since each acts on its own builder.
 #[cycle(rows)]
 pub fn run_turns<'a>(
     e: &Expr,
@@ -71,6 +73,10 @@ pub fn run_turns<'a>(
     requires form { IsIterate e.now }
     ensures { Answers held_of result (turns_from e.now (env_of frame.now) turn_limit (view_val start)) }
 {
+    match turns_in_slots(e, &*frame, &start, alloc) {
+        Some(result) => return result,
+        None => {}
+    }
     let mut state = start;
     for _turn in 0..TURN_LIMIT {
         match run_turn(e, &*frame, state, alloc) {

@@ -6,6 +6,6 @@ use Rattle.weld_front.proofs.running.run_on.Goals as goal
 
 pub returns-in-Ok : goal.returns-in-Ok
 returns-in-Ok g c =
-    concluded_so c.args.asked.options c.args.program c.args.ty.now c.args.arguments.now (view_val c.in-Ok.value) c.in-Ok.note c.count_loops-loops.result c.done.result
+    concluded_so c.args.asked.options c.args.program c.args.ty.now c.args.arguments (view_val c.in-Ok.value) c.in-Ok.note c.count_loops-loops.result c.done.result
     (c.count_loops-loops.ensures ∙ ap (λ (q : ProgramTree). loops q.body) c.program.ensures.same)
     c.in-Ok.ensures.value c.in-Ok.ensures.note c.done.ensures.status c.done.ensures.text

@@ -1,0 +1,93 @@
+-- Turn after turn.
+use Rattle.std.proofs.Common.{◌≡◌, ℕ, zero, suc, ◌+◌, ◌-◌, ◌<◌, ◌≤◌, ◌∷◌, Bool, true, false, if◌then◌else◌, List, [], length, set, get_or, refl, ap, sym, subst, ◌∙◌, arith}
+use Rattle.weld_data.specs.Value.{Value}
+use Rattle.weld_built.specs.Pair.{pair}
+use Rattle.weld_tree.specs.ExprTree.{ExprTree}
+use Rattle.weld_builders.specs.Outcome.{Outcome, done, fault, and_then, map_out}
+use Rattle.weld_meaning.specs.Evaluation.{Env, eval, next_turn, truth_of, turns, turn_limit, value_out}
+use Rattle.weld_meaning.specs.Thing.{Thing, plain}
+use Rattle.weld_eval.specs.ShortView.{view_short}
+use Rattle.weld_eval.specs.declared.short.Short.{Short}
+use Rattle.weld_turns.specs.CodeView.{Slots, shape_value, slots_of, turn_value}
+use Rattle.weld_turns.specs.Scopes.{AreBelow, TurnMeans, room_of, with_scope}
+use Rattle.weld_turns.specs.States.{next_of, Follows, IsFollowed}
+use Rattle.weld_turns.specs.declared.code.Place.{Place}
+use Rattle.weld_turns.specs.declared.code.Shape.{Shape}
+use Rattle.weld_turns.specs.declared.code.Shape.TheVariants.{One, Pair}
+use Rattle.weld_turns.specs.declared.code.Turn.{Turn}
+use Rattle.weld_turns.proofs.Making.{out_in}
+use Rattle.weld_turns.proofs.SlotLemmas.{set_there, set_beside}
+
+-- ---- the limit
+
+limit_is : turn_limit ≡ 1000000
+unfolding turn_limit
+limit_is = refl
+
+one_less : (i : ℕ) → i < 1000000 → turn_limit - i ≡ suc (turn_limit - (i + 1))
+one_less i h = omega (arith, limit_is)
+
+none_left : (i : ℕ) → 1000000 ≤ i → turn_limit - i ≡ 0
+none_left i h = omega (arith, limit_is)
+
+-- ---- one turn
+
+unrolled : (i : ℕ) (v : Value) (g : Value → Outcome Value) → i < 1000000 → turns (turn_limit - i) v g ≡ and_then (g v) (λ w. next_turn w (λ state. turns (turn_limit - (i + 1)) state g))
+unrolled i v g h = ap (λ n. turns n v g) (one_less i h)
+
+next_by : (s v : Value) (b : Bool) (go : Value → Outcome Value) → truth_of v ≡ done b → next_turn (pair s v) go ≡ (if b then go s else done s)
+next_by s v b go t = ap (λ (o : Outcome Bool). and_then o (λ (more : Bool). if more then go s else done s)) t
+
+turned : (t : Turn) (shape : Shape) (f f' : Slots) (g : Value → Outcome Value) (i : ℕ) (v : Value) (b : Bool) → i < 1000000 → IsFollowed t shape g → turn_value t shape f ≡ done (pair (shape_value shape 0 f') v) → truth_of v ≡ done b
+    → turns (turn_limit - i) (shape_value shape 0 f) g ≡ (if b then turns (turn_limit - (i + 1)) (shape_value shape 0 f') g else done (shape_value shape 0 f'))
+turned t shape f f' g i v b h is e q =
+    unrolled i (shape_value shape 0 f) g h
+    ∙ ap (λ (o : Outcome Value). and_then o (λ w. next_turn w (λ state. turns (turn_limit - (i + 1)) state g))) (is f ∙ e)
+    ∙ next_by (shape_value shape 0 f') v b (λ state. turns (turn_limit - (i + 1)) state g) q
+
+pub goes_on : (t : Turn) (shape : Shape) (f f' : Slots) (g : Value → Outcome Value) (i : ℕ) (v : Value) → i < 1000000 → IsFollowed t shape g → turn_value t shape f ≡ done (pair (shape_value shape 0 f') v) → truth_of v ≡ done true
+    → turns (turn_limit - i) (shape_value shape 0 f) g ≡ turns (turn_limit - (i + 1)) (shape_value shape 0 f') g
+goes_on t shape f f' g i v h is e q = turned t shape f f' g i v true h is e q
+
+pub ends : (t : Turn) (shape : Shape) (f f' : Slots) (g : Value → Outcome Value) (i : ℕ) (v : Value) → i < 1000000 → IsFollowed t shape g → turn_value t shape f ≡ done (pair (shape_value shape 0 f') v) → truth_of v ≡ done false
+    → turns (turn_limit - i) (shape_value shape 0 f) g ≡ done (shape_value shape 0 f')
+ends t shape f f' g i v h is e q = turned t shape f f' g i v false h is e q
+
+pub faults : (t : Turn) (shape : Shape) (f : Slots) (g : Value → Outcome Value) (i : ℕ) → i < 1000000 → IsFollowed t shape g → turn_value t shape f ≡ fault → turns (turn_limit - i) (shape_value shape 0 f) g ≡ fault
+faults t shape f g i h is e =
+    unrolled i (shape_value shape 0 f) g h
+    ∙ ap (λ (o : Outcome Value). and_then o (λ w. next_turn w (λ state. turns (turn_limit - (i + 1)) state g))) (is f ∙ e)
+
+pub exceeds : (v : Value) (g : Value → Outcome Value) (i : ℕ) → 1000000 ≤ i → turns (turn_limit - i) v g ≡ fault
+exceeds v g i h = ap (λ n. turns n v g) (none_left i h)
+
+-- ---- the state that the turns start with
+
+pub one_put : (ss : List Short) (n : Short) (v : Value) → 0 < length ss → v ≡ view_short n → slots_of (set ss 0 n) 0 ≡ v
+one_put ss n v h e = set_there ss 0 n h ∙ sym e
+
+pub two_put : (ss : List Short) (x y : Short) (v : Value) → 1 < length ss → v ≡ pair (view_short x) (view_short y) → pair (slots_of (set (set ss 0 x) 1 y) 0) (slots_of (set (set ss 0 x) 1 y) 1) ≡ v
+two_put ss x y v h e =
+    ap (λ u. pair u (slots_of (set (set ss 0 x) 1 y) 1)) (set_beside (set ss 0 x) 1 0 y (λ q. omega arith) ∙ set_there ss 0 x (omega arith))
+    ∙ ap (λ w. pair (view_short x) w) (set_there (set ss 0 x) 1 y (long ss h)) ∙ sym e
+  where
+    long : (rs : List Short) → 1 < length rs → 1 < length (set rs 0 x)
+    long [] g = absurd (omega arith)
+    long (r ∷ rs) g = omega arith
+
+-- ---- the body
+
+room_two : (k : Shape) → room_of k ≤ 2
+room_two One = omega arith
+room_two Pair = omega arith
+
+pub first_scope : (ns none : List (ℕ × Place)) (s : ℕ) (p : Place) → p.first ≡ 0 → none ≡ [] → ns ≡ (s, p) ∷ none → AreBelow ns 2
+first_scope ns none s p e empty is =
+    let room = room_two p.shape in
+    subst (λ (ms : List (ℕ × Place)). AreBelow ms 2) (sym (is ∙ ap (λ (rest : List (ℕ × Place)). (s, p) ∷ rest) empty)) (omega (arith, room, e), tt)
+
+pub body_follows : (t : Turn) (ns none : List (ℕ × Place)) (s : ℕ) (p : Place) (e : ExprTree) (env : Env) → p.first ≡ 0 → none ≡ [] → ns ≡ (s, p) ∷ none → TurnMeans t p.shape ns env (eval e) → Follows t p.shape s e env
+body_follows t ns none s p e env at empty is h f =
+    ap (λ (i : ℕ). next_of s e env (shape_value p.shape i f)) (sym at)
+    ∙ ap (λ (ms : List (ℕ × Place)). value_out (eval e (with_scope ms f env))) (sym (is ∙ ap (λ (rest : List (ℕ × Place)). (s, p) ∷ rest) empty))
+    ∙ ap value_out (h f) ∙ out_in (turn_value t p.shape f)

@@ -1,0 +1,6 @@
+pub mod Answers
+pub mod CodeSize
+pub mod CodeView
+pub mod Outside
+pub mod Scopes
+pub mod States

@@ -1,0 +1,66 @@
+//! What the body of an `iterate` over numbers is made to: numbers worked out from slots, and what a turn does.
+
+use weld_data::{BinOp, Kind};
+use weld_eval::short::Short;
+
+/// A number that is worked out from the numbers of slots.
+#[cycle(code)]
+#[derive(Drop)]
+pub enum Code {
+    /// The number of a slot.
+    Slot(usize),
+    /// This number.
+    Literal(Short),
+    /// An operator between two.
+    Work(BinOp, Box<Code>, Box<Code>),
+    /// The wrapped opposite.
+    Opposite(Box<Code>),
+    /// The other truth value.
+    Contrary(Box<Code>),
+    /// The number wrapped to a kind.
+    Cast(Kind, Box<Code>),
+    /// By a truth value the one or the other, which alone is worked out.
+    Choice(Box<Code>, Box<Code>, Box<Code>),
+    /// By a truth value the one or the other, where both are worked out.
+    Select(Box<Code>, Box<Code>, Box<Code>),
+}
+
+/// What a turn does: numbers put into slots, choices, and at the end the slots of the next state and whether to go on.
+#[cycle(turn)]
+#[derive(Drop)]
+pub enum Turn {
+    /// A number put into a slot, and what follows.
+    Put(usize, Code, Box<Turn>),
+    /// By a truth value the one or the other.
+    Either(Code, Box<Turn>, Box<Turn>),
+    /// The first slot of the next state, and whether to go on.
+    End(usize, Code),
+}
+
+/// What stands in slots that follow each other: one number, or a struct of two.
+#[derive(Clone, Copy, Debug, PartialEq, Eq)]
+pub enum Shape {
+    One,
+    Pair,
+}
+
+/// Where the value of a name stands: its shape, and its first slot.
+#[derive(Clone, Copy)]
+pub struct Place {
+    pub shape: Shape,
+    pub first: usize,
+}
+
+/// Why nothing came of it: a fault, or something that isn't numbers, of which nothing is said.
+#[derive(Clone, Copy)]
+pub enum Halt {
+    Fault,
+    Other,
+}
+
+/// Why no code was made: it isn't of the form, or memory is wanting.
+#[derive(Drop)]
+pub enum Unmade {
+    Other,
+    Memory,
+}

@@ -1,0 +1,454 @@
+//! The code of a turn: of a body that under lets and ifs ends in the struct of the next state and of whether to go on.
+
+ghost use Rattle.std.specs.Prelude.{◌≡◌, ◌∷◌, IfOk, IfSome};
+ghost use Rattle.weld_builders.specs.Outcome.{and_then};
+ghost use Rattle.weld_eval.specs.FrameView.{env_of};
+ghost use Rattle.weld_meaning.specs.Evaluation.{chosen, eval, eval_all, many_thing};
+ghost use Rattle.weld_tree.specs.ExprTree.{make_struct, more_exprs, no_exprs, pack_exprs};
+ghost use Rattle.weld_turns.specs.declared.code.Shape.TheVariants as shapes;
+ghost use Rattle.weld_turns.specs.Scopes.{view_scope, ended, AreBelow, IsEndAt, IsNamedAt, IsStateAt, TurnMeans};
+
+use crate::code::{Place, Shape, Turn, Unmade};
+use crate::make::{make, name_of};
+use crate::scope::{Scope, place_of, with_name};
+use crate::slots::SLOTS;
+use std::alloc::Global;
+use weld_eval::frame::Frame;
+use weld_tree::{Expr, Exprs, Form, ManyForm, Sym, ThreeForm};
+
+/// The code of a turn: what it takes for itself are slots from the next one on.
+#[cycle(turn)]
+pub fn make_turn(
+    e: &Expr,
+    shape: Shape,
+    scope: &Scope,
+    next: usize,
+    frame: &Frame,
+    alloc: Global,
+) -> Result<Turn, Unmade>
+    requires { AreBelow (view_scope scope.now) next }
+    ensures { IfOk result (λ t. TurnMeans t shape (view_scope scope.now) (env_of frame.now) (eval e.now)) }
+{
+    match &e.form {
+        Form::Let(binder, value, body) => {
+            make_let(binder.sym, value, body, shape, scope, next, frame, alloc)
+        }
+        Form::Three(ThreeForm::If, test, x, y) => {
+            make_fork(test, x, y, shape, scope, next, frame, alloc)
+        }
+        Form::Many(ManyForm::Struct, parts) => make_end(parts, shape, scope, next, frame, alloc),
+        _ => Err(Unmade::Other),
+    }
+}
+
+/// A turn in a box.
+fn in_box(turn: Turn, alloc: Global) -> Result<Box<Turn>, Unmade>
+    ensures { IfOk result (λ t. t.value ≡ turn) }
+{
+    match Box::new(alloc, turn) {
+        Ok(turn) => Ok(turn),
+        Err(_) => Err(Unmade::Memory),
+    }
+}
+
+/// The same in a box.
+#[cycle(turn)]
+fn boxed_turn(
+    e: &Expr,
+    shape: Shape,
+    scope: &Scope,
+    next: usize,
+    frame: &Frame,
+    alloc: Global,
+) -> Result<Box<Turn>, Unmade>
+    requires { AreBelow (view_scope scope.now) next }
+    ensures { IfOk result (λ t. TurnMeans t.value shape (view_scope scope.now) (env_of frame.now) (eval e.now)) }
+{
+    match make_turn(e, shape, scope, next, frame, alloc) {
+        Ok(turn) => match Box::new(alloc, turn) {
+            Ok(turn) => Ok(turn),
+            Err(_) => Err(Unmade::Memory),
+        },
+        Err(unmade) => Err(unmade),
+    }
+}
+
+/// An `if`: one of two turns.
+#[cycle(turn)]
+#[tactic(auto, using(crate::proofs::Turning::fork_means))]
+fn make_fork(
+    test: &Expr,
+    x: &Expr,
+    y: &Expr,
+    shape: Shape,
+    scope: &Scope,
+    next: usize,
+    frame: &Frame,
+    alloc: Global,
+) -> Result<Turn, Unmade>
+    requires { AreBelow (view_scope scope.now) next }
+    ensures { IfOk result (λ t. TurnMeans t shape (view_scope scope.now) (env_of frame.now) (λ env. and_then (eval test.now env) (λ u. chosen u (eval x.now env) (eval y.now env)))) }
+{
+    let test = match make(test, scope, frame, alloc) {
+        Ok(test) => test,
+        Err(unmade) => return Err(unmade),
+    };
+    let x = match boxed_turn(x, shape, scope, next, frame, alloc) {
+        Ok(x) => x,
+        Err(unmade) => return Err(unmade),
+    };
+    match boxed_turn(y, shape, scope, next, frame, alloc) {
+        Ok(y) => Ok(Turn::Either(test, x, y)),
+        Err(unmade) => Err(unmade),
+    }
+}
+
+/// A `let`: another name of what stands in slots, a struct of two numbers, or a number.
+#[cycle(turn)]
+fn make_let(
+    name: Sym,
+    value: &Expr,
+    body: &Expr,
+    shape: Shape,
+    scope: &Scope,
+    next: usize,
+    frame: &Frame,
+    alloc: Global,
+) -> Result<Turn, Unmade>
+    requires { AreBelow (view_scope scope.now) next }
+    ensures { IfOk result (λ t. TurnMeans t shape (view_scope scope.now) (env_of frame.now) (λ env. and_then (eval value.now env) (λ x. eval body.now ((name.0, x) ∷ env)))) }
+{
+    match named_place(value, scope) {
+        Some(place) => let_alias(name, place, value, body, shape, scope, next, frame, alloc),
+        None => match &value.form {
+            Form::Many(ManyForm::Struct, parts) => {
+                let_parts(name, parts, body, shape, scope, next, frame, alloc)
+            }
+            _ => let_number(name, value, body, shape, scope, next, frame, alloc),
+        },
+    }
+}
+
+/// Where what the expression names stands, if it is a name of what stands in slots.
+fn named_place(e: &Expr, scope: &Scope) -> Option<Place>
+    ensures { IfSome result (λ place. IsNamedAt e.now (view_scope scope.now) place) }
+{
+    match name_of(e) {
+        Some(name) => place_of(scope, name),
+        None => None,
+    }
+}
+
+/// A `let` that gives another name.
+#[cycle(turn)]
+fn let_alias(
+    name: Sym,
+    place: Place,
+    value: &Expr,
+    body: &Expr,
+    shape: Shape,
+    scope: &Scope,
+    next: usize,
+    frame: &Frame,
+    alloc: Global,
+) -> Result<Turn, Unmade>
+    requires below { AreBelow (view_scope scope.now) next }
+    requires named { IsNamedAt value.now (view_scope scope.now) place }
+    ensures { IfOk result (λ t. TurnMeans t shape (view_scope scope.now) (env_of frame.now) (λ env. and_then (eval value.now env) (λ x. eval body.now ((name.0, x) ∷ env)))) }
+{
+    let _value = value;
+    let inner = with_name(name, place, &*scope);
+    make_turn(body, shape, &inner, next, frame, alloc)
+}
+
+/// A `let` of a number, which is put into a slot.
+#[cycle(turn)]
+#[tactic(auto, using(crate::proofs::Turning::one_below))]
+fn let_number(
+    name: Sym,
+    value: &Expr,
+    body: &Expr,
+    shape: Shape,
+    scope: &Scope,
+    next: usize,
+    frame: &Frame,
+    alloc: Global,
+) -> Result<Turn, Unmade>
+    requires { AreBelow (view_scope scope.now) next }
+    ensures { IfOk result (λ t. TurnMeans t shape (view_scope scope.now) (env_of frame.now) (λ env. and_then (eval value.now env) (λ x. eval body.now ((name.0, x) ∷ env)))) }
+{
+    if next >= SLOTS {
+        return Err(Unmade::Other);
+    }
+    let code = match make(value, scope, frame, alloc) {
+        Ok(code) => code,
+        Err(unmade) => return Err(unmade),
+    };
+    let place = Place {
+        shape: Shape::One,
+        first: next,
+    };
+    let inner = with_name(name, place, &*scope);
+    match boxed_turn(body, shape, &inner, next + 1, frame, alloc) {
+        Ok(rest) => Ok(Turn::Put(next, code, rest)),
+        Err(unmade) => Err(unmade),
+    }
+}
+
+/// A `let` of a struct that is written by its fields.
+#[cycle(turn)]
+fn let_parts(
+    name: Sym,
+    parts: &Exprs,
+    body: &Expr,
+    shape: Shape,
+    scope: &Scope,
+    next: usize,
+    frame: &Frame,
+    alloc: Global,
+) -> Result<Turn, Unmade>
+    requires { AreBelow (view_scope scope.now) next }
+    ensures { IfOk result (λ t. TurnMeans t shape (view_scope scope.now) (env_of frame.now) (λ env. and_then (and_then (eval_all (pack_exprs parts.now) env) (many_thing make_struct)) (λ x. eval body.now ((name.0, x) ∷ env)))) }
+{
+    let items = parts.as_slice();
+    if items.len() == 2 {
+        let_fields(
+            name, &items[0], &items[1], body, shape, scope, next, frame, alloc,
+        )
+    } else {
+        Err(Unmade::Other)
+    }
+}
+
+/// A `let` of a struct of two numbers, which are put into slots.
+#[cycle(turn)]
+#[tactic(auto, using(crate::proofs::Turning::two_below))]
+fn let_fields(
+    name: Sym,
+    x: &Expr,
+    y: &Expr,
+    body: &Expr,
+    shape: Shape,
+    scope: &Scope,
+    next: usize,
+    frame: &Frame,
+    alloc: Global,
+) -> Result<Turn, Unmade>
+    requires { AreBelow (view_scope scope.now) next }
+    ensures { IfOk result (λ t. TurnMeans t shape (view_scope scope.now) (env_of frame.now) (λ env. and_then (and_then (eval_all (more_exprs x.now (more_exprs y.now no_exprs)) env) (many_thing make_struct)) (λ z. eval body.now ((name.0, z) ∷ env)))) }
+{
+    if next >= SLOTS {
+        return Err(Unmade::Other);
+    }
+    let x = match make(x, scope, frame, alloc) {
+        Ok(x) => x,
+        Err(unmade) => return Err(unmade),
+    };
+    let y = match make(y, scope, frame, alloc) {
+        Ok(y) => y,
+        Err(unmade) => return Err(unmade),
+    };
+    let place = Place {
+        shape: Shape::Pair,
+        first: next,
+    };
+    let inner = with_name(name, place, &*scope);
+    match boxed_turn(body, shape, &inner, next + 2, frame, alloc) {
+        Ok(rest) => match in_box(Turn::Put(next + 1, y, rest), alloc) {
+            Ok(rest) => Ok(Turn::Put(next, x, rest)),
+            Err(unmade) => Err(unmade),
+        },
+        Err(unmade) => Err(unmade),
+    }
+}
+
+/// The end of a turn: the struct of the next state and of whether to go on.
+#[tactic(auto, using(crate::proofs::Turning::two_parts))]
+fn make_end(
+    parts: &Exprs,
+    shape: Shape,
+    scope: &Scope,
+    next: usize,
+    frame: &Frame,
+    alloc: Global,
+) -> Result<Turn, Unmade>
+    requires { AreBelow (view_scope scope.now) next }
+    ensures { IfOk result (λ t. TurnMeans t shape (view_scope scope.now) (env_of frame.now) (λ env. and_then (eval_all (pack_exprs parts.now) env) (many_thing make_struct))) }
+{
+    let items = parts.as_slice();
+    if items.len() == 2 {
+        end_in(&items[0], &items[1], shape, scope, next, frame, alloc)
+    } else {
+        Err(Unmade::Other)
+    }
+}
+
+/// The same by the two parts.
+fn end_in(
+    state: &Expr,
+    flag: &Expr,
+    shape: Shape,
+    scope: &Scope,
+    next: usize,
+    frame: &Frame,
+    alloc: Global,
+) -> Result<Turn, Unmade>
+    requires { AreBelow (view_scope scope.now) next }
+    ensures { IfOk result (λ t. TurnMeans t shape (view_scope scope.now) (env_of frame.now) (λ env. and_then (eval_all (more_exprs state.now (more_exprs flag.now no_exprs)) env) (many_thing make_struct))) }
+{
+    match state_place(state, shape, scope) {
+        Some(first) => end_named(state, first, flag, shape, scope, frame, alloc),
+        None => match shape {
+            Shape::One => end_one(state, flag, scope, next, frame, alloc),
+            Shape::Pair => end_two(state, flag, scope, next, frame, alloc),
+        },
+    }
+}
+
+/// The first slot of the place of a name that is a state, where the expression is one.
+fn state_place(e: &Expr, shape: Shape, scope: &Scope) -> Option<usize>
+    ensures { IfSome result (λ first. IsStateAt e.now shape (view_scope scope.now) first) }
+{
+    match name_of(e) {
+        Some(name) => match place_of(scope, name) {
+            Some(place) if place.shape == shape => Some(place.first),
+            _ => None,
+        },
+        None => None,
+    }
+}
+
+/// The end of a turn whose next state stands in slots already.
+#[tactic(auto, using(crate::proofs::Turning::end_named_means))]
+fn end_named(
+    state: &Expr,
+    first: usize,
+    flag: &Expr,
+    shape: Shape,
+    scope: &Scope,
+    frame: &Frame,
+    alloc: Global,
+) -> Result<Turn, Unmade>
+    requires { IsStateAt state.now shape (view_scope scope.now) first }
+    ensures { IfOk result (λ t. TurnMeans t shape (view_scope scope.now) (env_of frame.now) (λ env. and_then (eval_all (more_exprs state.now (more_exprs flag.now no_exprs)) env) (many_thing make_struct))) }
+{
+    let (_state, _shape) = (state, shape);
+    match make(flag, scope, frame, alloc) {
+        Ok(flag) => Ok(Turn::End(first, flag)),
+        Err(unmade) => Err(unmade),
+    }
+}
+
+/// The end of a turn whose next state is one number.
+fn end_one(
+    state: &Expr,
+    flag: &Expr,
+    scope: &Scope,
+    next: usize,
+    frame: &Frame,
+    alloc: Global,
+) -> Result<Turn, Unmade>
+    requires { AreBelow (view_scope scope.now) next }
+    ensures { IfOk result (λ t. TurnMeans t shapes.One (view_scope scope.now) (env_of frame.now) (λ env. and_then (eval_all (more_exprs state.now (more_exprs flag.now no_exprs)) env) (many_thing make_struct))) }
+{
+    let state = match make(state, scope, frame, alloc) {
+        Ok(state) => state,
+        Err(unmade) => return Err(unmade),
+    };
+    let flag = match make(flag, scope, frame, alloc) {
+        Ok(flag) => flag,
+        Err(unmade) => return Err(unmade),
+    };
+    match in_box(Turn::End(next, flag), alloc) {
+        Ok(rest) => Ok(Turn::Put(next, state, rest)),
+        Err(unmade) => Err(unmade),
+    }
+}
+
+/// The end of a turn whose next state is a struct of two numbers.
+fn end_two(
+    state: &Expr,
+    flag: &Expr,
+    scope: &Scope,
+    next: usize,
+    frame: &Frame,
+    alloc: Global,
+) -> Result<Turn, Unmade>
+    requires { AreBelow (view_scope scope.now) next }
+    ensures { IfOk result (λ t. TurnMeans t shapes.Pair (view_scope scope.now) (env_of frame.now) (λ env. and_then (eval_all (more_exprs state.now (more_exprs flag.now no_exprs)) env) (many_thing make_struct))) }
+{
+    match &state.form {
+        Form::Many(ManyForm::Struct, parts) => { end_parts(parts, flag, scope, next, frame, alloc) }
+        _ => Err(Unmade::Other),
+    }
+}
+
+/// The same by the list of its fields.
+#[tactic(auto, using(crate::proofs::Turning::two_fields))]
+fn end_parts(
+    parts: &Exprs,
+    flag: &Expr,
+    scope: &Scope,
+    next: usize,
+    frame: &Frame,
+    alloc: Global,
+) -> Result<Turn, Unmade>
+    requires { AreBelow (view_scope scope.now) next }
+    ensures { IfOk result (λ t. TurnMeans t shapes.Pair (view_scope scope.now) (env_of frame.now) (λ env. ended (and_then (eval_all (pack_exprs parts.now) env) (many_thing make_struct)) (eval flag.now env))) }
+{
+    let items = parts.as_slice();
+    if items.len() == 2 {
+        end_fields(&items[0], &items[1], flag, scope, next, frame, alloc)
+    } else {
+        Err(Unmade::Other)
+    }
+}
+
+/// The same by the two fields.
+fn end_fields(
+    x: &Expr,
+    y: &Expr,
+    flag: &Expr,
+    scope: &Scope,
+    next: usize,
+    frame: &Frame,
+    alloc: Global,
+) -> Result<Turn, Unmade>
+    requires { AreBelow (view_scope scope.now) next }
+    ensures { IfOk result (λ t. TurnMeans t shapes.Pair (view_scope scope.now) (env_of frame.now) (λ env. ended (and_then (eval_all (more_exprs x.now (more_exprs y.now no_exprs)) env) (many_thing make_struct)) (eval flag.now env))) }
+{
+    if next >= SLOTS {
+        return Err(Unmade::Other);
+    }
+    let x = match make(x, scope, frame, alloc) {
+        Ok(x) => x,
+        Err(unmade) => return Err(unmade),
+    };
+    let y = match make(y, scope, frame, alloc) {
+        Ok(y) => y,
+        Err(unmade) => return Err(unmade),
+    };
+    match end_at(next, flag, scope, frame, alloc) {
+        Ok(end) => match in_box(Turn::Put(next + 1, y, end), alloc) {
+            Ok(rest) => Ok(Turn::Put(next, x, rest)),
+            Err(unmade) => Err(unmade),
+        },
+        Err(unmade) => Err(unmade),
+    }
+}
+
+/// The end of a turn whose next state stands in slots from that one on.
+fn end_at(
+    first: usize,
+    flag: &Expr,
+    scope: &Scope,
+    frame: &Frame,
+    alloc: Global,
+) -> Result<Box<Turn>, Unmade>
+    ensures { IfOk result (λ t. IsEndAt t.value first (view_scope scope.now) (env_of frame.now) (eval flag.now)) }
+{
+    match make(flag, scope, frame, alloc) {
+        Ok(flag) => in_box(Turn::End(first, flag), alloc),
+        Err(unmade) => Err(unmade),
+    }
+}

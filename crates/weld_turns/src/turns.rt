@@ -1,0 +1,165 @@
+//! The turns of an `iterate` whose state is a number or a struct of two and whose body is numbers. Its code is made once,
+//! before the first turn; no turn takes memory.
+
+ghost use Rattle.std.specs.Prelude.{◌≡◌, [], ◌∷◌, IfOk, IfSome};
+ghost use Rattle.weld_data.specs.View.{view_val};
+ghost use Rattle.weld_builders.specs.Outcome.{done};
+ghost use Rattle.weld_built.specs.Pair.{pair};
+ghost use Rattle.weld_eval.specs.Answers.{Answers};
+ghost use Rattle.weld_eval.specs.FrameView.{env_of};
+ghost use Rattle.weld_eval.specs.ShortView.{view_short};
+ghost use Rattle.weld_eval.specs.ThingView.{held_of};
+ghost use Rattle.weld_eval_plain.specs.Nodes.{IsIterate};
+ghost use Rattle.weld_eval_plain.specs.Turns.{turns_from};
+ghost use Rattle.weld_meaning.specs.Evaluation.{turn_limit};
+ghost use Rattle.weld_meaning.specs.Thing.{plain};
+ghost use Rattle.weld_turns.specs.CodeView.{shape_value, slots_of};
+ghost use Rattle.weld_turns.specs.States.{comes_from, Follows, IsState, RunsTo};
+
+use crate::code::{Halt, Place, Shape, Turn, Unmade};
+use crate::make_turn::make_turn;
+use crate::run::run_turn;
+use crate::scope::{no_names, with_name};
+use crate::slots::SLOTS;
+use std::alloc::{AllocError, Global};
+use weld_data::{Stop, Val, Vals};
+use weld_eval::frame::Frame;
+use weld_eval::number::{number_of, pair_of};
+use weld_eval::short::Short;
+use weld_eval::thing::{Held, Owned};
+use weld_tree::{Expr, Form, Sym};
+
+/// How many turns an `iterate` may take.
+const TURN_LIMIT: u32 = 1_000_000;
+
+/// What an `iterate` comes to from a state on, where its state and its body are of that form; none where they aren't: then
+/// nothing is done. The millionth turn may be the last, and one more is a fault.
+pub fn turns_in_slots<'a>(
+    e: &Expr,
+    frame: &Frame,
+    start: &Val,
+    alloc: Global,
+) -> Option<Result<Held<'a>, Stop>>
+    requires { IsIterate e.now }
+    ensures { IfSome result (λ r. Answers held_of r (turns_from e.now (env_of frame.now) turn_limit (view_val start.now))) }
+{
+    match &e.form {
+        Form::Iterate(_, binder, body) => turns_of_body(binder.sym, body, frame, start, alloc),
+        _ => None,
+    }
+}
+
+/// The same of a body and the name of its state.
+fn turns_of_body<'a>(
+    name: Sym,
+    body: &Expr,
+    frame: &Frame,
+    start: &Val,
+    alloc: Global,
+) -> Option<Result<Held<'a>, Stop>>
+    ensures { IfSome result (λ r. Answers held_of r (comes_from name.0 body.now (env_of frame.now) turn_limit (view_val start.now))) }
+{
+    let mut slots = [Short::of_i64(0); SLOTS];
+    match put_state(start, &mut slots) {
+        Some(shape) => match turn_of_body(name, body, shape, frame, alloc) {
+            Ok(turn) => run_turns(&turn, shape, &mut slots, alloc),
+            Err(Unmade::Other) => None,
+            Err(Unmade::Memory) => Some(Err(Stop::Memory)),
+        },
+        None => None,
+    }
+}
+
+/// Puts a state into the first slots, where it is a number or a struct of two, and tells its shape.
+#[tactic(auto, using(crate::proofs::States::one_put, crate::proofs::States::two_put))]
+fn put_state(start: &Val, slots: &mut [Short]) -> Option<Shape>
+    ensures { IfSome result (λ shape. shape_value shape 0 (slots_of slots.new) ≡ view_val start.now) }
+{
+    if slots.len() < 2 {
+        return None;
+    }
+    match number_of(start) {
+        Some(n) => {
+            slots[0] = n;
+            Some(Shape::One)
+        }
+        None => match pair_of(start) {
+            Some((x, y)) => {
+                slots[0] = x;
+                slots[1] = y;
+                Some(Shape::Pair)
+            }
+            None => None,
+        },
+    }
+}
+
+/// The code of a body in which the name stands for the state.
+#[tactic(auto, using(crate::proofs::States::first_scope, crate::proofs::States::body_follows))]
+fn turn_of_body(
+    name: Sym,
+    body: &Expr,
+    shape: Shape,
+    frame: &Frame,
+    alloc: Global,
+) -> Result<Turn, Unmade>
+    ensures { IfOk result (λ t. Follows t shape name.0 body.now (env_of frame.now)) }
+{
+    let none = no_names();
+    let scope = with_name(name, Place { shape, first: 0 }, &none);
+    make_turn(body, shape, &scope, 2, frame, alloc)
+}
+
+/// The turns, until one says that it is the last.
+#[tactic(auto, using(crate::proofs::States::goes_on, crate::proofs::States::ends, crate::proofs::States::faults, crate::proofs::States::exceeds))]
+fn run_turns<'a>(
+    turn: &Turn,
+    shape: Shape,
+    slots: &mut [Short],
+    alloc: Global,
+) -> Option<Result<Held<'a>, Stop>>
+    ensures { IfSome result (λ r. RunsTo r turn.now shape (slots_of slots.old)) }
+{
+    for _turn in 0..TURN_LIMIT {
+        match run_turn(turn, shape, slots) {
+            Ok(true) => {}
+            Ok(false) => return last_state(shape, slots, alloc),
+            Err(Halt::Fault) => return Some(Err(Stop::Fault)),
+            Err(Halt::Other) => return None,
+        }
+    }
+    Some(Err(Stop::Fault))
+}
+
+/// The state that stands in the first slots, as a value.
+fn last_state<'a>(shape: Shape, slots: &[Short], alloc: Global) -> Option<Result<Held<'a>, Stop>>
+    ensures { IfSome result (λ r. IsState r shape (slots_of slots.now)) }
+{
+    if slots.len() < 2 {
+        return None;
+    }
+    match shape {
+        Shape::One => Some(Ok(Held::Made(Owned::Value(Val::Num(slots[0].to_num()))))),
+        Shape::Pair => Some(pair_of_two(slots[0], slots[1], alloc)),
+    }
+}
+
+/// The struct of two numbers.
+fn pair_of_two<'a>(x: Short, y: Short, alloc: Global) -> Result<Held<'a>, Stop>
+    ensures { Answers held_of result (done (plain (pair (view_short x) (view_short y)))) }
+{
+    match two_fields(x, y, alloc) {
+        Ok(fields) => Ok(Held::Made(Owned::Value(Val::Struct(fields)))),
+        Err(_) => Err(Stop::Memory),
+    }
+}
+
+/// The list of two numbers.
+fn two_fields(x: Short, y: Short, alloc: Global) -> Result<Vals, AllocError>
+    ensures { IfOk result (λ vs. vs ≡ view_short x ∷ view_short y ∷ []) }
+{
+    let mut fields = Vec::new(alloc);
+    fields.push(Val::Num(x.to_num()))?;
+    fields.push(Val::Num(y.to_num()))?;
+    Ok(Vals::from_vec(fields))
+}

@@ -1,0 +1,16 @@
+pub mod Parts
+pub mod Once
+pub mod Renaming
+pub mod Taking
+pub mod Typing
+pub mod Counting
+pub mod Pairs
+pub mod PairRule
+pub mod Opening
+pub mod Weights
+pub mod Swept
+pub mod Left
+pub mod Choosing
+pub mod Trying
+pub mod Depth
+pub mod Cases

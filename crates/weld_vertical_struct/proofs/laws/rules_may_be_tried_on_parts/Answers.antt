@@ -1,0 +1,17 @@
+use Rattle.std.proofs.Common.{◌<◌, subst}
+use Rattle.weld_rewriting.specs.Weight.{weight}
+use Rattle.weld_vertical_struct.specs.Held.{opened_producer}
+use Rattle.weld_vertical_struct.proofs.Weights.{producer_weighs}
+use Rattle.weld_vertical_struct.proofs.laws.rules_may_be_tried_on_parts.Goals as goal
+
+pub returns : goal.returns
+returns c =
+    let apart = c.pairs_are_taken_apart.ensures.in_a_producer in
+    record {
+      falls = λ r f. record { lighter = λ e d h. subst (λ n. weight d < n) (producer_weighs e) (f.lighter (opened_producer e) d h) };
+      sound = λ r s. record {
+        rewrites = λ e d tidy h.
+            c.rewriting_is_an_order.ensures.in_turn d (opened_producer e) e
+            (s.rewrites (opened_producer e) d (c.tidiness_is_kept.ensures.within (opened_producer e) e (apart e tidy).within tidy) h) (apart e tidy);
+      };
+    }
