@@ -16,6 +16,7 @@ mod pairs;
 pub mod part;
 pub mod total;
 pub mod totals;
+mod words;
 
 pub use cells::{CellItem, CellsPart, CellsShape};
 pub use keyed::KeyedPart;

@@ -3,6 +3,7 @@ ghost use Rattle.weld_data.specs.View.{view_val, view_column};
 
 use crate::grow::append_item;
 use crate::part::Part;
+use crate::words::append_words;
 use std::alloc::{AllocError, Global};
 use weld_data::{Column, Items, Kind, Stop, Val, Vals};
 
@@ -138,7 +139,8 @@ impl ListPart {
         }
     }
 
-    /// Appends numbers of the list's kind, the first one first, false being 0 and true 1.
+    /// Appends numbers of the list's kind, the first one first, false being 0 and true 1. The kind is
+    /// looked at once.
     pub fn push_numbers(&mut self, kind: Kind, items: &[i64]) -> Result<(), AllocError>
         requires kind { kind_of_items self.old ≡ Some kind }
         requires narrow { IsNarrow kind }
@@ -147,23 +149,16 @@ impl ListPart {
         ensures kind { kind_of_items self.new ≡ kind_of_items self.old }
     {
         match self {
+            ListPart::Bool(own) => append_words(own, items),
+            ListPart::I8(own) => append_words(own, items),
+            ListPart::I16(own) => append_words(own, items),
+            ListPart::I32(own) => append_words(own, items),
             ListPart::I64(own) => own.extend_from_slice(items),
-            _ => self.push_each(kind, items),
+            ListPart::U8(own) => append_words(own, items),
+            ListPart::U16(own) => append_words(own, items),
+            ListPart::U32(own) => append_words(own, items),
+            ListPart::U64(_) | ListPart::Nest(_) => unreachable!(),
         }
-    }
-
-    /// The same, one by one.
-    fn push_each(&mut self, kind: Kind, items: &[i64]) -> Result<(), AllocError>
-        requires kind { kind_of_items self.old ≡ Some kind }
-        requires narrow { IsNarrow kind }
-        requires in_range { AllInRange kind items.now }
-        ensures ok { OnOk result (items_of_list self.new ≡ items_of_list self.old ++ map (number kind) items.now) }
-        ensures kind { kind_of_items self.new ≡ kind_of_items self.old }
-    {
-        for i in 0..items.len() {
-            self.push_number(kind, items[i])?;
-        }
-        Ok(())
     }
 
     /// Appends an item: a number of the list's kind, or any value where it is a list of values. Room
@@ -185,14 +180,19 @@ impl ListPart {
         }
     }
 
-    /// Appends the items of a later list of the same kind, without a copy of those that are here.
-    /// Where memory is wanting, this list stays as it was, and the later one is dropped.
+    /// Appends the items of a later list of the same kind, without a copy of those that are here; a
+    /// list without items takes the later one whole. Where memory is wanting, this list stays as it
+    /// was, and the later one is dropped.
     pub fn append(&mut self, later: ListPart) -> Result<(), AllocError>
         requires { kind_of_items self.old ≡ kind_of_items later }
         ensures ok { OnOk result (items_of_list self.new ≡ items_of_list self.old ++ items_of_list later) }
         ensures err { OnErr result (items_of_list self.new ≡ items_of_list self.old) }
         ensures kind { kind_of_items self.new ≡ kind_of_items self.old }
     {
+        if self.is_empty() {
+            *self = later;
+            return Ok(());
+        }
         match (self, later) {
             (ListPart::Bool(items), ListPart::Bool(more)) => items.extend_from_slice(&more),
             (ListPart::I8(items), ListPart::I8(more)) => items.extend_from_slice(&more),
