@@ -77,6 +77,26 @@ fn lists_append(rt: HostRuntime) -> Result<(), Fail> {
 }
 
 #[test]
+fn lists_append_many_numbers(rt: HostRuntime) -> Result<(), Fail> {
+    let mut part = ListPart::empty(rt.alloc(), Some(Kind::U8));
+    part.push_number(Kind::U8, 7)?;
+    part.push_numbers(Kind::U8, &[255, 0])?;
+    let mut first = ListPart::empty(rt.alloc(), Some(Kind::U8));
+    first.append(part)?;
+    match first.into_column() {
+        Column::U8(items) => assert_eq!(rt; items.as_slice(), [7u8, 255, 0].as_slice()),
+        _ => assert!(rt; false),
+    }
+    let mut truths = ListPart::empty(rt.alloc(), Some(Kind::Bool));
+    truths.push_numbers(Kind::Bool, &[1, 0])?;
+    match truths.into_column() {
+        Column::Bool(items) => assert_eq!(rt; items.as_slice(), [true, false].as_slice()),
+        _ => assert!(rt; false),
+    }
+    Ok(())
+}
+
+#[test]
 fn cells_merge_and_join(rt: HostRuntime) -> Result<(), Fail> {
     let mut part = CellsPart::neutral(rt.alloc(), MergeOp::Add, Kind::I64, 2)?;
     let mut later = CellsPart::neutral(rt.alloc(), MergeOp::Add, Kind::I64, 2)?;
