@@ -3,4 +3,6 @@
 //! They stand in a crate of their own, since a crate with tests is proved twice.
 
 #[cfg(test)]
+mod nested;
+#[cfg(test)]
 mod texts;

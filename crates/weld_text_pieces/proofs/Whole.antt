@@ -1,6 +1,5 @@
 -- Pieces joined are the text that is cut into them.
 use Rattle.std.proofs.Common.{◌≡◌, sym, ◌∙◌, ℕ, ◌<◌, List, [], ◌∷◌, ◌++◌, length, map, take, drop, refl, ap, ap₂, subst, append_assoc, append-nil, arith}
-use Rattle.std.specs.List.{AllZip}
 use Rattle.std.proofs.lemmas.List.{map-append, take-append-drop, take-append-le, take_all}
 use Rattle.std.proofs.lemmas.List.Elements.{All-append}
 use Rattle.weld_data.specs.Value.{Value}
@@ -47,43 +46,6 @@ halves_joined now value t half pieces first last low high f l h k =
 pub all_places : {A : Type 0} (n : ℕ) (xs ys : List A) → length xs ≡ n → take n (xs ++ ys) ≡ xs
 all_places n xs ys e = take-append-le n xs ys (omega (arith, e)) ∙ take_all n xs (omega (arith, e))
 
--- ---- pieces joined one after another
-
--- the first piece that is left, and its answer
-pub next_piece : {A B : Type 0} (R : A → B → Type 0) (left : List A) (answer : B) (answers : List B) → AllZip R left (answer ∷ answers) → (piece : A) × (pieces : List A) × (left ≡ piece ∷ pieces) × R piece answer × AllZip R pieces answers
-next_piece R [] answer answers h = absurd h
-next_piece R (piece ∷ pieces) answer answers h = (piece, pieces, refl, h.0, h.1)
-
-pub no_piece : {A B : Type 0} (R : A → B → Type 0) (left : List A) (answers : List B) → length answers ≡ 0 → AllZip R left answers → left ≡ []
-no_piece R [] answers e h = refl
-no_piece R (piece ∷ pieces) [] e h = absurd h
-no_piece R (piece ∷ pieces) (answer ∷ answers) e h = absurd (omega (arith, e))
-
--- the values so far make up, with those of the pieces that are left, those of all pieces
-abbrev pub MakeUp : {A : Type 0} → (A → List ℕ) → TypeTree → List A → List A → List Value → Type 0
-MakeUp now t all left vs = (ws : List Value) → ArePieces t (map now left) ws → ArePieces t (map now all) (vs ++ ws)
-
-pub make_up_none : {A : Type 0} (now : A → List ℕ) (t : TypeTree) (all : List A) (vs : List Value) → vs ≡ [] → MakeUp now t all all vs
-make_up_none now t all vs e = λ ws h. subst (ArePieces t (map now all)) (ap (λ (x : List Value). x ++ ws) (sym e)) h
-
-pub make_up_more : {A : Type 0} (now : A → List ℕ) (t : TypeTree) (all left pieces : List A) (piece : A) (old new us : List Value) → left ≡ piece ∷ pieces → new ≡ old ++ us → AreValues t (now piece) us → MakeUp now t all left old → MakeUp now t all pieces new
-make_up_more now t all left pieces piece old new us l n are m = λ ws h.
-    subst (ArePieces t (map now all)) (sym (append_assoc old us ws) ∙ ap (λ (x : List Value). x ++ ws) (sym n))
-    (m (us ++ ws) (subst (λ (x : List _). ArePieces t (map now x) (us ++ ws)) (sym l) (us, ws, refl, are, h)))
-
-pub make_up_last : {A : Type 0} (now : A → List ℕ) (t : TypeTree) (all left : List A) (vs : List Value) → left ≡ [] → MakeUp now t all left vs → ArePieces t (map now all) vs
-make_up_last now t all left vs l m = subst (ArePieces t (map now all)) (append-nil vs) (m [] (subst (λ (x : List _). ArePieces t (map now x) []) (sym l) refl))
-
 pub mapped_some : {A B : Type 0} (f : A → B) (xs : List A) → 0 < length xs → 0 < length (map f xs)
 mapped_some f [] h = absurd (omega (arith, h))
 mapped_some f (x ∷ xs) h = omega arith
-
--- ---- values appended one after another
-
-pub append_more : {A : Type 0} (view : A → Value) (items new all : List Value) (left more : List A) (x : A) → items ++ map view left ≡ all → left ≡ x ∷ more → new ≡ items ++ view x ∷ [] → new ++ map view more ≡ all
-append_more view items new all left more x e l n =
-    ap (λ (vs : List Value). vs ++ map view more) n ∙ append_assoc items (view x ∷ []) (map view more) ∙ ap (λ (xs : List _). items ++ map view xs) (sym l) ∙ e
-
-pub append_none : {A : Type 0} (view : A → Value) (items all : List Value) (left : List A) → items ++ map view left ≡ all → length left ≡ 0 → items ≡ all
-append_none view items all [] e n = sym (append-nil items) ∙ e
-append_none view items all (x ∷ left) e n = absurd (omega (arith, n))

@@ -5,3 +5,4 @@ pub mod Judging
 pub mod Showing
 pub mod Eights
 pub mod Pieces
+pub mod Places

@@ -6,9 +6,21 @@ ghost use Rattle.weld_values.specs.Judging.{AreListed, AreUnlisted, AreRead, Are
 
 use crate::cell::{Cell, append_cell};
 use crate::flaw::Flaw;
-use crate::tokens::byte_at;
+use crate::tokens::{NEAR, byte_at};
 use std::alloc::{AllocError, Global};
 use weld_data::Items;
+
+/// How many scalars stand before the closing bracket where that is near, and else at least.
+fn count_cells(text: &[u8]) -> usize {
+    let mut count: usize = 1;
+    for byte in &text[..text.len().min(NEAR)] {
+        if *byte == b']' {
+            break;
+        }
+        count = count.wrapping_add(usize::from(*byte == b','));
+    }
+    count
+}
 
 /// One scalar or more with commas between them, the closing bracket, and what follows it.
 fn read_some<T: Cell>(
@@ -18,7 +30,7 @@ fn read_some<T: Cell>(
     ensures found { IfOk result (λ found. IfSome found (λ f. AreListed (Found (scalar_at T.kind)) text.now f.1 (map T.value f.0) f.2.now)) }
     ensures none { IfOk result (λ found. IfNone found (AreUnlisted (Found (scalar_at T.kind)) text.now)) }
 {
-    let mut items = Items::new(alloc);
+    let mut items = Items::from_vec(Vec::with_capacity(alloc, count_cells(text))?);
     let mut flaw = Flaw::Fine;
     let mut rest = text;
     loop {

@@ -15,7 +15,7 @@ mod whole;
 
 pub use cell::Cell;
 pub use fault::DataFault;
-pub use piece::{fill_piece, inside_brackets, is_shallow, read_shallow_piece};
+pub use piece::{fill_piece, fill_shallow_piece, inside_brackets, is_shallow};
 pub use read::read_value;
 pub use weld_write_value::write_value;
 pub use whole::read_cell;

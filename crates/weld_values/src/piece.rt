@@ -6,16 +6,18 @@ ghost use Rattle.weld_tree.specs.TypeTree.{scalar, pack};
 ghost use Rattle.weld_tree.specs.HasValue.{HasValue};
 ghost use Rattle.weld_values.specs.Tokens as tokens;
 ghost use Rattle.weld_values.specs.Grammar.{scalar_at, At, Found};
+ghost use Rattle.weld_values.specs.Places.{IsPlaced};
 ghost use Rattle.weld_values.specs.Pieces.{Separated, InBrackets, is_scalar, is_row};
 ghost use Rattle.weld_values.specs.declared.flaw.Flaw.TheVariants as flaws;
-ghost use Rattle.weld_values.specs.Judging.{IsPlain, ArePlain, IsReadInto};
+ghost use Rattle.weld_values.specs.Judging.{IsPlain, ArePlain, IsReadable, IsReadInto};
+ghost use Rattle.weld_data.specs.View.{view_val};
 
 use crate::cell::Cell;
 use crate::flaw::Flaw;
-use crate::read::read_into;
+use crate::read::read_at;
 use crate::tokens::{after_blanks, byte_at, is_blank};
-use std::alloc::{AllocError, Global};
-use weld_data::Vals;
+use std::alloc::Global;
+use weld_data::Val;
 use weld_tree::{Ty, TyForm, Tys};
 
 /// Puts the scalar at the front of the text in this place, and answers what follows it; none where no scalar stands there, it
@@ -91,7 +93,7 @@ fn has_rows(fields: &Tys) -> bool
     are_rows(fields.as_slice())
 }
 
-/// Whether the type is that of a list of scalars, or of a struct of scalars and such lists, as which `read_shallow_piece`
+/// Whether the type is that of a list of scalars, or of a struct of scalars and such lists, as which `fill_shallow_piece`
 /// reads.
 pub fn is_shallow(ty: &Ty) -> bool
     ensures { result ≡ true → IsPlain ty.now }
@@ -103,43 +105,57 @@ pub fn is_shallow(ty: &Ty) -> bool
     }
 }
 
-/// The values of the type that the text is, one or more with a comma between each two, if it is nothing else and all numbers
-/// are in range.
-fn read_plain_piece(ty: &Ty, alloc: Global, text: &[u8]) -> Result<Option<Vals>, AllocError>
-    requires { IsPlain ty.now }
-    ensures separated { IfOk result (λ found. IfSome found (λ items. Separated (At ty.now) items text.now)) }
-    ensures typed { IfOk result (λ found. IfSome found (λ items. All (HasValue ty.now) items)) }
+/// Puts the value of the type at the front of the text in this place, and answers what follows it; none where no such value
+/// stands there, one of its numbers is out of range, memory is wanting, or there is no such place.
+fn put_value<'a>(
+    ty: &Ty,
+    alloc: Global,
+    places: &mut [Val],
+    place: usize,
+    text: &'a [u8],
+) -> Option<&'a [u8]>
+    requires { IsReadable ty.now }
+    ensures length { length places.new ≡ length places.old }
+    ensures within { IfSome result (λ rest. place < length places.old) }
+    ensures found { IfSome result (λ rest. IsPlaced (At ty.now) view_val text.now place places.old places.new rest.now) }
 {
-    let mut items = Vals::new(alloc);
+    match read_at(ty, alloc, text) {
+        Ok(Some((value, Flaw::Fine, rest))) if place < places.len() => {
+            places[place] = value;
+            Some(rest)
+        }
+        _ => None,
+    }
+}
+
+/// The same as `fill_piece` with values of a type without dictionaries and builders; it is also `false` where memory is wanting.
+fn fill_plain_piece(ty: &Ty, alloc: Global, text: &[u8], places: &mut [Val]) -> bool
+    requires { IsPlain ty.now }
+    ensures separated { result ≡ true → Separated (At ty.now) (map view_val places.new) text.now }
+    ensures typed { result ≡ true → All (HasValue ty.now) (map view_val places.new) }
+{
     let mut rest = text;
-    loop {
-        let Some((flaw, after)) = read_into(ty, &mut items, alloc, rest)? else {
-            return Ok(None);
+    let mut place = 0;
+    'values: loop {
+        let Some(after) = put_value(ty, alloc, places, place, rest) else {
+            return false;
         };
-        let Flaw::Fine = flaw else {
-            return Ok(None);
-        };
+        place += 1;
         let Some(more) = byte_at(after, b',') else {
-            if !after_blanks(after).is_empty() {
-                return Ok(None);
-            }
-            return Ok(Some(items));
+            return place == places.len() && after_blanks(after).is_empty();
         };
         rest = more;
     }
 }
 
-/// The values of the type that the text is, one or more with a comma between each two, if the type `is_shallow`, and the text
-/// nothing else, and all numbers are in range. It fails for want of memory alone.
-pub fn read_shallow_piece(ty: &Ty, alloc: Global, text: &[u8]) -> Result<Option<Vals>, AllocError>
-    ensures separated { IfOk result (λ found. IfSome found (λ items. Separated (At ty.now) items text.now)) }
-    ensures typed { IfOk result (λ found. IfSome found (λ items. All (HasValue ty.now) items)) }
+/// Fills the places with the values of the type that the text is, with a comma between each two; tells whether the type
+/// `is_shallow`, the values are just so many, the text is nothing else, and all numbers are in range. It is also `false` where
+/// memory is wanting.
+pub fn fill_shallow_piece(ty: &Ty, alloc: Global, text: &[u8], places: &mut [Val]) -> bool
+    ensures separated { result ≡ true → Separated (At ty.now) (map view_val places.new) text.now }
+    ensures typed { result ≡ true → All (HasValue ty.now) (map view_val places.new) }
 {
-    if is_shallow(ty) {
-        read_plain_piece(ty, alloc, text)
-    } else {
-        Ok(None)
-    }
+    is_shallow(ty) && fill_plain_piece(ty, alloc, text, places)
 }
 
 /// What stands before the last bracket, if blanks alone stand after it.

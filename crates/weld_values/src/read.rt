@@ -282,7 +282,7 @@ fn read_struct<'a>(
     ensures found { IfOk result (λ found. IfSome found (λ f. IsRead (AtStruct (Fields (pack fields.now) 123)) text.now f.1 (view_val f.0) f.2.now)) }
     ensures none { IfOk result (λ found. IfNone found (IsUnread (AtStruct (Fields (pack fields.now) 123)) text.now)) }
 {
-    let mut values = Vals::new(alloc);
+    let mut values = Vals::from_vec(Vec::with_capacity(alloc, fields.as_slice().len())?);
     let mut flaw = Flaw::Fine;
     let mut rest = text;
     let mut lead = b'{';

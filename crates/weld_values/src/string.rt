@@ -9,7 +9,7 @@ ghost use Rattle.weld_values.specs.Tokens.{item_at};
 ghost use Rattle.weld_values.specs.Grammar.{AtItems};
 ghost use Rattle.weld_values.specs.Judging.{AreItems, IsUnread};
 
-use crate::tokens::after_byte;
+use crate::tokens::{NEAR, after_byte};
 use std::alloc::{AllocError, Global};
 use weld_data::{I8s, Kind, wrap};
 
@@ -72,6 +72,17 @@ fn signed(byte: u8) -> i8
     wrap(Kind::I8, i128::from(byte)) as i8
 }
 
+/// How many items a string has where it is short and has no escapes: so many bytes stand before its quote.
+fn count_items(text: &[u8]) -> usize {
+    let near = &text[..text.len().min(NEAR)];
+    for at in 0..near.len() {
+        if near[at] == b'"' || near[at] == b'\\' {
+            return at;
+        }
+    }
+    near.len()
+}
+
 /// The items of a string up to the quote that ends it, as numbers of kind i8, and what follows it.
 pub(crate) fn read_items<'a>(
     alloc: Global,
@@ -80,7 +91,7 @@ pub(crate) fn read_items<'a>(
     ensures found { IfOk result (λ found. IfSome found (λ f. AreItems text.now f.0 f.1.now)) }
     ensures none { IfOk result (λ found. IfNone found (IsUnread AtItems text.now)) }
 {
-    let mut items = I8s::new(alloc);
+    let mut items = I8s::from_vec(Vec::with_capacity(alloc, count_items(text))?);
     let mut rest = text;
     'items: loop {
         if let Some(end) = after_byte(rest, b'"') {

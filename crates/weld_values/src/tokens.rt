@@ -12,6 +12,9 @@ ghost use Rattle.weld_values.specs.Judging.{IsCapped, IsClamped};
 
 use crate::digits::leading_digits;
 
+/// A list's end is looked for in so many bytes, so that the list takes just its memory where it is short. A long one grows.
+pub(crate) const NEAR: usize = 4096;
+
 /// Whether the byte is a space, a tab, a carriage return or a line feed.
 #[inline(always)]
 pub(crate) fn is_blank(byte: u8) -> bool

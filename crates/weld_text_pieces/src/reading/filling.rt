@@ -1,11 +1,14 @@
-//! Pieces of scalars, read side by side into the places of one list.
+//! Pieces of a text, read side by side into the places of one list.
 
 ghost use Rattle.std.specs.Prelude.{◌≡◌, ◌++◌, ◌<◌, List, ℕ, true, length, map, IfOk, IfSome};
 ghost use Rattle.std.specs.Thread.{IsSync, IsSend};
-ghost use Rattle.weld_tree.specs.TypeTree.{scalar};
+ghost use Rattle.weld_data.specs.Value.{Value};
+ghost use Rattle.weld_tree.specs.TypeTree.{TypeTree, scalar};
 ghost use Rattle.weld_text_pieces.specs.Cuts.{with_commas};
-ghost use Rattle.weld_text_pieces.specs.Joined.{AreValues, ArePieces};
+ghost use Rattle.weld_text_pieces.specs.Filled.{ArePlaced};
+ghost use Rattle.weld_text_pieces.specs.Joined.{AreValues};
 
+use crate::reading::counting::count_byte;
 use crate::reading::cutting::{CutAt, cut_pieces};
 use rayon::prelude::*;
 use std::alloc::{AllocError, Global};
@@ -14,42 +17,56 @@ use weld_data::Items;
 use weld_values::laws::scalars_join_at_commas;
 use weld_values::{Cell, fill_piece};
 
-/// The commas of so many bytes are counted in one byte.
-const BLOCK: usize = 128;
+/// What reads pieces of a text into places, in any thread.
+pub(crate) trait FillsPlaces<P>: Sync {
+    // The type of the values that it reads.
+    ghost form: { Self → TypeTree };
 
-/// How many commas a block has.
-fn count_commas(block: &[u8]) -> u8 {
-    let mut count: u8 = 0;
-    for byte in block {
-        count = count.wrapping_add(u8::from(*byte == b','));
-    }
-    count
+    // The value that a place has.
+    ghost value: { P → Value };
+
+    /// How many values the text has if it is nothing else.
+    fn count(&self, text: &[u8]) -> usize;
+
+    /// Fills the places with the values that the text is, with a comma between each two; tells whether it is just so many.
+    fn fill(&self, text: &[u8], places: &mut [P]) -> bool
+        ensures { result ≡ true → AreValues (form self.now) text.now (map value places.new) };
 }
 
-/// How many scalars the text has if it is nothing else: one more than commas.
-fn count_scalars(text: &[u8]) -> usize {
-    let mut count: usize = 1;
-    for block in text.chunks(BLOCK) {
-        count = count.wrapping_add(usize::from(count_commas(block)));
+/// The scalars of one kind.
+#[derive(Drop)]
+pub(crate) struct Scalars;
+
+impl<T: Cell> FillsPlaces<T> for Scalars {
+    ghost form = { λ _. scalar T.kind };
+
+    ghost value = { T.value };
+
+    fn count(&self, text: &[u8]) -> usize {
+        count_byte(text, b',').wrapping_add(1)
     }
-    count
+
+    fn fill(&self, text: &[u8], places: &mut [T]) -> bool {
+        fill_piece(text, places)
+    }
 }
 
-/// How many each piece has, the pieces shared among the processors. Where there is one alone, no thread is started.
-fn count_pieces(
+/// How many values each piece has, the pieces shared among the processors. Where there is one alone, no thread is started.
+pub(crate) fn count_pieces<P, F: FillsPlaces<P>>(
     rt: &(impl Threads + Sync),
     alloc: Global,
+    fills: &F,
     pieces: &[&[u8]],
 ) -> Result<Vec<usize>, AllocError> {
     pieces
         .par_iter()
         .with_min_len(1)
-        .map(|piece: &&[u8]| -> usize { count_scalars(piece) })
+        .map(|piece: &&[u8]| -> usize { fills.count(piece) })
         .collect(rt, alloc)
 }
 
 /// How many they are together.
-fn total(counts: &[usize]) -> usize {
+pub(crate) fn total(counts: &[usize]) -> usize {
     let mut sum: usize = 0;
     for count in counts {
         sum = sum.wrapping_add(*count);
@@ -64,30 +81,31 @@ fn blank<T: Cell + Default>(alloc: Global, count: usize) -> Result<Vec<T>, Alloc
     Ok(places)
 }
 
-/// Fills the places with the scalars that the pieces are, where there is at most one piece; tells whether it is just so many.
-fn fill_one<T: Cell>(pieces: &[&[u8]], places: &mut [T]) -> bool
-    ensures { result ≡ true → ArePieces (scalar T.kind) (map (λ p. p.now) pieces.now) (map T.value places.new) }
+/// Fills the places with the values that the pieces are, where there is at most one piece; tells whether it is just so many.
+fn fill_one<P, F: FillsPlaces<P>>(fills: &F, pieces: &[&[u8]], places: &mut [P]) -> bool
+    ensures { result ≡ true → ArePlaced (F.form fills.now) F.value pieces.now places.new }
 {
     match pieces {
-        [piece] => fill_piece(piece, places),
+        [piece] => fills.fill(piece, places),
         _ => false,
     }
 }
 
-/// Fills the places with the scalars that the pieces are, in their order; tells whether these are just so many. The counts say
+/// Fills the places with the values that the pieces are, in their order; tells whether these are just so many. The counts say
 /// how many each piece has; where one is wrong the answer is `false`.
 #[cycle(halves)]
-fn fill_pieces<R: Threads + Sync, T: Cell + Send>(
+pub(crate) fn fill_pieces<R: Threads + Sync, P: Send, F: FillsPlaces<P>>(
     rt: &R,
+    fills: &F,
     pieces: &[&[u8]],
     counts: &[usize],
-    places: &mut [T],
+    places: &mut [P],
 ) -> bool
-    ensures { result ≡ true → ArePieces (scalar T.kind) (map (λ p. p.now) pieces.now) (map T.value places.new) }
+    ensures { result ≡ true → ArePlaced (F.form fills.now) F.value pieces.now places.new }
 {
     let half = pieces.len() / 2;
     if half == 0 || counts.len() < half {
-        return fill_one(pieces, places);
+        return fill_one(fills, pieces, places);
     }
     let (first, last) = pieces.split_at(half);
     let (first_counts, last_counts) = counts.split_at(half);
@@ -96,33 +114,34 @@ fn fill_pieces<R: Threads + Sync, T: Cell + Send>(
         return false;
     }
     let (low, high) = places.split_at_mut(middle);
-    fill_halves(rt, first, first_counts, low, last, last_counts, high)
+    fill_halves(rt, fills, first, first_counts, low, last, last_counts, high)
 }
 
 /// Both halves side by side.
 #[cycle(halves)]
-fn fill_halves<R: Threads + Sync, T: Cell + Send>(
+fn fill_halves<R: Threads + Sync, P: Send, F: FillsPlaces<P>>(
     rt: &R,
+    fills: &F,
     first: &[&[u8]],
     first_counts: &[usize],
-    low: &mut [T],
+    low: &mut [P],
     last: &[&[u8]],
     last_counts: &[usize],
-    high: &mut [T],
+    high: &mut [P],
 ) -> bool
     requires some_first { 0 < length first.now }
     requires some_last { 0 < length last.now }
-    ensures first { result ≡ true → ArePieces (scalar T.kind) (map (λ p. p.now) first.now) (map T.value low.new) }
-    ensures last { result ≡ true → ArePieces (scalar T.kind) (map (λ p. p.now) last.now) (map T.value high.new) }
+    ensures first { result ≡ true → ArePlaced (F.form fills.now) F.value first.now low.new }
+    ensures last { result ≡ true → ArePlaced (F.form fills.now) F.value last.now high.new }
 {
     let mut front = || -> bool
-        requires { IsSync R.row × IsSend T.row }
-        ensures { result ≡ true → ArePieces (scalar T.kind) (map (λ p. p.now) first.entry.now) (map T.value low.exit.now) }
-    { fill_pieces(rt, first, first_counts, low) };
+        requires { IsSync R.row × IsSend P.row × IsSync F.row }
+        ensures { result ≡ true → ArePlaced (F.form fills.entry.now) F.value first.entry.now low.exit.now }
+    { fill_pieces(rt, fills, first, first_counts, low) };
     let mut back = || -> bool
-        requires { IsSync R.row × IsSend T.row }
-        ensures { result ≡ true → ArePieces (scalar T.kind) (map (λ p. p.now) last.entry.now) (map T.value high.exit.now) }
-    { fill_pieces(rt, last, last_counts, high) };
+        requires { IsSync R.row × IsSend P.row × IsSync F.row }
+        ensures { result ≡ true → ArePlaced (F.form fills.entry.now) F.value last.entry.now high.exit.now }
+    { fill_pieces(rt, fills, last, last_counts, high) };
     let (is_first, is_last) = join_mut(rt, &mut front, &mut back);
     is_first && is_last
 }
@@ -140,10 +159,11 @@ pub(crate) fn read_filled<T: Cell + Send + Default>(
 {
     scalars_join_at_commas();
     let pieces = cut_pieces(alloc, text, text.len() / workers as usize, CutAt::Comma)?;
-    let counts = count_pieces(rt, alloc, pieces.as_slice())?;
+    let counts = count_pieces::<T, Scalars>(rt, alloc, &Scalars, pieces.as_slice())?;
     let mut places = blank::<T>(alloc, total(counts.as_slice()))?;
     if fill_pieces(
         rt,
+        &Scalars,
         pieces.as_slice(),
         counts.as_slice(),
         places.as_mut_slice(),

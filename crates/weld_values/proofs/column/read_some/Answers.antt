@@ -1,9 +1,15 @@
-use Rattle.std.proofs.Common.{sym, subst, map, arith, ◌<◌, length}
+use Rattle.std.proofs.Common.{List, sym, ◌∙◌, subst, map, arith, ◌<◌, length}
 use Rattle.weld_values.specs.declared.flaw.Flaw.{Flaw}
+use Rattle.weld_values.specs.declared.flaw.Flaw.TheVariants.{Fine}
 use Rattle.weld_values.specs.Grammar.{scalar_at, Found}
 use Rattle.weld_values.specs.Judging.{Gathered, AreListed, IsReadInto}
-use Rattle.weld_values.proofs.Listings.{found_sole, into_more, into_last, unclosed, some_holds}
+use Rattle.weld_values.proofs.Listings.{gathered_none, found_sole, into_more, into_last, unclosed, some_holds}
 use Rattle.weld_values.proofs.column.read_some.Goals as goal
+
+pub loop-items-init : goal.loop-items-init
+loop-items-init g c =
+    let R = Found (scalar_at g.T.Cell.kind) in
+    subst (λ (xs : List _). Gathered R c.args.text.now c.args.text.now Fine (map g.T.Cell.value xs)) (sym (c.from_vec-items.ensures ∙ c.in_ok-with_capacity.ensures.items)) (gathered_none R c.args.text.now)
 
 pub loop-items-smaller : goal.loop-items-smaller
 loop-items-smaller g c =

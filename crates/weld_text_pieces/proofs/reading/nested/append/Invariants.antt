@@ -1,7 +1,0 @@
-use Rattle.std.proofs.Common.{◌≡◌, ◌++◌, map}
-use Rattle.std.specs.Vec.Iter.{into_iter_items}
-use Rattle.weld_data.specs.View.{view_val}
-use Rattle.weld_text_pieces.proofs.reading.nested.append.Given as goal
-
-abbrev pub invariant-loop-value : goal.invariant-loop-value
-invariant-loop-value l = l.items ++ map view_val (into_iter_items l.value-iterator) ≡ l.fn.items ++ l.fn.more
