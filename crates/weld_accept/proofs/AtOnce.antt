@@ -24,11 +24,11 @@ abbrev unsome : Option Item → Item
 unsome (Some i) = i
 unsome None = OfRule r.Primary
 
-abbrev listed : Option (List Entry) → List Entry
+abbrev pub listed : Option (List Entry) → List Entry
 listed (Some es) = es
 listed None = []
 
-abbrev choices : Part → List Item
+abbrev pub choices : Part → List Item
 choices (one_of is) = is
 choices _ = []
 

@@ -3,3 +3,4 @@ pub mod Made
 pub mod Ranks
 pub mod Tokens
 pub mod AtOnce
+pub mod Operators

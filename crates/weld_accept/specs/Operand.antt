@@ -60,3 +60,11 @@ operand r.Sum = Some (End r.Primary ∷ Due (Repeated r.FieldPart) ∷ End r.Pos
 operand r.Or = Some (End r.Primary ∷ Due (Repeated r.FieldPart) ∷ End r.Post ∷ End r.Unary ∷ Due (Repeated r.ProductPart) ∷ End r.Product ∷ Due (Repeated r.SumPart) ∷ End r.Sum ∷ Due (Repeated r.RelationPart) ∷ End r.Relation ∷ Due (Repeated r.EqualityPart) ∷ End r.Equality ∷ Due (Repeated r.AndPart) ∷ End r.And ∷ Due (Repeated r.OrPart) ∷ End r.Or ∷ [])
 operand r.Expr = Some (End r.Primary ∷ Due (Repeated r.FieldPart) ∷ End r.Post ∷ End r.Unary ∷ Due (Repeated r.ProductPart) ∷ End r.Product ∷ Due (Repeated r.SumPart) ∷ End r.Sum ∷ Due (Repeated r.RelationPart) ∷ End r.Relation ∷ Due (Repeated r.EqualityPart) ∷ End r.Equality ∷ Due (Repeated r.AndPart) ∷ End r.And ∷ Due (Repeated r.OrPart) ∷ End r.Or ∷ End r.Expr ∷ [])
 operand _ = None
+
+-- what an operator leaves on the stack, the next entry first, where it begins another operand of the rule's line
+abbrev pub operator : Rule → Option (List Entry)
+operator r.ProductPart = Some (End r.ProductOp ∷ Due (OfRule r.Unary) ∷ End r.ProductPart ∷ Due (Repeated r.ProductPart) ∷ [])
+operator r.SumPart = Some (End r.SumOp ∷ Due (OfRule r.Product) ∷ End r.SumPart ∷ Due (Repeated r.SumPart) ∷ [])
+operator r.RelationPart = Some (End r.RelationOp ∷ Due (OfRule r.Sum) ∷ End r.RelationPart ∷ Due (Repeated r.RelationPart) ∷ [])
+operator r.EqualityPart = Some (End r.EqualityOp ∷ Due (OfRule r.Relation) ∷ End r.EqualityPart ∷ Due (Repeated r.EqualityPart) ∷ [])
+operator _ = None

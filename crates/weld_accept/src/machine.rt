@@ -7,7 +7,7 @@ ghost use Rattle.weld_grammar.specs.Pending.{depth, behind, first_begun as first
 ghost use Rattle.weld_accept.specs.Machine.{items_of, Moves, Opens};
 
 use crate::entry::Entry;
-use crate::operand::{operand, primary};
+use crate::operand::{operand, operator, primary};
 use crate::stack::Stack;
 use crate::starts::begins;
 use crate::step::Step;
@@ -80,8 +80,8 @@ fn open(item: Item, class: Class, stack: &mut Stack, steps: &mut Steps) -> Resul
     }
 }
 
-/// The same, at once where an operand begins what it mostly begins: so the levels between an expression and its operand
-/// aren't opened one by one.
+/// The same, at once where an operand begins what it mostly begins, or an operator what follows one: so the levels between
+/// an expression and its operand aren't opened one by one.
 fn begin(item: Item, class: Class, stack: &mut Stack, steps: &mut Steps) -> Result<(), AllocError>
     requires { IsTrue (begins_class item class) }
     ensures pending { OnOk result (items_of stack.new
@@ -94,6 +94,12 @@ fn begin(item: Item, class: Class, stack: &mut Stack, steps: &mut Steps) -> Resu
                 stack.extend(entries)?;
                 return open(part, class, stack, steps);
             }
+        }
+    }
+    if let (Item::Repeated(rule), Class::Symbol(symbol)) = (item, class) {
+        if let Some(entries) = operator(rule) {
+            stack.extend(entries)?;
+            return steps.push(Step::Shift(Terminal::Sign(symbol)));
         }
     }
     open(item, class, stack, steps)

@@ -1,8 +1,9 @@
-//! What a token that begins an operand opens, as data: with one begins most of what is opened.
+//! What a token that begins an operand opens, as data, and what an operator between two does: with these begins most of
+//! what is opened.
 ghost use Rattle.std.specs.Prelude.{◌≡◌, Some, None, reverse, MatchOption, IfSome, IsTrue};
 ghost use Rattle.weld_grammar.specs.declared.terminals.class.Class.TheVariants as classes;
 ghost use Rattle.weld_grammar.specs.Begins.{begins as begins_class};
-ghost use Rattle.weld_accept.specs.Operand.{operand as operand_of, primary as primary_of};
+ghost use Rattle.weld_accept.specs.Operand.{operand as operand_of, operator as operator_of, primary as primary_of};
 
 use crate::entry::Entry;
 use weld_grammar::terminals::{Class, Reserved, Symbol};
@@ -43,6 +44,49 @@ pub fn operand(rule: Rule) -> Option<&'static [Entry]>
         Rule::Unary => Some(&ENTRIES[13..]),
         Rule::Post => Some(&ENTRIES[14..]),
         Rule::Primary => Some(&ENTRIES[16..]),
+        _ => None,
+    }
+}
+
+/// What an operator of products leaves on the stack, the next entry last.
+static PRODUCT: [Entry; 4] = [
+    Entry::Due(Item::Repeated(Rule::ProductPart)),
+    Entry::End(Rule::ProductPart),
+    Entry::Due(Item::Part(Rule::Unary)),
+    Entry::End(Rule::ProductOp),
+];
+
+static SUM: [Entry; 4] = [
+    Entry::Due(Item::Repeated(Rule::SumPart)),
+    Entry::End(Rule::SumPart),
+    Entry::Due(Item::Part(Rule::Product)),
+    Entry::End(Rule::SumOp),
+];
+
+static RELATION: [Entry; 4] = [
+    Entry::Due(Item::Repeated(Rule::RelationPart)),
+    Entry::End(Rule::RelationPart),
+    Entry::Due(Item::Part(Rule::Sum)),
+    Entry::End(Rule::RelationOp),
+];
+
+static EQUALITY: [Entry; 4] = [
+    Entry::Due(Item::Repeated(Rule::EqualityPart)),
+    Entry::End(Rule::EqualityPart),
+    Entry::Due(Item::Part(Rule::Relation)),
+    Entry::End(Rule::EqualityOp),
+];
+
+/// What an operator leaves on the stack, the next entry last, where it begins another operand of the rule's line.
+pub fn operator(rule: Rule) -> Option<&'static [Entry]>
+    ensures { MatchOption result
+        (operator_of rule ≡ None) (λ entries. operator_of rule ≡ Some (reverse entries.now)) }
+{
+    match rule {
+        Rule::ProductPart => Some(&PRODUCT),
+        Rule::SumPart => Some(&SUM),
+        Rule::RelationPart => Some(&RELATION),
+        Rule::EqualityPart => Some(&EQUALITY),
         _ => None,
     }
 }
