@@ -1,5 +1,6 @@
 pub mod Deeper
 pub mod Depth
+pub mod Kept
 pub mod Kind
 pub mod Lookup
 pub mod Operation

@@ -13,9 +13,6 @@ pub struct Items<T> {
 /// A list of truth values.
 pub type Bools = Items<bool>;
 
-/// A list of numbers of kind i8.
-pub type I8s = Items<i8>;
-
 /// A list of numbers of kind i16.
 pub type I16s = Items<i16>;
 

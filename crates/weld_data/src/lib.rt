@@ -6,6 +6,7 @@
 //! lists themselves, and `Pairs` keeps that its keys rise.
 #![tactic(auto)]
 
+pub mod i8s;
 pub mod items;
 pub mod kind;
 pub mod laws;
@@ -16,7 +17,8 @@ pub mod stop;
 pub mod text;
 pub mod value;
 
-pub use items::{Bools, I8s, I16s, I32s, I64s, Items, Names, U8s, U16s, U32s, U64s};
+pub use i8s::I8s;
+pub use items::{Bools, I16s, I32s, I64s, Items, Names, U8s, U16s, U32s, U64s};
 pub use kind::Kind;
 pub use num::Num;
 pub use op::{BinOp, MergeOp};

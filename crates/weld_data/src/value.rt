@@ -4,7 +4,8 @@ mod copy;
 mod lookup;
 mod order;
 
-use crate::items::{Bools, I8s, I16s, I32s, I64s, U8s, U16s, U32s, U64s};
+use crate::i8s::I8s;
+use crate::items::{Bools, I16s, I32s, I64s, U8s, U16s, U32s, U64s};
 use crate::num::Num;
 pub use order::compare_keys;
 use std::alloc::{AllocError, Global};

@@ -7,7 +7,7 @@ use crate::dictionaries::build;
 use std::alloc::{AllocError, Global};
 use std::cmp::Ordering;
 use std::test::Fail;
-use weld_data::{Column, Items, Num, Val, Vals, compare_keys};
+use weld_data::{Column, I8s, Items, Num, Val, Vals, compare_keys};
 
 /// The same list, kept value by value.
 fn nested(alloc: Global, items: &[i8]) -> Result<Vals, AllocError>
@@ -25,7 +25,7 @@ fn column_of(alloc: Global, items: &[i8], typed: bool) -> Result<Column, AllocEr
     ensures { IfOk result (λ column. view_column column ≡ map (number kinds.I8) items.now) }
 {
     if typed {
-        Ok(Column::I8(Items::copy_of(alloc, items)?))
+        Ok(Column::I8(I8s::copy_of(alloc, items)?))
     } else {
         Ok(Column::Nest(nested(alloc, items)?))
     }
@@ -90,7 +90,7 @@ fn keys_are_ordered(rt: HostRuntime) -> Result<(), Fail> {
 fn column(alloc: Global, number: u8) -> Result<Column, AllocError> {
     match number {
         0 => Ok(Column::Bool(Items::copy_of(alloc, &[false, true])?)),
-        1 => Ok(Column::I8(Items::copy_of(alloc, &[0, 1])?)),
+        1 => Ok(Column::I8(I8s::copy_of(alloc, &[0, 1])?)),
         2 => Ok(Column::I16(Items::copy_of(alloc, &[0, 1])?)),
         3 => Ok(Column::I32(Items::copy_of(alloc, &[0, 1])?)),
         4 => Ok(Column::I64(Items::copy_of(alloc, &[0, 1])?)),

@@ -5,7 +5,7 @@ use crate::grow::append_item;
 use crate::part::Part;
 use crate::words::append_words;
 use std::alloc::{AllocError, Global};
-use weld_data::{Column, Items, Kind, Stop, Val, Vals};
+use weld_data::{Column, I8s, Items, Kind, Stop, Val, Vals};
 
 /// The items of a list, numbers of one kind in an array of that kind. A caller that merges many
 /// numbers matches once and pushes onto the array itself.
@@ -242,7 +242,7 @@ impl ListPart {
     {
         match self {
             ListPart::Bool(items) => Column::Bool(Items::from_vec(items)),
-            ListPart::I8(items) => Column::I8(Items::from_vec(items)),
+            ListPart::I8(items) => Column::I8(I8s::from_vec(items)),
             ListPart::I16(items) => Column::I16(Items::from_vec(items)),
             ListPart::I32(items) => Column::I32(Items::from_vec(items)),
             ListPart::I64(items) => Column::I64(Items::from_vec(items)),

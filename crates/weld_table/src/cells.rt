@@ -22,7 +22,7 @@ use weld_write_value::is_i8;
 #[derive(Drop)]
 pub(crate) enum Cells {
     Bool(Bools),
-    I8(I8s),
+    I8(Items<i8>),
     I16(I16s),
     I32(I32s),
     I64(I64s),
@@ -71,11 +71,11 @@ fn signed(byte: u8) -> i8
 fn signed_bytes(alloc: Global, field: &[u8]) -> Result<Val, AllocError>
     ensures { IfOk result (λ v. CellReads (vec (scalar kinds.I8)) field.now (view_val v)) }
 {
-    let mut items: Vec<i8> = Vec::with_capacity(alloc, field.len())?;
+    let mut items = I8s::with_capacity(alloc, field.len())?;
     for byte in field {
-        items.push(signed(*byte))?;
+        items.push(alloc, signed(*byte))?;
     }
-    Ok(Val::List(Column::I8(I8s::from_vec(items))))
+    Ok(Val::List(Column::I8(items)))
 }
 
 /// The bytes as a list of numbers of kind u8.
@@ -118,7 +118,7 @@ impl Cells {
     {
         match &ty.form {
             TyForm::Scalar(Kind::Bool) => Cells::Bool(Bools::new(alloc)),
-            TyForm::Scalar(Kind::I8) => Cells::I8(I8s::new(alloc)),
+            TyForm::Scalar(Kind::I8) => Cells::I8(Items::new(alloc)),
             TyForm::Scalar(Kind::I16) => Cells::I16(I16s::new(alloc)),
             TyForm::Scalar(Kind::I32) => Cells::I32(I32s::new(alloc)),
             TyForm::Scalar(Kind::I64) => Cells::I64(I64s::new(alloc)),
@@ -157,7 +157,7 @@ impl Cells {
     {
         match self {
             Cells::Bool(items) => Column::Bool(items),
-            Cells::I8(items) => Column::I8(items),
+            Cells::I8(items) => Column::I8(I8s::from_vec(items.into_vec())),
             Cells::I16(items) => Column::I16(items),
             Cells::I32(items) => Column::I32(items),
             Cells::I64(items) => Column::I64(items),

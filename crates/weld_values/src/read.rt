@@ -21,7 +21,7 @@ use crate::string::read_items;
 use crate::tokens::{after_blanks, after_word, byte_at};
 use std::alloc::{AllocError, Global};
 use weld_data::laws::one_wrapped_number;
-use weld_data::{Column, Kind, Num, Pairs, Val, Vals};
+use weld_data::{Column, I8s, Kind, Num, Pairs, Val, Vals};
 use weld_sorted::{Entry, sort_entries};
 use weld_tree::{Ty, TyForm, Tys};
 use weld_write_value::is_i8;
@@ -87,7 +87,11 @@ fn read_column<'a>(
             None => None,
         }),
         Kind::I8 => Ok(match read_cells::<i8>(alloc, text)? {
-            Some((items, flaw, rest)) => Some((Column::I8(items), flaw, rest)),
+            Some((items, flaw, rest)) => Some((
+                Column::I8(I8s::from_vec(items.into_vec())),
+                flaw,
+                rest,
+            )),
             None => None,
         }),
         Kind::I16 => Ok(match read_cells::<i16>(alloc, text)? {

@@ -91,7 +91,7 @@ pub(crate) fn read_items<'a>(
     ensures found { IfOk result (λ found. IfSome found (λ f. AreItems text.now f.0 f.1.now)) }
     ensures none { IfOk result (λ found. IfNone found (IsUnread AtItems text.now)) }
 {
-    let mut items = I8s::from_vec(Vec::with_capacity(alloc, count_items(text))?);
+    let mut items = I8s::with_capacity(alloc, count_items(text))?;
     let mut rest = text;
     'items: loop {
         if let Some(end) = after_byte(rest, b'"') {
@@ -100,7 +100,7 @@ pub(crate) fn read_items<'a>(
         let Some((byte, after)) = item(rest) else {
             return Ok(None);
         };
-        items.push(signed(byte))?;
+        items.push(alloc, signed(byte))?;
         rest = after;
     }
 }

@@ -3,6 +3,7 @@
 ghost use Rattle.std.specs.Prelude.{◌≡◌, IfOk};
 
 use super::{Column, Pair, Pairs, Val, Vals};
+use crate::i8s::I8s;
 use crate::items::Items;
 use std::alloc::{AllocError, Global};
 
@@ -29,7 +30,7 @@ impl Column {
     {
         match self {
             Column::Bool(items) => Ok(Column::Bool(Items::copy_of(alloc, items.as_slice())?)),
-            Column::I8(items) => Ok(Column::I8(Items::copy_of(alloc, items.as_slice())?)),
+            Column::I8(items) => Ok(Column::I8(I8s::copy_of(alloc, items.as_slice())?)),
             Column::I16(items) => Ok(Column::I16(Items::copy_of(alloc, items.as_slice())?)),
             Column::I32(items) => Ok(Column::I32(Items::copy_of(alloc, items.as_slice())?)),
             Column::I64(items) => Ok(Column::I64(Items::copy_of(alloc, items.as_slice())?)),

@@ -11,17 +11,17 @@ ghost use Rattle.weld_eval.specs.Bounds.{NumberCount, CountAnswer, BoundsAnswer,
 ghost use Rattle.weld_eval.specs.Fits.{IsList, IsPlaceNumber};
 
 use std::alloc::{AllocError, Global};
-use weld_data::{Column, Items, Stop, Text, Val, Vals};
+use weld_data::{Column, I8s, Items, Stop, Text, Val, Vals};
 
 /// The bytes of a string as a vector of numbers of kind i8.
 pub fn bytes_of(alloc: Global, text: &Text) -> Result<Val, AllocError>
     ensures { IfOk result (λ v. view_val v ≡ list (values (map byte_value text.now))) }
 {
-    let mut items = Vec::with_capacity(alloc, text.len())?;
+    let mut items = I8s::with_capacity(alloc, text.len())?;
     for byte in text.as_slice() {
-        items.push(byte.cast_signed())?;
+        items.push(alloc, byte.cast_signed())?;
     }
-    Ok(Val::List(Column::I8(Items::from_vec(items))))
+    Ok(Val::List(Column::I8(items)))
 }
 
 /// So many elements of a vector from a place on. It faults where they aren't all there.
@@ -75,7 +75,7 @@ fn elements_from(
 {
     match column {
         Column::Bool(items) => Ok(Column::Bool(items_from(alloc, items, start, count)?)),
-        Column::I8(items) => Ok(Column::I8(items_from(alloc, items, start, count)?)),
+        Column::I8(items) => Ok(Column::I8(i8s_from(alloc, items, start, count)?)),
         Column::I16(items) => Ok(Column::I16(items_from(alloc, items, start, count)?)),
         Column::I32(items) => Ok(Column::I32(items_from(alloc, items, start, count)?)),
         Column::I64(items) => Ok(Column::I64(items_from(alloc, items, start, count)?)),
@@ -98,6 +98,14 @@ fn items_from<T: Copy>(
     ensures { IfOk result (λ part. part ≡ take count (drop start items.now)) }
 {
     Items::copy_of(alloc, &items.as_slice()[start..start + count])
+}
+
+/// The numbers of kind i8 from a place on, copied.
+fn i8s_from(alloc: Global, items: &I8s, start: usize, count: usize) -> Result<I8s, AllocError>
+    requires { start + count ≤ length_of items.now }
+    ensures { IfOk result (λ part. part ≡ take count (drop start items.now)) }
+{
+    I8s::copy_of(alloc, &items.as_slice()[start..start + count])
 }
 
 /// The values from a place on, copied.

@@ -12,7 +12,7 @@ use crate::reading::filling::read_filled;
 use crate::reading::nested::read_nested;
 use std::alloc::{AllocError, Global};
 use std::thread::Threads;
-use weld_data::{Column, Kind, Val};
+use weld_data::{Column, I8s, Kind, Val};
 use weld_tree::{Ty, TyForm};
 use weld_values::laws::{
     plain_values_in_brackets_read_as_lists, read_values_have_the_type,
@@ -40,7 +40,7 @@ fn read_column(
             None => None,
         }),
         Kind::I8 => Ok(match read_filled::<i8>(rt, alloc, text, workers)? {
-            Some(items) => Some(Column::I8(items)),
+            Some(items) => Some(Column::I8(I8s::from_vec(items.into_vec()))),
             None => None,
         }),
         Kind::I16 => Ok(match read_filled::<i16>(rt, alloc, text, workers)? {

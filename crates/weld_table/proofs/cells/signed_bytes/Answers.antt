@@ -10,5 +10,5 @@ pub returns : goal.returns
 returns c =
     let end : length c.args.field.now ≤ c.loop-byte.byte-index = omega (arith, c.loop-byte-test.false) in
     ap (λ (vs : List Value). list (values vs))
-    (signed_are c.args.field.now c.from_vec.result
-    (c.from_vec.ensures ∙ c.loop-byte.invariant ∙ ap (map (λ (b : ℕ). wrapped kinds.I8 (pos b))) (take_all c.loop-byte.byte-index c.args.field.now end)))
+    (signed_are c.args.field.now c.loop-byte.items
+    (c.loop-byte.invariant ∙ ap (map (λ (b : ℕ). wrapped kinds.I8 (pos b))) (take_all c.loop-byte.byte-index c.args.field.now end)))

@@ -1,6 +1,3 @@
-use Rattle.std.proofs.Common.{IfSome, subst}
-use Rattle.weld_data.specs.Value.{Value}
-use Rattle.weld_data.specs.Order.{IsNumber}
 use Rattle.weld_data.proofs.Keys.{number_is_num}
 use Rattle.weld_data.proofs.value.Column.number_at.Goals as goal
 

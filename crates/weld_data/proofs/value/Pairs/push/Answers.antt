@@ -1,5 +1,4 @@
 use Rattle.weld_data.proofs.Rising.{Rises-push}
-use Rattle.weld_data.specs.View.{view_val, view_pair}
 use Rattle.weld_data.proofs.value.Pairs.push.Goals as goal
 
 pub invariant_of-self-2 : goal.invariant_of-self-2

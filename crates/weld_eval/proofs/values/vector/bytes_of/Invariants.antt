@@ -5,4 +5,4 @@ use Rattle.weld_meaning.specs.Evaluation.{byte_value}
 use Rattle.weld_eval.proofs.values.vector.bytes_of.Given as goal
 
 abbrev pub invariant-loop-byte : goal.invariant-loop-byte
-invariant-loop-byte l = map (number kinds.I8) l.items.items ≡ map byte_value (take l.byte-index l.byte-items)
+invariant-loop-byte l = map (number kinds.I8) l.items ≡ map byte_value (take l.byte-index l.byte-items)

@@ -9,9 +9,9 @@ returns-in_ok-items_from-in-Bool c =
     ∙ map_part _ c.args.count c.args.start c.in-Bool.items
     ∙ ap (λ u. take c.args.count (drop c.args.start (view_column u))) (sym c.in-Bool.is)
 
-pub returns-in_ok-items_from-in-I8 : goal.returns-in_ok-items_from-in-I8
-returns-in_ok-items_from-in-I8 c =
-    ap (map _) c.in_ok-items_from-in-I8.ensures
+pub returns-in_ok-i8s_from-in-I8 : goal.returns-in_ok-i8s_from-in-I8
+returns-in_ok-i8s_from-in-I8 c =
+    ap (map _) c.in_ok-i8s_from-in-I8.ensures
     ∙ map_part _ c.args.count c.args.start c.in-I8.items
     ∙ ap (λ u. take c.args.count (drop c.args.start (view_column u))) (sym c.in-I8.is)
 
