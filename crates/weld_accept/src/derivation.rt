@@ -18,7 +18,8 @@ pub fn derive(alloc: Global, rule: Rule, tokens: &[Token]) -> Result<Steps, Stop
     ensures derived { IfOk result (λ steps. IsDerivation rule (classes tokens.now) steps) }
     ensures broken { IfErr result (StopsAt rule (classes tokens.now)) }
 {
-    let mut steps = Steps::new(alloc);
+    // (a token takes some four steps)
+    let mut steps = Steps::with_room(alloc, tokens.len().saturating_mul(4))?;
     let mut stack = Stack::new(alloc);
     stack.push(Entry::Due(Item::Part(rule)))?;
     for (i, token) in tokens.iter().enumerate() {

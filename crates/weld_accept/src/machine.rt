@@ -80,6 +80,21 @@ fn open(item: Item, class: Class, stack: &mut Stack, steps: &mut Steps) -> Resul
     }
 }
 
+/// The same; a terminal is taken at once.
+#[inline(always)]
+fn take(item: Item, class: Class, stack: &mut Stack, steps: &mut Steps) -> Result<(), AllocError>
+    requires { IsTrue (begins_class item class) }
+    ensures pending { OnOk result (items_of stack.new
+        ≡ behind depth (one_item item) class (items_of stack.old)) }
+    ensures opened { OnOk result (Opens item class stack.old steps.old stack.new steps.new) }
+{
+    parts_open();
+    match item {
+        Item::One(terminal) => steps.push(Step::Shift(terminal)),
+        _ => open(item, class, stack, steps),
+    }
+}
+
 /// The same, at once where an operand begins what it mostly begins, or an operator what follows one: so the levels between
 /// an expression and its operand aren't opened one by one.
 fn begin(item: Item, class: Class, stack: &mut Stack, steps: &mut Steps) -> Result<(), AllocError>
@@ -92,7 +107,7 @@ fn begin(item: Item, class: Class, stack: &mut Stack, steps: &mut Steps) -> Resu
         if let Some(entries) = operand(rule) {
             if let Some(part) = primary(class) {
                 stack.extend(entries)?;
-                return open(part, class, stack, steps);
+                return take(part, class, stack, steps);
             }
         }
     }

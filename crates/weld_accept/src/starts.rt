@@ -238,6 +238,7 @@ pub fn starts(rule: Rule, class: Class) -> bool
 }
 
 /// Whether a token of the class may begin the item.
+#[inline(always)]
 pub fn begins(item: Item, class: Class) -> bool
     ensures { result ≡ begins_class item class }
 {

@@ -1,4 +1,4 @@
-ghost use Rattle.std.specs.Prelude.{◌≡◌, ◌∷◌, [], ◌++◌, OnOk};
+ghost use Rattle.std.specs.Prelude.{◌≡◌, ◌∷◌, [], ◌++◌, IfOk, OnOk};
 
 use crate::step::Step;
 use std::alloc::{AllocError, Global};
@@ -29,11 +29,24 @@ impl Steps {
         }
     }
 
+    /// No steps, with room for so many.
+    pub fn with_room(alloc: Global, count: usize) -> Result<Steps, AllocError>
+        ensures { IfOk result (λ steps. steps ≡ []) }
+    {
+        Ok(Steps {
+            steps: Vec::with_capacity(alloc, count)?,
+        })
+    }
+
     /// Puts a step behind the others.
+    #[inline(always)]
     pub fn push(&mut self, step: Step) -> Result<(), AllocError>
         ensures { OnOk result (self.new ≡ self.old ++ step ∷ []) }
     {
-        self.steps.push(step)?;
+        if self.steps.len() == self.steps.capacity() {
+            self.steps.reserve(1)?;
+        }
+        self.steps.push_reserved(step);
         Ok(())
     }
 

@@ -19,7 +19,7 @@ returns-in-Some-primary-clause-pending c =
     let part = c.in-Some-primary.part in
     let es = reverse c.in-Some.entries.now in
     let h : primary x ≡ Some part = search c.in-Some-primary.ensures in
-    on_ok_weaker c.open.result (λ e. e ∙ ap (λ z. behind depth (item part) x (items_of z)) c.in_ok-extend.ensures ∙ pending_operand q x part s es h c.in-Some.ensures ∙ ap (λ i. behind depth (item i) x (items_of s)) (sym c.in-Part.is)) c.open.ensures.pending
+    on_ok_weaker c.take.result (λ e. e ∙ ap (λ z. behind depth (item part) x (items_of z)) c.in_ok-extend.ensures ∙ pending_operand q x part s es h c.in-Some.ensures ∙ ap (λ i. behind depth (item i) x (items_of s)) (sym c.in-Part.is)) c.take.ensures.pending
 
 pub returns-in-Some-primary-clause-opened : goal.returns-in-Some-primary-clause-opened
 returns-in-Some-primary-clause-opened c =
@@ -28,9 +28,9 @@ returns-in-Some-primary-clause-opened c =
     let s = c.args.stack.now in
     let part = c.in-Some-primary.part in
     let es = reverse c.in-Some.entries.now in
-    let new = c.open.new in
+    let new = c.take.new in
     let h : primary x ≡ Some part = search c.in-Some-primary.ensures in
-    on_ok_weaker c.open.result (λ o. opens_same (OfRule q) c.args.item x s s c.args.steps.now new.stack new.steps (sym c.in-Part.is) refl (opens_operand q x part s es c.args.steps.now new.stack new.steps h c.in-Some.ensures (opens_same part part x c.extend.new.self (es ++ s) c.args.steps.now new.stack new.steps refl c.in_ok-extend.ensures o))) c.open.ensures.opened
+    on_ok_weaker c.take.result (λ o. opens_same (OfRule q) c.args.item x s s c.args.steps.now new.stack new.steps (sym c.in-Part.is) refl (opens_operand q x part s es c.args.steps.now new.stack new.steps h c.in-Some.ensures (opens_same part part x c.extend.new.self (es ++ s) c.args.steps.now new.stack new.steps refl c.in_ok-extend.ensures o))) c.take.ensures.opened
 
 pub returns-in-Some-operator-clause-pending : goal.returns-in-Some-operator-clause-pending
 returns-in-Some-operator-clause-pending c =
