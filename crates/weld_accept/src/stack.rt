@@ -1,4 +1,5 @@
-ghost use Rattle.std.specs.Prelude.{◌≡◌, ◌∷◌, [], ◌++◌, reverse, MatchOption, OnOk};
+ghost use Rattle.std.specs.Prelude.{◌≡◌, ◌≤◌, ◌+◌, ◌∷◌, [], ◌++◌, length, reverse, MatchOption, OnOk};
+ghost use Rattle.std.specs.Vec.{vec_len, vec_capacity};
 ghost use Rattle.weld_accept.specs.Machine.{due};
 
 use crate::entry::Entry;
@@ -19,6 +20,17 @@ impl Model for Stack {
     ghost Value = { List Entry };
 
     ghost view = { λ s. reverse s.entries.items };
+}
+
+/// Puts these few entries behind the others, one after another: there is room for them.
+#[inline(always)]
+fn put_all(entries: &mut Vec<Entry>, more: &[Entry])
+    requires { vec_len entries.old + length more.now ≤ vec_capacity entries.old }
+    ensures { entries.new.items ≡ entries.old.items ++ more.now }
+{
+    for entry in more {
+        entries.push_reserved(*entry);
+    }
 }
 
 impl Stack {
@@ -50,7 +62,9 @@ impl Stack {
     pub fn extend(&mut self, entries: &[Entry]) -> Result<(), AllocError>
         ensures { OnOk result (self.new ≡ reverse entries.now ++ self.old) }
     {
-        self.entries.extend_from_slice(entries)
+        self.entries.reserve(entries.len())?;
+        put_all(&mut self.entries, entries);
+        Ok(())
     }
 
     /// Puts these items in front of all, in this order.
