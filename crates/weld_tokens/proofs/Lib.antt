@@ -8,3 +8,4 @@ pub mod OneReading
 pub mod Numbers
 pub mod Spelled
 pub mod SomeReading
+pub mod Led

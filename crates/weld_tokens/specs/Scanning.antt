@@ -3,6 +3,8 @@ use Rattle.std.specs.Prelude.{◌≡◌, ℕ, suc, ◌+◌, ◌<◌, ◌≤◌, 
 use Rattle.std.specs.Option.{option_map}
 use Rattle.weld_grammar.specs.declared.terminals.class.Class.{Class}
 use Rattle.weld_grammar.specs.declared.terminals.class.Class.TheVariants as classes
+use Rattle.weld_grammar.specs.declared.terminals.reserved.Reserved.{Reserved}
+use Rattle.weld_grammar.specs.ReservedWords.{reserved_text}
 use Rattle.weld_tokens.specs.declared.scan.Part.{Part}
 use Rattle.weld_tokens.specs.declared.scan.Part.TheVariants.{Item, Escape, Hex, LastHex}
 use Rattle.weld_tokens.specs.Bytes.{is_letter, is_digit, is_hex, is_plain, is_escape}
@@ -40,6 +42,16 @@ is_item LastHex = false
 abbrev pub end_in : Part → List ℕ → Option ℕ
 end_in part [] = None
 end_in part (b ∷ bs) = if is_item part && b == 34 then Some 1 else option_and_then (λ next. option_map (λ n. suc n) (end_in next bs)) (next_part part b)
+
+-- the text begins with the byte
+abbrev pub leads : ℕ → List ℕ → Bool
+leads b [] = false
+leads b (c ∷ cs) = c == b
+
+-- those of these reserved words that begin with the byte
+abbrev pub led_by : ℕ → List Reserved → List Reserved
+led_by b [] = []
+led_by b (r ∷ rs) = if leads b (reserved_text r) then r ∷ led_by b rs else led_by b rs
 
 -- the longest token at the front of a text has so many bytes, and this class
 pub record IsLongest (text : List ℕ) (n : ℕ) (class : Class) : Type 0 where

@@ -1,48 +1,47 @@
 ghost use Rattle.std.specs.Prelude.{◌≡◌};
 ghost use Rattle.weld_grammar.specs.ReservedWords.{reserved_text};
-ghost use Rattle.weld_tokens.specs.Words.{written_so, word_class};
+ghost use Rattle.weld_tokens.specs.Scanning.{led_by};
+ghost use Rattle.weld_tokens.specs.Words.{all_reserved, reserved_or_name, written_so, word_class};
 
 use weld_grammar::terminals::{Class, Reserved};
 
-/// All reserved words.
-static RESERVED: [Reserved; 36] = [
-    Reserved::Let,
-    Reserved::If,
-    Reserved::Select,
-    Reserved::Lookup,
-    Reserved::Keyexists,
-    Reserved::Len,
-    Reserved::Slice,
-    Reserved::Merge,
-    Reserved::Result,
-    Reserved::For,
-    Reserved::Iterate,
-    Reserved::Zip,
-    Reserved::Iter,
-    Reserved::Vec,
-    Reserved::Dict,
-    Reserved::Bool,
-    Reserved::I8,
-    Reserved::I16,
-    Reserved::I32,
-    Reserved::I64,
-    Reserved::U8,
-    Reserved::U16,
-    Reserved::U32,
-    Reserved::U64,
-    Reserved::Vecbuilder,
-    Reserved::Appender,
-    Reserved::Merger,
-    Reserved::Dictmerger,
-    Reserved::Vecmerger,
-    Reserved::Groupbuilder,
-    Reserved::Groupmerger,
-    Reserved::True,
-    Reserved::False,
-    Reserved::Min,
-    Reserved::Max,
-    Reserved::Macro,
-];
+/// The reserved words that begin with the letter, in the order of all.
+fn led_by(first: u8) -> &'static [Reserved]
+    ensures { result.now ≡ led_by first all_reserved }
+{
+    match first {
+        b'a' => &[Reserved::Appender],
+        b'b' => &[Reserved::Bool],
+        b'd' => &[Reserved::Dict, Reserved::Dictmerger],
+        b'f' => &[Reserved::For, Reserved::False],
+        b'g' => &[Reserved::Groupbuilder, Reserved::Groupmerger],
+        b'i' => &[
+            Reserved::If,
+            Reserved::Iterate,
+            Reserved::Iter,
+            Reserved::I8,
+            Reserved::I16,
+            Reserved::I32,
+            Reserved::I64,
+        ],
+        b'k' => &[Reserved::Keyexists],
+        b'l' => &[Reserved::Let, Reserved::Lookup, Reserved::Len],
+        b'm' => &[
+            Reserved::Merge,
+            Reserved::Merger,
+            Reserved::Min,
+            Reserved::Max,
+            Reserved::Macro,
+        ],
+        b'r' => &[Reserved::Result],
+        b's' => &[Reserved::Select, Reserved::Slice],
+        b't' => &[Reserved::True],
+        b'u' => &[Reserved::U8, Reserved::U16, Reserved::U32, Reserved::U64],
+        b'v' => &[Reserved::Vec, Reserved::Vecbuilder, Reserved::Vecmerger],
+        b'z' => &[Reserved::Zip],
+        _ => &[],
+    }
+}
 
 /// The letters of a reserved word.
 fn text_of(word: Reserved) -> &'static str
@@ -100,13 +99,22 @@ fn written_so(word: &[u8], reserved: &[Reserved]) -> Option<Reserved>
     None
 }
 
-/// The class of a word.
-#[tactic(auto, unfolding(crate::specs::Words::word_class))]
+/// The class of a word that is this reserved one, if any.
+fn reserved_or_name(found: Option<Reserved>) -> Class
+    ensures { result ≡ reserved_or_name found }
+{
+    match found {
+        Some(reserved) => Class::Reserved(reserved),
+        None => Class::Name,
+    }
+}
+
+/// The class of a word. Only the reserved words that begin as it does are looked at.
 pub(crate) fn word_class(word: &[u8]) -> Class
     ensures { result ≡ word_class word.now }
 {
-    match written_so(word, &RESERVED) {
-        Some(reserved) => Class::Reserved(reserved),
+    match word.split_first() {
         None => Class::Name,
+        Some((first, _)) => reserved_or_name(written_so(word, led_by(*first))),
     }
 }
