@@ -17,6 +17,8 @@ pub use limits::{
     first_long_name, has_too_many_bytes, has_too_many_tokens, is_closing, is_opening,
 };
 pub use literals::{chars_of, field_of, literal_of};
-pub use order::{Findings, first_number_out_of_range, first_out_of_range, first_refusal};
+pub use order::{
+    Findings, first_number_out_of_range, first_out_of_range, first_refusal, first_refusal_within,
+};
 pub use place::end_of;
 pub use read::{Tokens, class_of, read_tokens};

@@ -1,5 +1,6 @@
-ghost use Rattle.std.specs.Prelude.{◌≡◌, length};
+ghost use Rattle.std.specs.Prelude.{◌≡◌, false, length};
 ghost use Rattle.weld_tokens.specs.Order as order;
+ghost use Rattle.weld_tokens.specs.TokenLimits as limits;
 
 use crate::limits::{first_long_name, has_too_many_tokens};
 use crate::literals::literal_of;
@@ -28,12 +29,12 @@ pub struct Findings {
 }
 
 /// Whether the token is a number that its kind doesn't have.
-fn out_of_range(class: Class, negative: bool, word: &[u8]) -> bool
-    ensures { result ≡ order.out_of_range class negative word.now }
+fn out_of_range(token: &Token, negative: bool) -> bool
+    ensures { result ≡ order.out_of_range token.now.class negative token.now.word }
 {
-    match class {
-        Class::Int => literal_of(word, Class::Int, negative).is_none(),
-        Class::Long => literal_of(word, Class::Long, negative).is_none(),
+    match token.class {
+        Class::Int => literal_of(token.word.as_slice(), Class::Int, negative).is_none(),
+        Class::Long => literal_of(token.word.as_slice(), Class::Long, negative).is_none(),
         _ => false,
     }
 }
@@ -45,7 +46,7 @@ pub fn first_out_of_range(negative: &[bool], tokens: &[Token]) -> Option<Place>
     ensures { result ≡ order.first_out_of_range negative.now tokens.now }
 {
     for (i, token) in tokens.iter().enumerate() {
-        if out_of_range(token.class, negative[i], token.word.as_slice()) {
+        if out_of_range(token, negative[i]) {
             return Some(token.place);
         }
     }
@@ -83,7 +84,7 @@ pub fn first_number_out_of_range(tokens: &[Token]) -> Option<Place>
     let mut operand = false;
     let mut behind = false;
     for token in tokens {
-        if out_of_range(token.class, behind, token.word.as_slice()) {
+        if out_of_range(token, behind) {
             return Some(token.place);
         }
         behind = is_minus(token.class) && !operand;
@@ -138,6 +139,17 @@ fn or_else(first: Option<Refusal>, other: Option<Refusal>) -> Option<Refusal>
 pub fn first_refusal(tokens: &[Token], found: &Findings) -> Option<Refusal>
     ensures { result ≡ order.first_refusal tokens.now found.now }
 {
+    if has_too_many_tokens(tokens) {
+        return Some(Refusal::Size(Code::M3));
+    }
+    first_refusal_within(tokens, found)
+}
+
+/// The same of a text of which it is known that M3 doesn't refuse it.
+pub fn first_refusal_within(tokens: &[Token], found: &Findings) -> Option<Refusal>
+    requires { limits.has_too_many_tokens tokens.now ≡ false }
+    ensures { result ≡ order.first_refusal tokens.now found.now }
+{
     let names = or_else(at(Code::M9, first_long_name(tokens)), named(found.misnamed));
     let fields = or_else(at(Code::M8, found.too_many_fields), names);
     let parameters = or_else(at(Code::M7, found.too_many_parameters), fields);
@@ -145,6 +157,5 @@ pub fn first_refusal(tokens: &[Token], found: &Findings) -> Option<Refusal>
     let lets = or_else(whole(Code::M5, found.too_many_lets), types);
     let nodes = or_else(at(Code::M4, found.too_deep), lets);
     let numbers = or_else(at(Code::X3, found.out_of_range), nodes);
-    let grammar = or_else(at(Code::X2, found.ungrammatical), numbers);
-    or_else(whole(Code::M3, has_too_many_tokens(tokens)), grammar)
+    or_else(at(Code::X2, found.ungrammatical), numbers)
 }

@@ -1,4 +1,4 @@
-ghost use Rattle.std.specs.Prelude.{◌≡◌, ◌≤◌, ◌+◌, length, IfSome, IfNone, ◌∷◌, []};
+ghost use Rattle.std.specs.Prelude.{◌≡◌, ◌≤◌, ◌+◌, ◌||◌, length, IfSome, IfNone, ◌∷◌, []};
 ghost use Rattle.weld_tokens.specs.Lists as lists;
 
 use crate::text_limits::depth::earlier;
@@ -324,6 +324,13 @@ fn in_brackets(tokens: &[Token], two: bool) -> Option<Place>
     first_of(type_too_large(rest), second)
 }
 
+/// Whether types may be written directly behind the token.
+fn leads_types(class: Class) -> bool
+    ensures { result ≡ (lists.is_colon class || lists.builds_one class || lists.builds_two class) }
+{
+    is_colon(class) || builds_one(class) || builds_two(class)
+}
+
 /// The place of the first type that is written directly behind a token, where it is too large.
 fn type_behind(class: Class, rest: &[Token]) -> Option<Place>
     ensures { result ≡ lists.type_behind class rest.now }
@@ -346,8 +353,10 @@ pub fn first_type_too_large(tokens: &[Token]) -> Option<Place>
 {
     let mut rest = tokens;
     while let Some((first, more)) = split(rest) {
-        if let Some(place) = type_behind(first.class, more) {
-            return Some(place);
+        if leads_types(first.class) {
+            if let Some(place) = type_behind(first.class, more) {
+                return Some(place);
+            }
         }
         rest = more;
     }
