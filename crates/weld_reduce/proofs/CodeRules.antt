@@ -1,5 +1,5 @@
 -- The rules that bind no names.
-use Rattle.std.proofs.Common.{◌≡◌, refl, ℕ, Bool, true, false, List, Option, Some, None, option_and_then, ap}
+use Rattle.std.proofs.Common.{◌≡◌, refl, ℕ, true, false, List, Option, Some, None, option_and_then, ap}
 use Rattle.weld_grammar.specs.declared.terminals.class.Class.{Class}
 use Rattle.weld_grammar.specs.declared.terminals.class.Class.TheVariants as classes
 use Rattle.weld_tokens.specs.Words.{class_of}

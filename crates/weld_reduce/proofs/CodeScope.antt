@@ -1,5 +1,5 @@
 -- Names in scope, and the newest of each in a map.
-use Rattle.std.proofs.Common.{◌≡◌, refl, ℕ, Bool, true, false, ◌||◌, if◌then◌else◌, Option, Some, None, IfSome, IfNone, IsSome, List, [], ◌∷◌, ◌++◌, map, reverse, ap, sym, ◌∙◌, bytes_eq, HashMap, Bor}
+use Rattle.std.proofs.Common.{◌≡◌, refl, ℕ, Bool, true, false, ◌||◌, if◌then◌else◌, Option, Some, IfSome, IfNone, IsSome, List, [], ◌∷◌, ◌++◌, reverse, ap, ◌∙◌, bytes_eq, HashMap, Bor}
 use Rattle.std.proofs.lemmas.List.{reverse-append}
 use Rattle.std.proofs.lemmas.Slice.Eq.{bytes_eq-Decides}
 use Rattle.weld_spell.specs.Names.{bears}

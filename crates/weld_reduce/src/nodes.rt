@@ -11,6 +11,7 @@ use weld_tree::{
 };
 
 /// A node without parts.
+#[inline(always)]
 pub fn leaf(alloc: Global, place: Place, leaf: LeafForm) -> Result<Box<Expr>, AllocError>
     ensures { IfOk result (λ e. e.value ≡ trees.leaf (at place) (view_leaf leaf)) }
 {

@@ -89,6 +89,20 @@ pub fn reduce(alloc: Global, rule: Rule, state: &mut State) -> Result<(), Stop>
         Rule::Iterate => reduce_iterate(alloc, state),
         Rule::Bind => bind(state),
         Rule::Param => param(state),
+        // (of these most derivations have many, and they leave all as it is)
+        Rule::Expr
+        | Rule::Or
+        | Rule::And
+        | Rule::Equality
+        | Rule::Relation
+        | Rule::Sum
+        | Rule::Product
+        | Rule::Unary
+        | Rule::Post
+        | Rule::EqualityOp
+        | Rule::RelationOp
+        | Rule::SumOp
+        | Rule::ProductOp => Ok(()),
         _ => reduce_stack(alloc, rule, &mut state.values),
     }
 }

@@ -37,6 +37,15 @@ impl<'a> Model for Values<'a> {
     ghost view = { λ s. reverse (map view_value s.items.items) };
 }
 
+/// What was on top doesn't fit, and is let go.
+#[cold]
+#[inline(never)]
+fn unfit(_value: Option<Value>) -> Stop
+    ensures { result ≡ Broken }
+{
+    Stop::Broken
+}
+
 impl<'a> Values<'a> {
     /// No values. It takes no memory.
     pub fn new(alloc: Global) -> Values<'a>
@@ -48,10 +57,14 @@ impl<'a> Values<'a> {
     }
 
     /// Puts a value on top.
+    #[inline(always)]
     pub fn push(&mut self, value: Value<'a>) -> Result<(), AllocError>
         ensures { OnOk result (self.new ≡ view_value value.entry ∷ self.old) }
     {
-        self.items.push(value)?;
+        if self.items.len() == self.items.capacity() {
+            self.items.reserve(1)?;
+        }
+        self.items.push_reserved(value);
         Ok(())
     }
 
@@ -64,24 +77,26 @@ impl<'a> Values<'a> {
     }
 
     /// Takes a token away.
+    #[inline(always)]
     pub fn pop_token(&mut self) -> Result<&'a Token, Stop>
         ensures ok { IfOk result (λ t. top_token self.old ≡ Some (t.now, self.new)) }
         ensures broken { IfErr result (λ _. top_token self.old ≡ None) }
     {
         match self.pop() {
             Some(Value::Token(token)) => Ok(token),
-            _ => Err(Stop::Broken),
+            other => Err(unfit(other)),
         }
     }
 
     /// Takes an expression away.
+    #[inline(always)]
     pub fn pop_expr(&mut self) -> Result<Box<Expr>, Stop>
         ensures ok { IfOk result (λ e. top_expr self.old ≡ Some (e.value, self.new)) }
         ensures broken { IfErr result (λ _. top_expr self.old ≡ None) }
     {
         match self.pop() {
             Some(Value::Expr(e)) => Ok(e),
-            _ => Err(Stop::Broken),
+            other => Err(unfit(other)),
         }
     }
 
