@@ -1,5 +1,5 @@
 -- What is answered of a text, from what is found in it.
-use Rattle.std.proofs.Common.{◌≡◌, ◌⊎◌, inl, inr, refl, ℕ, ◌≤◌, Bool, true, false, List, length, Option, Some, None, MatchOption, Result, Ok, Err, IfOk, IfErr, ap, sym, subst, ◌∙◌}
+use Rattle.std.proofs.Common.{◌≡◌, ◌⊎◌, inl, inr, refl, ℕ, ◌≤◌, Bool, true, false, List, length, Option, Some, None, Result, Ok, Err, IfOk, IfErr, ap, sym, subst, ◌∙◌}
 use Rattle.std.proofs.lemmas.Bool.{ltb-false}
 use Rattle.weld_tree.specs.declared.place.Place.{Place}
 use Rattle.weld_tree.specs.declared.code.Code.{Code}
