@@ -10,8 +10,7 @@ use weld_grammar::terminals::Token;
 use weld_reduce::Read;
 use weld_tokens::Findings;
 use weld_tokens::text_limits::{
-    first_deep_node, first_field_too_many, first_parameter_too_many, first_type_too_large,
-    has_too_many_lets,
+    first_field_too_many, first_parameter_too_many, first_type_too_large, node_limits,
 };
 use weld_tree::Place;
 
@@ -40,11 +39,12 @@ pub(crate) fn found_in(tokens: &[Token], read: &Read) -> Findings
     ensures too_many_fields { result.too_many_fields ≡ lists.first_field_too_many tokens.now }
     ensures misnamed { result.misnamed ≡ read.now.misnamed }
 {
+    let (too_deep, too_many_lets) = node_limits(&read.body);
     Findings {
         ungrammatical: None,
         out_of_range: None,
-        too_deep: first_deep_node(&read.body),
-        too_many_lets: has_too_many_lets(&read.body),
+        too_deep,
+        too_many_lets,
         too_large_type: first_type_too_large(tokens),
         too_many_parameters: first_parameter_too_many(tokens),
         too_many_fields: first_field_too_many(tokens),

@@ -15,7 +15,9 @@ use weld_spell::laws::programs_are_derived;
 use weld_spell::measures::{fields_by_the_tree, parameters_by_the_tree, types_by_the_tree};
 use weld_spell::programs::{derived_or_broken, numbers_by_the_tree, spelled_programs};
 use weld_tokens::laws::classes_of_tokens;
-use weld_tokens::{end_of, first_refusal, has_too_many_bytes, has_too_many_tokens, read_tokens};
+use weld_tokens::{
+    end_of, first_refusal_within, has_too_many_bytes, has_too_many_tokens, read_tokens,
+};
 use weld_tree::{Code, Program, Refusal};
 
 /// The program that a text spells, its binders numbered in the order of the text. The text is refused by the first rule
@@ -58,8 +60,9 @@ fn parse_tokens(alloc: Global, text: &[u8], tokens: &[Token]) -> Result<Program,
     }
 }
 
-/// The program that is read of tokens, whose numbers are of their kinds, or the first rule that refuses it.
+/// The program that is read of tokens, few enough and whose numbers are of their kinds, or the first rule that refuses it.
 fn judge(tokens: &[Token], read: Read) -> Result<Program, Refusal>
+    requires few { limits.has_too_many_tokens tokens.now ≡ false }
     requires ranged { first_number_out_of_range tokens.now ≡ None }
     requires read { IsRead tokens.now read.params read.body.value read.misnamed }
     ensures program { IfOk result (λ program. IsAccepted tokens.now program) }
@@ -71,7 +74,7 @@ fn judge(tokens: &[Token], read: Read) -> Result<Program, Refusal>
     types_by_the_tree();
     spelled_programs();
     let found = found_in(tokens, &read);
-    match first_refusal(tokens, &found) {
+    match first_refusal_within(tokens, &found) {
         Some(refusal) => Err(refusal),
         None => {
             let Read { params, body, .. } = read;

@@ -14,7 +14,7 @@ invariant_of-result c =
       too_many_parameters = f.too_many_parameters;
       too_many_fields = f.too_many_fields;
       misnamed_is = f.misnamed;
-    }) (sym c.first_refusal.ensures ∙ c.in-None.is)
+    }) (sym c.first_refusal_within.ensures ∙ c.in-None.is)
 
 pub returns-in-Some-clause-refused : goal.returns-in-Some-clause-refused
 returns-in-Some-clause-refused c =
@@ -28,7 +28,7 @@ returns-in-Some-clause-refused c =
       too_many_parameters = f.too_many_parameters;
       too_many_fields = f.too_many_fields;
       misnamed_is = f.misnamed;
-    }) _ (sym c.first_refusal.ensures ∙ c.in-Some.is)
+    }) _ (sym c.first_refusal_within.ensures ∙ c.in-Some.is)
 
 pub returns-in-None-clause-program : goal.returns-in-None-clause-program
 returns-in-None-clause-program c =
@@ -42,4 +42,4 @@ returns-in-None-clause-program c =
       too_many_parameters = f.too_many_parameters;
       too_many_fields = f.too_many_fields;
       misnamed_is = f.misnamed;
-    }) (sym c.first_refusal.ensures ∙ c.in-None.is)
+    }) (sym c.first_refusal_within.ensures ∙ c.in-None.is)
