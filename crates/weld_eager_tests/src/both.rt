@@ -15,7 +15,6 @@ use weld_calls::Call;
 use weld_calls::call_laws::each_call_means_its_list;
 use weld_data::{Stop, Text, Val, Vals};
 use weld_eager::eager::eager;
-use weld_eval_plain::eval_plain;
 use weld_lazy::laws::inputs_are_given_up;
 use weld_lazy::{Graph, Lowered, ObjectId};
 use weld_libraries::add_library_call;
@@ -23,6 +22,7 @@ use weld_libraries::fragments::fragment;
 use weld_meaning::Accepted;
 use weld_meaning::laws::typed_programs_are_never_stuck;
 use weld_objects::answer_type::answer_type;
+use weld_rows::eval_plain;
 use weld_tree::Ty;
 use weld_values::write_value;
 

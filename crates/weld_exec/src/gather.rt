@@ -24,8 +24,8 @@ use weld_eval::frame::Frame;
 use weld_eval::names::Names;
 use weld_eval::thing::{Fields, Held, Owned};
 use weld_eval_forms::legs::{count_rows, whole};
-use weld_eval_plain::walk::eval;
 use weld_plan::is_path;
+use weld_rows::evaluate;
 use weld_tree::{Expr, Form, Leg, Program};
 
 /// One vector more.
@@ -136,7 +136,7 @@ fn read<'a>(leg: &Leg, frame: &'a Frame<'a>, alloc: Global) -> Result<Held<'a>, 
     ensures vector { IfOk result (λ x. IsVector (held_of x)) }
 {
     match leg {
-        Leg::Whole(e) => match eval(e, frame, alloc) {
+        Leg::Whole(e) => match evaluate(e, frame, alloc) {
             Ok(v) => Ok(whole(v)),
             Err(stop) => Err(stop),
         },

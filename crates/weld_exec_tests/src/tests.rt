@@ -12,9 +12,9 @@ use std::alloc::{AllocError, Global};
 use std::test::Fail;
 use std::thread::Threads;
 use weld_data::Vals;
-use weld_eval_plain::eval_plain;
 use weld_meaning::laws::typed_programs_are_never_stuck;
 use weld_plan::{Plan, make_plan};
+use weld_rows::eval_plain;
 use weld_tree::Ty;
 
 /// Whether the program comes to this one element after another.

@@ -47,8 +47,8 @@ use Rattle.weld_rows.proofs.Numbers.{condition_runs, if_is_truth}
 
 -- ---- a merge
 
-pub item_runs : (a : At) (o : Two) (e f : ExprTree) (env : Env) (n : ExprTree) (s : Thing) → n ≡ two a o e f → ActFits n env s → Runs f env
-item_runs a o e f env n s is h = record { fit = merge_item_fits a o e f env n s is h; direct = merge_item_direct a o e f env n s is h }
+pub item_runs : (a : At) (o : Two) (e f : ExprTree) (env : Env) (n : ExprTree) (s : Thing) → n ≡ two a o e f → ActFits n env s → Runs true f env
+item_runs a o e f env n s is h = record { fit = merge_item_fits a o e f env n s is h; direct = λ t. merge_item_direct a o e f env n s is h }
 
 pub merge_by_item : {T : Type 0} (r : Result T Stop) (a : At) (o : Two) (e f : ExprTree) (env : Env) (n : ExprTree) (s t u : Thing) → n ≡ two a o e f → act e env s ≡ done t → Acts r (merged t (eval f env)) u → Acts r (act n env s) u
 merge_by_item r a o e f env n s t u is q h =
@@ -70,8 +70,8 @@ choice_form a slice c e f env s h = absurd h.acts.0
 choice_if : (a : At) (o : Three) (c e f : ExprTree) (env : Env) (n : ExprTree) (s : Thing) → n ≡ three a o c e f → ActFits n env s → IsIf n
 choice_if a o c e f env n s is h = subst (λ m. IsIf m) (sym is) (choice_form a o c e f env s (subst (λ m. ActFits m env s) is h))
 
-pub choice_runs : (a : At) (o : Three) (c e f : ExprTree) (env : Env) (n : ExprTree) (s : Thing) → n ≡ three a o c e f → ActFits n env s → RunsNumber c env
-choice_runs a o c e f env n s is h = condition_runs a o c e f env n is (choice_if a o c e f env n s is h) h.fit h.direct
+pub choice_runs : (a : At) (o : Three) (c e f : ExprTree) (env : Env) (n : ExprTree) (s : Thing) → n ≡ three a o c e f → ActFits n env s → RunsNumber true c env
+choice_runs a o c e f env n s is h = condition_runs a o c e f env n is (choice_if a o c e f env n s is h) h.fit (λ t. h.direct)
 
 pub choice_truth : (a : At) (o : Three) (c e f : ExprTree) (env : Env) (n : ExprTree) (s : Thing) (v : Value) → n ≡ three a o c e f → ActFits n env s → eval c env ≡ done (plain v) → IsTruth v
 choice_truth a o c e f env n s v is h q = if_is_truth a o c e f env n v is (choice_if a o c e f env n s is h) h.fit q
@@ -84,30 +84,30 @@ acts_otherwise r a o c e f env n s t v is q d h = subst (λ (x : Outcome Thing).
 
 -- ---- a `let`
 
-pub let_first_runs : (a : At) (b : Binder) (e f : ExprTree) (env : Env) (n : ExprTree) (s : Thing) → n ≡ let_in a b e f → ActFits n env s → Runs e env
-let_first_runs a b e f env n s is h = record { fit = let_value_fits a b e f env n is h.fit; direct = direct_value a b e f n is h.direct }
+pub let_first_runs : (a : At) (b : Binder) (e f : ExprTree) (env : Env) (n : ExprTree) (s : Thing) → n ≡ let_in a b e f → ActFits n env s → Runs true e env
+let_first_runs a b e f env n s is h = record { fit = let_value_fits a b e f env n is h.fit; direct = λ t. direct_value a b e f n is h.direct }
 
 pub acts_let : {T : Type 0} (r : Result T Stop) (a : At) (b : Binder) (e f : ExprTree) (env : Env) (n : ExprTree) (s t x : Thing) → n ≡ let_in a b e f → eval e env ≡ done x → Acts r (act f ((b.sym.0, x) ∷ env) s) t → Acts r (act n env s) t
 acts_let r a b e f env n s t x is q h = subst (λ (o : Outcome Thing). Acts r o t) (sym (let_is a b e f env n s x is q)) h
 
 -- ---- a pair that is written
 
-pair_runs : (a : At) (o : Many) (k v : ExprTree) (env : Env) → Runs (many a o (more_exprs k (more_exprs v no_exprs))) env → Runs k env × Runs v env
+pair_runs : (a : At) (o : Many) (k v : ExprTree) (env : Env) → Runs true (many a o (more_exprs k (more_exprs v no_exprs))) env → Runs true k env × Runs true v env
 pair_runs a o k v env h =
     let fit = fit_many a o (more_exprs k (more_exprs v no_exprs)) env h.fit in (
-      record { fit = fit_first_of_all k (more_exprs v no_exprs) env fit; direct = h.direct.0 },
-      record { fit = fit_first_of_all v no_exprs env (fit_rest_of_all k (more_exprs v no_exprs) env fit); direct = h.direct.1.0 },
+      record { fit = fit_first_of_all k (more_exprs v no_exprs) env fit; direct = λ t. (h.direct t).0 },
+      record { fit = fit_first_of_all v no_exprs env (fit_rest_of_all k (more_exprs v no_exprs) env fit); direct = λ t. (h.direct t).1.0 },
     )
 
-pub pair_key_runs : (a : At) (o : Many) (es : List ExprTree) (env : Env) (n e : ExprTree) → n ≡ many a o (pack_exprs es) → IsWrittenPair n → Runs n env → e ≡ get_or es 0 e → Runs e env
+pub pair_key_runs : (a : At) (o : Many) (es : List ExprTree) (env : Env) (n e : ExprTree) → n ≡ many a o (pack_exprs es) → IsWrittenPair n → Runs true n env → e ≡ get_or es 0 e → Runs true e env
 pair_key_runs a o es env n e is form h at =
     let p = as_pair a o es n is form in
-    subst (λ m. Runs m env) (sym (key_is es p.0 p.1 e p.2 at)) (pair_runs a make_struct p.0 p.1 env (subst (λ m. Runs m env) p.3 h)).0
+    subst (λ m. Runs true m env) (sym (key_is es p.0 p.1 e p.2 at)) (pair_runs a make_struct p.0 p.1 env (subst (λ m. Runs true m env) p.3 h)).0
 
-pub pair_item_runs : (a : At) (o : Many) (es : List ExprTree) (env : Env) (n e : ExprTree) → n ≡ many a o (pack_exprs es) → IsWrittenPair n → Runs n env → e ≡ get_or es 1 e → Runs e env
+pub pair_item_runs : (a : At) (o : Many) (es : List ExprTree) (env : Env) (n e : ExprTree) → n ≡ many a o (pack_exprs es) → IsWrittenPair n → Runs true n env → e ≡ get_or es 1 e → Runs true e env
 pair_item_runs a o es env n e is form h at =
     let p = as_pair a o es n is form in
-    subst (λ m. Runs m env) (sym (item_is es p.0 p.1 e p.2 at)) (pair_runs a make_struct p.0 p.1 env (subst (λ m. Runs m env) p.3 h)).1
+    subst (λ m. Runs true m env) (sym (item_is es p.0 p.1 e p.2 at)) (pair_runs a make_struct p.0 p.1 env (subst (λ m. Runs true m env) p.3 h)).1
 
 key_fault : (a : At) (k v : ExprTree) (env : Env) → eval k env ≡ fault → eval (many a make_struct (more_exprs k (more_exprs v no_exprs))) env ≡ fault
 key_fault a k v env q = ap (λ o. and_then (and_then o (λ t. map_out (more_things t) (and_then (eval v env) (λ u. map_out (more_things u) (done no_things))))) (many_thing make_struct)) q
@@ -129,12 +129,12 @@ pair_key_stops U Fault a o es env n e s t is form at h q =
     put_fault n env s h (ap (λ m. eval m env) p.3 ∙ key_fault a p.0 p.1 env (ap (λ m. eval m env) (sym (key_is es p.0 p.1 e p.2 at)) ∙ q))
 pair_key_stops U Memory a o es env n e s t is form at h q = tt
 
-pub pair_item_stops : (U : Type 0) (stop : Stop) (a : At) (o : Many) (es : List ExprTree) (env : Env) (n e : ExprTree) (s t : Thing) → n ≡ many a o (pack_exprs es) → IsWrittenPair n → Runs n env → e ≡ get_or es 1 e → PutFits n env s
+pub pair_item_stops : (U : Type 0) (stop : Stop) (a : At) (o : Many) (es : List ExprTree) (env : Env) (n e : ExprTree) (s t : Thing) → n ≡ many a o (pack_exprs es) → IsWrittenPair n → Runs true n env → e ≡ get_or es 1 e → PutFits n env s
     → TriesNumber (Err stop) (eval e env) → Acts {T = U} (Err stop) (merged s (eval n env)) t
 pair_item_stops U Fault a o es env n e s t is form r at h q =
     let p = as_pair a o es n is form in
     put_fault n env s h
-    (ap (λ m. eval m env) p.3 ∙ item_fault a p.0 p.1 env (pair_runs a make_struct p.0 p.1 env (subst (λ m. Runs m env) p.3 r)).0.fit (ap (λ m. eval m env) (sym (item_is es p.0 p.1 e p.2 at)) ∙ q))
+    (ap (λ m. eval m env) p.3 ∙ item_fault a p.0 p.1 env (pair_runs a make_struct p.0 p.1 env (subst (λ m. Runs true m env) p.3 r)).0.fit (ap (λ m. eval m env) (sym (item_is es p.0 p.1 e p.2 at)) ∙ q))
 pair_item_stops U Memory a o es env n e s t is form r at h q = tt
 
 -- ---- a loop that goes on

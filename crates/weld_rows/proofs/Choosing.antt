@@ -21,33 +21,33 @@ types a if_else c e f env k h = absurd k
 types a select c e f env k h = (h.typed.6.0, h.typed.6.1, h.typed.6.2)
 types a slice c e f env k h = absurd k
 
-condition : (a : At) (o : Three) (c e f : ExprTree) (env : Env) → IsSelect (three a o c e f) → RunsNumber (three a o c e f) env → RunsNumber c env
-condition a o c e f env k h = record { fit = record { names = h.fit.names; origins = h.fit.origins; named = h.fit.named; answer = h.fit.typed.0; typed = h.fit.typed.3; keeps = h.fit.keeps.0 }; direct = h.direct.0; scalar = scalar_truth h.fit.typed.0 (types a o c e f env k h.fit).0 }
+condition : {d : Bool} (a : At) (o : Three) (c e f : ExprTree) (env : Env) → IsSelect (three a o c e f) → RunsNumber d (three a o c e f) env → RunsNumber d c env
+condition a o c e f env k h = record { fit = record { names = h.fit.names; origins = h.fit.origins; named = h.fit.named; answer = h.fit.typed.0; typed = h.fit.typed.3; keeps = h.fit.keeps.0 }; direct = λ t. (h.direct t).0; scalar = scalar_truth h.fit.typed.0 (types a o c e f env k h.fit).0 }
 
-pub selection_condition_runs : (a : At) (o : Three) (c e f : ExprTree) (env : Env) (n : ExprTree) → n ≡ three a o c e f → IsSelect n → RunsNumber n env → RunsNumber c env
-selection_condition_runs a o c e f env n is k h = condition a o c e f env (subst (λ m. IsSelect m) is k) (subst (λ m. RunsNumber m env) is h)
+pub selection_condition_runs : {d : Bool} (a : At) (o : Three) (c e f : ExprTree) (env : Env) (n : ExprTree) → n ≡ three a o c e f → IsSelect n → RunsNumber d n env → RunsNumber d c env
+selection_condition_runs {d} a o c e f env n is k h = condition a o c e f env (subst (λ m. IsSelect m) is k) (subst (λ m. RunsNumber d m env) is h)
 
-first : (a : At) (o : Three) (c e f : ExprTree) (env : Env) → IsSelect (three a o c e f) → RunsNumber (three a o c e f) env → RunsNumber e env
-first a o c e f env k h = record { fit = record { names = h.fit.names; origins = h.fit.origins; named = h.fit.named; answer = h.fit.typed.1; typed = h.fit.typed.4; keeps = h.fit.keeps.1 }; direct = h.direct.1; scalar = subst IsScalar (sym (types a o c e f env k h.fit).1) h.scalar }
+first : {d : Bool} (a : At) (o : Three) (c e f : ExprTree) (env : Env) → IsSelect (three a o c e f) → RunsNumber d (three a o c e f) env → RunsNumber d e env
+first a o c e f env k h = record { fit = record { names = h.fit.names; origins = h.fit.origins; named = h.fit.named; answer = h.fit.typed.1; typed = h.fit.typed.4; keeps = h.fit.keeps.1 }; direct = λ t. (h.direct t).1; scalar = subst IsScalar (sym (types a o c e f env k h.fit).1) h.scalar }
 
-pub selection_then_runs : (a : At) (o : Three) (c e f : ExprTree) (env : Env) (n : ExprTree) → n ≡ three a o c e f → IsSelect n → RunsNumber n env → RunsNumber e env
-selection_then_runs a o c e f env n is k h = first a o c e f env (subst (λ m. IsSelect m) is k) (subst (λ m. RunsNumber m env) is h)
+pub selection_then_runs : {d : Bool} (a : At) (o : Three) (c e f : ExprTree) (env : Env) (n : ExprTree) → n ≡ three a o c e f → IsSelect n → RunsNumber d n env → RunsNumber d e env
+selection_then_runs {d} a o c e f env n is k h = first a o c e f env (subst (λ m. IsSelect m) is k) (subst (λ m. RunsNumber d m env) is h)
 
-second : (a : At) (o : Three) (c e f : ExprTree) (env : Env) → IsSelect (three a o c e f) → RunsNumber (three a o c e f) env → RunsNumber f env
-second a o c e f env k h = record { fit = record { names = h.fit.names; origins = h.fit.origins; named = h.fit.named; answer = h.fit.typed.2; typed = h.fit.typed.5; keeps = h.fit.keeps.2 }; direct = h.direct.2; scalar = subst IsScalar (sym (types a o c e f env k h.fit).2) h.scalar }
+second : {d : Bool} (a : At) (o : Three) (c e f : ExprTree) (env : Env) → IsSelect (three a o c e f) → RunsNumber d (three a o c e f) env → RunsNumber d f env
+second a o c e f env k h = record { fit = record { names = h.fit.names; origins = h.fit.origins; named = h.fit.named; answer = h.fit.typed.2; typed = h.fit.typed.5; keeps = h.fit.keeps.2 }; direct = λ t. (h.direct t).2; scalar = subst IsScalar (sym (types a o c e f env k h.fit).2) h.scalar }
 
-pub selection_otherwise_runs : (a : At) (o : Three) (c e f : ExprTree) (env : Env) (n : ExprTree) → n ≡ three a o c e f → IsSelect n → RunsNumber n env → RunsNumber f env
-selection_otherwise_runs a o c e f env n is k h = second a o c e f env (subst (λ m. IsSelect m) is k) (subst (λ m. RunsNumber m env) is h)
+pub selection_otherwise_runs : {d : Bool} (a : At) (o : Three) (c e f : ExprTree) (env : Env) (n : ExprTree) → n ≡ three a o c e f → IsSelect n → RunsNumber d n env → RunsNumber d f env
+selection_otherwise_runs {d} a o c e f env n is k h = second a o c e f env (subst (λ m. IsSelect m) is k) (subst (λ m. RunsNumber d m env) is h)
 
 -- a truth value is one
 truth : (v : Value) → HasThing (plain v) truth_type → IsTruth v
 truth v h = h
 
-chosen_by : (a : At) (o : Three) (c e f : ExprTree) (env : Env) (v : Value) → IsSelect (three a o c e f) → RunsNumber (three a o c e f) env → eval c env ≡ done (plain v) → IsTruth v
+chosen_by : {d : Bool} (a : At) (o : Three) (c e f : ExprTree) (env : Env) (v : Value) → IsSelect (three a o c e f) → RunsNumber d (three a o c e f) env → eval c env ≡ done (plain v) → IsTruth v
 chosen_by a o c e f env v k h q = truth v (subst (HasThing (plain v)) (types a o c e f env k h.fit).0 (gives c h.fit.names h.fit.origins env h.fit.typed.0 (plain v) h.fit.named h.fit.typed.3 q))
 
-pub selection_is_truth : (a : At) (o : Three) (c e f : ExprTree) (env : Env) (n : ExprTree) (v : Value) → n ≡ three a o c e f → IsSelect n → RunsNumber n env → eval c env ≡ done (plain v) → IsTruth v
-selection_is_truth a o c e f env n v is k h q = chosen_by a o c e f env v (subst (λ m. IsSelect m) is k) (subst (λ m. RunsNumber m env) is h) q
+pub selection_is_truth : {d : Bool} (a : At) (o : Three) (c e f : ExprTree) (env : Env) (n : ExprTree) (v : Value) → n ≡ three a o c e f → IsSelect n → RunsNumber d n env → eval c env ≡ done (plain v) → IsTruth v
+selection_is_truth {d} a o c e f env n v is k h q = chosen_by a o c e f env v (subst (λ m. IsSelect m) is k) (subst (λ m. RunsNumber d m env) is h) q
 
 -- ---- what it comes to
 

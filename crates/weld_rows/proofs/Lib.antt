@@ -1,6 +1,8 @@
 pub mod ActLemmas
 pub mod Choosing
+pub mod Direct
 pub mod FormLemmas
+pub mod LegLemmas
 pub mod Numbers
 pub mod Parts
 pub mod RangeSteps

@@ -34,32 +34,32 @@ scalar_is t k e = subst IsScalar (sym e) tt
 
 -- ---- an operator
 
-first_runs : (a : At) (o : Two) (e f : ExprTree) (env : Env) → IsBinary (two a o e f) → RunsNumber (two a o e f) env → RunsNumber e env
-first_runs a (binary op) e f env k h = record { fit = record { names = h.fit.names; origins = h.fit.origins; named = h.fit.named; answer = h.fit.typed.0; typed = h.fit.typed.2; keeps = h.fit.keeps.0 }; direct = h.direct.0; scalar = scalar_is h.fit.typed.0 h.fit.typed.4.0 h.fit.typed.4.2 }
+first_runs : {d : Bool} (a : At) (o : Two) (e f : ExprTree) (env : Env) → IsBinary (two a o e f) → RunsNumber d (two a o e f) env → RunsNumber d e env
+first_runs a (binary op) e f env k h = record { fit = record { names = h.fit.names; origins = h.fit.origins; named = h.fit.named; answer = h.fit.typed.0; typed = h.fit.typed.2; keeps = h.fit.keeps.0 }; direct = λ t. (h.direct t).0; scalar = scalar_is h.fit.typed.0 h.fit.typed.4.0 h.fit.typed.4.2 }
 first_runs a and e f env k h = absurd k
 first_runs a or e f env k h = absurd k
 first_runs a look_up e f env k h = absurd k
 first_runs a key_exists e f env k h = absurd k
 first_runs a merge e f env k h = absurd k
 
-second_runs : (a : At) (o : Two) (e f : ExprTree) (env : Env) → IsBinary (two a o e f) → RunsNumber (two a o e f) env → RunsNumber f env
-second_runs a (binary op) e f env k h = record { fit = record { names = h.fit.names; origins = h.fit.origins; named = h.fit.named; answer = h.fit.typed.1; typed = h.fit.typed.3; keeps = h.fit.keeps.1 }; direct = h.direct.1; scalar = scalar_is h.fit.typed.1 h.fit.typed.4.0 h.fit.typed.4.3 }
+second_runs : {d : Bool} (a : At) (o : Two) (e f : ExprTree) (env : Env) → IsBinary (two a o e f) → RunsNumber d (two a o e f) env → RunsNumber d f env
+second_runs a (binary op) e f env k h = record { fit = record { names = h.fit.names; origins = h.fit.origins; named = h.fit.named; answer = h.fit.typed.1; typed = h.fit.typed.3; keeps = h.fit.keeps.1 }; direct = λ t. (h.direct t).1; scalar = scalar_is h.fit.typed.1 h.fit.typed.4.0 h.fit.typed.4.3 }
 second_runs a and e f env k h = absurd k
 second_runs a or e f env k h = absurd k
 second_runs a look_up e f env k h = absurd k
 second_runs a key_exists e f env k h = absurd k
 second_runs a merge e f env k h = absurd k
 
-pub left_runs : (a : At) (o : Two) (e f : ExprTree) (env : Env) (n : ExprTree) → n ≡ two a o e f → IsBinary n → RunsNumber n env → RunsNumber e env
-left_runs a o e f env n is k h = first_runs a o e f env (subst (λ m. IsBinary m) is k) (subst (λ m. RunsNumber m env) is h)
+pub left_runs : {d : Bool} (a : At) (o : Two) (e f : ExprTree) (env : Env) (n : ExprTree) → n ≡ two a o e f → IsBinary n → RunsNumber d n env → RunsNumber d e env
+left_runs {d} a o e f env n is k h = first_runs a o e f env (subst (λ m. IsBinary m) is k) (subst (λ m. RunsNumber d m env) is h)
 
-pub right_runs : (a : At) (o : Two) (e f : ExprTree) (env : Env) (n : ExprTree) → n ≡ two a o e f → IsBinary n → RunsNumber n env → RunsNumber f env
-right_runs a o e f env n is k h = second_runs a o e f env (subst (λ m. IsBinary m) is k) (subst (λ m. RunsNumber m env) is h)
+pub right_runs : {d : Bool} (a : At) (o : Two) (e f : ExprTree) (env : Env) (n : ExprTree) → n ≡ two a o e f → IsBinary n → RunsNumber d n env → RunsNumber d f env
+right_runs {d} a o e f env n is k h = second_runs a o e f env (subst (λ m. IsBinary m) is k) (subst (λ m. RunsNumber d m env) is h)
 
 pub binary_form : (a : At) (o : Two) (e f : ExprTree) (n : ExprTree) → n ≡ two a o e f → IsBinary n → IsBinaryForm o
 binary_form a o e f n is k = subst (λ m. IsBinary m) is k
 
-pub are_operands : (a : At) (op : BinOp) (e f : ExprTree) (env : Env) (n : ExprTree) (v w : Value) → n ≡ two a (binary op) e f → RunsNumber n env → eval e env ≡ done (plain v) → eval f env ≡ done (plain w) → AreOperands op v w
+pub are_operands : {d : Bool} (a : At) (op : BinOp) (e f : ExprTree) (env : Env) (n : ExprTree) (v w : Value) → n ≡ two a (binary op) e f → RunsNumber d n env → eval e env ≡ done (plain v) → eval f env ≡ done (plain w) → AreOperands op v w
 are_operands a op e f env n v w is h p q = operands op (plain v) (plain w) v w (both_take a (binary op) e f env n (plain v) (plain w) is h.fit p q) refl refl
 
 binary_is : (a : At) (op : BinOp) (e f : ExprTree) (env : Env) (n : ExprTree) (v w : Value) → n ≡ two a (binary op) e f → eval e env ≡ done (plain v) → eval f env ≡ done (plain w) → eval n env ≡ map_out plain (operated op v w)
@@ -85,22 +85,22 @@ either_types a look_up e f env k h = absurd k
 either_types a key_exists e f env k h = absurd k
 either_types a merge e f env k h = absurd k
 
-either_left : (a : At) (o : Two) (e f : ExprTree) (env : Env) → IsEither (two a o e f) → RunsNumber (two a o e f) env → RunsNumber e env
-either_left a o e f env k h = record { fit = record { names = h.fit.names; origins = h.fit.origins; named = h.fit.named; answer = h.fit.typed.0; typed = h.fit.typed.2; keeps = h.fit.keeps.0 }; direct = h.direct.0; scalar = scalar_is h.fit.typed.0 kinds.Bool (either_types a o e f env k h.fit).0 }
+either_left : {d : Bool} (a : At) (o : Two) (e f : ExprTree) (env : Env) → IsEither (two a o e f) → RunsNumber d (two a o e f) env → RunsNumber d e env
+either_left a o e f env k h = record { fit = record { names = h.fit.names; origins = h.fit.origins; named = h.fit.named; answer = h.fit.typed.0; typed = h.fit.typed.2; keeps = h.fit.keeps.0 }; direct = λ t. (h.direct t).0; scalar = scalar_is h.fit.typed.0 kinds.Bool (either_types a o e f env k h.fit).0 }
 
-either_right : (a : At) (o : Two) (e f : ExprTree) (env : Env) → IsEither (two a o e f) → RunsNumber (two a o e f) env → RunsNumber f env
-either_right a o e f env k h = record { fit = record { names = h.fit.names; origins = h.fit.origins; named = h.fit.named; answer = h.fit.typed.1; typed = h.fit.typed.3; keeps = h.fit.keeps.1 }; direct = h.direct.1; scalar = scalar_is h.fit.typed.1 kinds.Bool (either_types a o e f env k h.fit).1 }
+either_right : {d : Bool} (a : At) (o : Two) (e f : ExprTree) (env : Env) → IsEither (two a o e f) → RunsNumber d (two a o e f) env → RunsNumber d f env
+either_right a o e f env k h = record { fit = record { names = h.fit.names; origins = h.fit.origins; named = h.fit.named; answer = h.fit.typed.1; typed = h.fit.typed.3; keeps = h.fit.keeps.1 }; direct = λ t. (h.direct t).1; scalar = scalar_is h.fit.typed.1 kinds.Bool (either_types a o e f env k h.fit).1 }
 
-pub either_first : (a : At) (o : Two) (e f : ExprTree) (env : Env) (n : ExprTree) → n ≡ two a o e f → IsEither n → RunsNumber n env → RunsNumber e env
-either_first a o e f env n is k h = either_left a o e f env (subst (λ m. IsEither m) is k) (subst (λ m. RunsNumber m env) is h)
+pub either_first : {d : Bool} (a : At) (o : Two) (e f : ExprTree) (env : Env) (n : ExprTree) → n ≡ two a o e f → IsEither n → RunsNumber d n env → RunsNumber d e env
+either_first {d} a o e f env n is k h = either_left a o e f env (subst (λ m. IsEither m) is k) (subst (λ m. RunsNumber d m env) is h)
 
-pub either_second : (a : At) (o : Two) (e f : ExprTree) (env : Env) (n : ExprTree) → n ≡ two a o e f → IsEither n → RunsNumber n env → RunsNumber f env
-either_second a o e f env n is k h = either_right a o e f env (subst (λ m. IsEither m) is k) (subst (λ m. RunsNumber m env) is h)
+pub either_second : {d : Bool} (a : At) (o : Two) (e f : ExprTree) (env : Env) (n : ExprTree) → n ≡ two a o e f → IsEither n → RunsNumber d n env → RunsNumber d f env
+either_second {d} a o e f env n is k h = either_right a o e f env (subst (λ m. IsEither m) is k) (subst (λ m. RunsNumber d m env) is h)
 
-pub either_truth : (a : At) (o : Two) (e f : ExprTree) (env : Env) (n : ExprTree) (v : Value) → n ≡ two a o e f → IsEither n → RunsNumber n env → eval e env ≡ done (plain v) → IsTruth v
+pub either_truth : {d : Bool} (a : At) (o : Two) (e f : ExprTree) (env : Env) (n : ExprTree) (v : Value) → n ≡ two a o e f → IsEither n → RunsNumber d n env → eval e env ≡ done (plain v) → IsTruth v
 either_truth a o e f env n v is k h q = first_of_either_is_truth a o e f env n (plain v) v is (subst (λ m. IsEither m) is k) h.fit q refl
 
-pub either_goes_on : (a : At) (o : TwoForm) (e f : ExprTree) (env : Env) (n : ExprTree) (v : Value) (c : Bool) → n ≡ two a (view_two o) e f → IsEither n → RunsNumber n env → eval e env ≡ done (plain v) → truth_of v ≡ done c → decided o c ≡ false → eval n env ≡ eval f env
+pub either_goes_on : {d : Bool} (a : At) (o : TwoForm) (e f : ExprTree) (env : Env) (n : ExprTree) (v : Value) (c : Bool) → n ≡ two a (view_two o) e f → IsEither n → RunsNumber d n env → eval e env ≡ done (plain v) → truth_of v ≡ done c → decided o c ≡ false → eval n env ≡ eval f env
 either_goes_on a o e f env n v c is k h q t d = second_decides a o e f env n (plain v) v c is (subst (λ m. IsEither m) is k) h.fit q refl t d
 
 pub either_ends : (a : At) (o : TwoForm) (e f : ExprTree) (env : Env) (n : ExprTree) (v : Value) (c : Bool) → n ≡ two a (view_two o) e f → IsEither n → eval e env ≡ done (plain v) → truth_of v ≡ done c → decided o c ≡ true → eval n env ≡ done (plain (truth_value c))
@@ -108,10 +108,10 @@ either_ends a o e f env n v c is k q t d = first_decides a o e f env n (plain v)
 
 -- ---- a form of one part
 
-pub on_part_runs : (a : At) (o : One) (e : ExprTree) (env : Env) (n : ExprTree) → n ≡ one a o e → IsNumberForm n → RunsNumber n env → RunsNumber e env
-on_part_runs a o e env n is k h = by o (subst (λ m. IsNumberForm m) is k) (subst (λ m. RunsNumber m env) is h)
+pub on_part_runs : {d : Bool} (a : At) (o : One) (e : ExprTree) (env : Env) (n : ExprTree) → n ≡ one a o e → IsNumberForm n → RunsNumber d n env → RunsNumber d e env
+on_part_runs {d} a o e env n is k h = by o (subst (λ m. IsNumberForm m) is k) (subst (λ m. RunsNumber d m env) is h)
   where
-    by : (p : One) → IsOnNumber p → RunsNumber (one a p e) env → RunsNumber e env
+    by : (p : One) → IsOnNumber p → RunsNumber d (one a p e) env → RunsNumber d e env
     by neg j r = record { fit = record { names = r.fit.names; origins = r.fit.origins; named = r.fit.named; answer = r.fit.typed.0; typed = r.fit.typed.1; keeps = r.fit.keeps.0 }; direct = r.direct; scalar = scalar_is r.fit.typed.0 r.fit.typed.2.0 r.fit.typed.2.2 }
     by not_of j r = record { fit = record { names = r.fit.names; origins = r.fit.origins; named = r.fit.named; answer = r.fit.typed.0; typed = r.fit.typed.1; keeps = r.fit.keeps.0 }; direct = r.direct; scalar = scalar_is r.fit.typed.0 kinds.Bool r.fit.typed.2.0 }
     by (cast k) j r = record { fit = record { names = r.fit.names; origins = r.fit.origins; named = r.fit.named; answer = r.fit.typed.0; typed = r.fit.typed.1; keeps = r.fit.keeps.0 }; direct = r.direct; scalar = scalar_is r.fit.typed.0 r.fit.typed.2.0 r.fit.typed.2.2 }
@@ -123,7 +123,7 @@ on_part_runs a o e env n is k h = by o (subst (λ m. IsNumberForm m) is k) (subs
 pub on_form : (a : At) (o : One) (e : ExprTree) (n : ExprTree) → n ≡ one a o e → IsNumberForm n → IsOnNumber o
 on_form a o e n is k = subst (λ m. IsNumberForm m) is k
 
-pub on_takes : (a : At) (o : One) (e : ExprTree) (env : Env) (n : ExprTree) (x : Thing) → n ≡ one a o e → RunsNumber n env → eval e env ≡ done x → OneTakes o x
+pub on_takes : {d : Bool} (a : At) (o : One) (e : ExprTree) (env : Env) (n : ExprTree) (x : Thing) → n ≡ one a o e → RunsNumber d n env → eval e env ≡ done x → OneTakes o x
 on_takes a o e env n x is h q = part_takes a o e env n x is h.fit q
 
 pub on_is : (a : At) (o : One) (e : ExprTree) (env : Env) (n : ExprTree) (x y : Thing) → n ≡ one a o e → eval e env ≡ done x → one_thing o x ≡ done y → eval n env ≡ done y
@@ -136,23 +136,23 @@ if_parts a if_else c e f env k h = (h.typed.6.0, h.typed.6.1, h.typed.6.2)
 if_parts a select c e f env k h = absurd k
 if_parts a slice c e f env k h = absurd k
 
-if_condition : (a : At) (o : Three) (c e f : ExprTree) (env : Env) → IsIf (three a o c e f) → Runs (three a o c e f) env → RunsNumber c env
-if_condition a o c e f env k h = record { fit = record { names = h.fit.names; origins = h.fit.origins; named = h.fit.named; answer = h.fit.typed.0; typed = h.fit.typed.3; keeps = h.fit.keeps.0 }; direct = h.direct.0; scalar = scalar_is h.fit.typed.0 kinds.Bool (if_parts a o c e f env k h.fit).0 }
+if_condition : {d : Bool} (a : At) (o : Three) (c e f : ExprTree) (env : Env) → IsIf (three a o c e f) → Runs d (three a o c e f) env → RunsNumber d c env
+if_condition a o c e f env k h = record { fit = record { names = h.fit.names; origins = h.fit.origins; named = h.fit.named; answer = h.fit.typed.0; typed = h.fit.typed.3; keeps = h.fit.keeps.0 }; direct = λ t. (h.direct t).0; scalar = scalar_is h.fit.typed.0 kinds.Bool (if_parts a o c e f env k h.fit).0 }
 
-if_then : (a : At) (o : Three) (c e f : ExprTree) (env : Env) → IsIf (three a o c e f) → RunsNumber (three a o c e f) env → RunsNumber e env
-if_then a o c e f env k h = record { fit = record { names = h.fit.names; origins = h.fit.origins; named = h.fit.named; answer = h.fit.typed.1; typed = h.fit.typed.4; keeps = h.fit.keeps.1 }; direct = h.direct.1; scalar = subst IsScalar (sym (if_parts a o c e f env k h.fit).1) h.scalar }
+if_then : {d : Bool} (a : At) (o : Three) (c e f : ExprTree) (env : Env) → IsIf (three a o c e f) → RunsNumber d (three a o c e f) env → RunsNumber d e env
+if_then a o c e f env k h = record { fit = record { names = h.fit.names; origins = h.fit.origins; named = h.fit.named; answer = h.fit.typed.1; typed = h.fit.typed.4; keeps = h.fit.keeps.1 }; direct = λ t. (h.direct t).1; scalar = subst IsScalar (sym (if_parts a o c e f env k h.fit).1) h.scalar }
 
-if_otherwise : (a : At) (o : Three) (c e f : ExprTree) (env : Env) → IsIf (three a o c e f) → RunsNumber (three a o c e f) env → RunsNumber f env
-if_otherwise a o c e f env k h = record { fit = record { names = h.fit.names; origins = h.fit.origins; named = h.fit.named; answer = h.fit.typed.2; typed = h.fit.typed.5; keeps = h.fit.keeps.2 }; direct = h.direct.2; scalar = subst IsScalar (sym (if_parts a o c e f env k h.fit).2) h.scalar }
+if_otherwise : {d : Bool} (a : At) (o : Three) (c e f : ExprTree) (env : Env) → IsIf (three a o c e f) → RunsNumber d (three a o c e f) env → RunsNumber d f env
+if_otherwise a o c e f env k h = record { fit = record { names = h.fit.names; origins = h.fit.origins; named = h.fit.named; answer = h.fit.typed.2; typed = h.fit.typed.5; keeps = h.fit.keeps.2 }; direct = λ t. (h.direct t).2; scalar = subst IsScalar (sym (if_parts a o c e f env k h.fit).2) h.scalar }
 
-pub condition_runs : (a : At) (o : Three) (c e f : ExprTree) (env : Env) (n : ExprTree) → n ≡ three a o c e f → IsIf n → IsFit n env → AreDirect n → RunsNumber c env
-condition_runs a o c e f env n is k h d = if_condition a o c e f env (subst (λ m. IsIf m) is k) (record { fit = subst (λ m. IsFit m env) is h; direct = subst (λ m. AreDirect m) is d })
+pub condition_runs : {d : Bool} (a : At) (o : Three) (c e f : ExprTree) (env : Env) (n : ExprTree) → n ≡ three a o c e f → IsIf n → IsFit n env → (d ≡ true → AreDirect n) → RunsNumber d c env
+condition_runs a o c e f env n is k h g = if_condition a o c e f env (subst (λ m. IsIf m) is k) (record { fit = subst (λ m. IsFit m env) is h; direct = λ t. subst (λ m. AreDirect m) is (g t) })
 
-pub then_runs : (a : At) (o : Three) (c e f : ExprTree) (env : Env) (n : ExprTree) → n ≡ three a o c e f → IsIf n → RunsNumber n env → RunsNumber e env
-then_runs a o c e f env n is k h = if_then a o c e f env (subst (λ m. IsIf m) is k) (subst (λ m. RunsNumber m env) is h)
+pub then_runs : {d : Bool} (a : At) (o : Three) (c e f : ExprTree) (env : Env) (n : ExprTree) → n ≡ three a o c e f → IsIf n → RunsNumber d n env → RunsNumber d e env
+then_runs {d} a o c e f env n is k h = if_then a o c e f env (subst (λ m. IsIf m) is k) (subst (λ m. RunsNumber d m env) is h)
 
-pub otherwise_runs : (a : At) (o : Three) (c e f : ExprTree) (env : Env) (n : ExprTree) → n ≡ three a o c e f → IsIf n → RunsNumber n env → RunsNumber f env
-otherwise_runs a o c e f env n is k h = if_otherwise a o c e f env (subst (λ m. IsIf m) is k) (subst (λ m. RunsNumber m env) is h)
+pub otherwise_runs : {d : Bool} (a : At) (o : Three) (c e f : ExprTree) (env : Env) (n : ExprTree) → n ≡ three a o c e f → IsIf n → RunsNumber d n env → RunsNumber d f env
+otherwise_runs {d} a o c e f env n is k h = if_otherwise a o c e f env (subst (λ m. IsIf m) is k) (subst (λ m. RunsNumber d m env) is h)
 
 if_truth : (a : At) (o : Three) (c e f : ExprTree) (env : Env) (n : ExprTree) (v : Value) → n ≡ three a o c e f → IsIf n → IsFit n env → eval c env ≡ done (plain v) → IsTruth v
 if_truth a if_else c e f env n v is k h q = condition_is_truth a c e f env n (plain v) v is h q refl
@@ -193,7 +193,7 @@ scalar_number (tuple ts) x s h = absurd s
 scalar_number (mapping k v) x s h = absurd s
 scalar_number (build b) x s h = absurd s
 
-pub number_given : (n : ExprTree) (env : Env) (x : Thing) → RunsNumber n env → eval n env ≡ done x → IsNumberThing x
+pub number_given : {d : Bool} (n : ExprTree) (env : Env) (x : Thing) → RunsNumber d n env → eval n env ≡ done x → IsNumberThing x
 number_given n env x h q = scalar_number h.fit.answer x h.scalar (gives n h.fit.names h.fit.origins env h.fit.answer x h.fit.named h.fit.typed q)
 
 -- ---- forms that are numbers by their looks
@@ -225,20 +225,32 @@ numeric_scalar (let_in a b f g) names t e h = numeric_scalar g ((b.sym.0, h.0) �
 numeric_scalar (loop a ls f b n x g) names t e h = let no : ⊥ = cc in absurd no
 numeric_scalar (iterate a f b g) names t e h = let no : ⊥ = cc in absurd no
 
-pub numeric_runs : (n : ExprTree) (env : Env) → numeric n ≡ true → Runs n env → RunsNumber n env
+pub numeric_runs : {d : Bool} (n : ExprTree) (env : Env) → numeric n ≡ true → Runs d n env → RunsNumber d n env
 numeric_runs n env e h = record { fit = h.fit; direct = h.direct; scalar = numeric_scalar n h.fit.names h.fit.answer e h.fit.typed }
 
-pub number_runs : (n : ExprTree) (env : Env) → RunsNumber n env → Runs n env
+pub number_runs : {d : Bool} (n : ExprTree) (env : Env) → RunsNumber d n env → Runs d n env
 number_runs n env h = record { fit = h.fit; direct = h.direct }
 
-pub choice_condition_runs : (a : At) (o : Three) (c e f : ExprTree) (env : Env) (n : ExprTree) → n ≡ three a o c e f → IsIf n → RunsNumber n env → RunsNumber c env
+pub either_runs : {d : Bool} (n : ExprTree) (env : Env) → IsEither n → Runs d n env → RunsNumber d n env
+either_runs (two a o e f) env k h = numeric_runs (two a o e f) env (either_numeric o e f k) h
+  where
+    either_numeric : (p : Two) (e f : ExprTree) → IsEither (two a p e f) → numeric (two a p e f) ≡ true
+    either_numeric (binary op) e f j = refl
+    either_numeric and e f j = refl
+    either_numeric or e f j = refl
+    either_numeric look_up e f j = absurd j
+    either_numeric key_exists e f j = absurd j
+    either_numeric merge e f j = absurd j
+either_runs _ env k h = absurd k
+
+pub choice_condition_runs : {d : Bool} (a : At) (o : Three) (c e f : ExprTree) (env : Env) (n : ExprTree) → n ≡ three a o c e f → IsIf n → RunsNumber d n env → RunsNumber d c env
 choice_condition_runs a o c e f env n is k h = condition_runs a o c e f env n is k h.fit h.direct
 
-pub value_condition_runs : (a : At) (o : Three) (c e f : ExprTree) (env : Env) (n : ExprTree) → n ≡ three a o c e f → IsIf n → Runs n env → RunsNumber c env
+pub value_condition_runs : {d : Bool} (a : At) (o : Three) (c e f : ExprTree) (env : Env) (n : ExprTree) → n ≡ three a o c e f → IsIf n → Runs d n env → RunsNumber d c env
 value_condition_runs a o c e f env n is k h = condition_runs a o c e f env n is k h.fit h.direct
 
-pub choice_is_truth : (a : At) (o : Three) (c e f : ExprTree) (env : Env) (n : ExprTree) (v : Value) → n ≡ three a o c e f → IsIf n → RunsNumber n env → eval c env ≡ done (plain v) → IsTruth v
+pub choice_is_truth : {d : Bool} (a : At) (o : Three) (c e f : ExprTree) (env : Env) (n : ExprTree) (v : Value) → n ≡ three a o c e f → IsIf n → RunsNumber d n env → eval c env ≡ done (plain v) → IsTruth v
 choice_is_truth a o c e f env n v is k h q = if_is_truth a o c e f env n v is k h.fit q
 
-pub value_is_truth : (a : At) (o : Three) (c e f : ExprTree) (env : Env) (n : ExprTree) (v : Value) → n ≡ three a o c e f → IsIf n → Runs n env → eval c env ≡ done (plain v) → IsTruth v
+pub value_is_truth : {d : Bool} (a : At) (o : Three) (c e f : ExprTree) (env : Env) (n : ExprTree) (v : Value) → n ≡ three a o c e f → IsIf n → Runs d n env → eval c env ≡ done (plain v) → IsTruth v
 value_is_truth a o c e f env n v is k h q = if_is_truth a o c e f env n v is k h.fit q

@@ -141,6 +141,11 @@ pub row_names : (x n b : ℕ) (own : Thing) (v w c d : Value) (env outer middle 
 row_names x n b own v w c d env outer middle inner i m o p q =
     i ∙ ap (λ (u : Value). (x, plain u) ∷ middle) p ∙ ap (λ (g : Env). (x, plain w) ∷ g) (m ∙ ap (λ (u : Value). (n, plain u) ∷ outer) q ∙ ap (λ (g : Env). (n, plain d) ∷ g) o)
 
+-- the same, where the builder's name stands for one that has nothing merged
+pub row_names_bare : (x n b : ℕ) (own bare : Thing) (v w c d : Value) (env outer middle inner : Env) → inner ≡ (x, plain v) ∷ middle → middle ≡ (n, plain c) ∷ outer → outer ≡ (b, own) ∷ env → v ≡ w → c ≡ d → own ≡ bare
+    → inner ≡ (x, plain w) ∷ (n, plain d) ∷ (b, bare) ∷ env
+row_names_bare x n b own bare v w c d env outer middle inner i m o p q s = row_names x n b own v w c d env outer middle inner i m o p q ∙ ap (λ (y : Thing). (x, plain w) ∷ (n, plain d) ∷ (b, y) ∷ env) s
+
 -- ---- ranges, whichever way
 
 pub holds_loop : (n : ExprTree) (env : Env) (lists : List (List Value)) (from to : ℕ) (s : Thing) → HoldsRange n env lists from to s → IsLoop n
@@ -155,8 +160,8 @@ range_answers (Ok x) ev from to s t h = h
 range_answers (Err Fault) ev from to s t h = h
 range_answers (Err Memory) ev from to s t h = tt
 
-pub plain_start : (n : ExprTree) (env : Env) (lists : List (List Value)) (from to : ℕ) (s : Thing) → HoldsRange n env lists from to s → RangeOn n env lists from to s s from s
-plain_start n env lists from to s h = record {
+pub append_start : (n : ExprTree) (env : Env) (lists : List (List Value)) (from to : ℕ) (s : Thing) → HoldsRange n env lists from to s → RangeOn n env lists from to s s from s
+append_start n env lists from to s h = record {
   fit = h.fit;
   has = h.has;
   owns = h.has;
@@ -168,22 +173,18 @@ plain_start n env lists from to s h = record {
   same = ap (λ o. and_then o (λ rows. rows_from n env from (take (to - from) (drop from rows)) s)) h.are;
 }
 
--- ---- rows that are built
+-- ---- rows that are appended
 
 pub row_same : (r : RowAt) (lists : List (List Value)) (i : ℕ) (v : Value) → v ≡ row_value r → r.number ≡ i → lists_of r.legs.now ≡ lists → v ≡ row_in lists i
 row_same r lists i v e p q = e ∙ ap (λ l. row_in l r.number) q ∙ ap (row_in lists) p
 
-pub plain_row : (n : ExprTree) (env : Env) (lists : List (List Value)) (from to : ℕ) (start own : Thing) (i : ℕ) (s : Thing) (v : Value) → RangeOn n env lists from to start own i s → i < to → v ≡ row_in lists i → HoldsRow n env s v
-plain_row n env lists from to start own i s v h less e = subst (HoldsRow n env s) (sym e) (range_row n env lists from to start own i s h less).holds
+pub range_holds : (n : ExprTree) (env : Env) (lists : List (List Value)) (from to : ℕ) (start own : Thing) (i : ℕ) (s : Thing) → RangeOn n env lists from to start own i s → i < to → HoldsRow n env s (row_in lists i)
+range_holds n env lists from to start own i s h less = (range_row n env lists from to start own i s h less).holds
 
-pub plain_next : {T : Type 0} (x : T) (n : ExprTree) (env : Env) (lists : List (List Value)) (from to : ℕ) (start own : Thing) (i : ℕ) (s t : Thing) (v : Value) → RangeOn n env lists from to start own i s → i < to → v ≡ row_in lists i
-    → RowAnswer (Ok x) n env (i, v) s t → RangeOn n env lists from to start own (i + 1) t
-plain_next x n env lists from to start own i s t v h less e r = range_next n env lists from to start own i s t h less (ap (λ w. row_step n env (i, w) s) (sym e) ∙ r)
-
-pub plain_stops : (T U : Type 0) (stop : Stop) (ev : Evaluation) (from to : ℕ) (start own : Thing) (i : ℕ) (s t u : Thing) (v : Value) → RangeOn ev.node ev.names ev.lists from to start own i s → i < to → v ≡ row_in ev.lists i
-    → RowAnswer {T = T} (Err stop) ev.node ev.names (i, v) s t → RangeAnswer {T = U} (Err stop) ev from to start u
-plain_stops T U Fault ev from to start own i s t u v h less e r = range_fault ev.node ev.names ev.lists from to start own i s h less (ap (λ w. row_step ev.node ev.names (i, w) s) (sym e) ∙ r)
-plain_stops T U Memory ev from to start own i s t u v h less e r = tt
+pub range_append_stops : (T U : Type 0) (stop : Stop) (n : ExprTree) (env : Env) (lists : List (List Value)) (from to : ℕ) (start own : Thing) (i : ℕ) (s t u : Thing) → RangeOn n env lists from to start own i s → i < to
+    → RowAnswer {T = T} (Err stop) n env (i, row_in lists i) s t → Acts {T = U} (Err stop) (range_over n env lists from to start) u
+range_append_stops T U Fault n env lists from to start own i s t u h less r = range_fault n env lists from to start own i s h less r
+range_append_stops T U Memory n env lists from to start own i s t u h less r = tt
 
 -- ---- a part of a range
 

@@ -1,5 +1,5 @@
 -- What is known of a node that is run is known of its parts.
-use Rattle.std.proofs.Common.{◌≡◌, ◌∷◌, ℕ, zero, suc, ◌+◌, ◌*◌, ◌-◌, ◌<◌, ◌≤◌, List, [], length, drop, take, get_or, Result, Ok, refl, sym, ap, ◌∙◌, subst, arith}
+use Rattle.std.proofs.Common.{◌≡◌, Bool, true, ◌∷◌, ℕ, zero, suc, ◌+◌, ◌*◌, ◌-◌, ◌<◌, ◌≤◌, List, [], length, drop, take, get_or, Result, Ok, refl, sym, ap, ◌∙◌, subst, arith}
 use Rattle.weld_data.specs.Value.{Value}
 use Rattle.weld_tree.specs.declared.binder.Binder.{Binder}
 use Rattle.weld_tree.specs.ExprFalls.{expr_nodes, leg_nodes, legs_nodes}
@@ -7,7 +7,7 @@ use Rattle.weld_tree.specs.ExprTree.{ExprTree, At, leaf, one, two, three, many, 
 use Rattle.weld_builders.specs.Outcome.{Outcome, done, fault, stuck, and_then, map_out}
 use Rattle.weld_meaning.specs.Thing.{Thing}
 use Rattle.weld_meaning.specs.Evaluation.{Env, eval, eval_leg, eval_legs, rows_of, run, number_from}
-use Rattle.weld_eval.specs.Fit.{IsFit, LegsAreFit}
+use Rattle.weld_eval.specs.Fit.{IsFit}
 use Rattle.weld_eval.specs.Takes.{OneTakes, row_of}
 use Rattle.weld_data.specs.declared.stop.Stop.{Stop}
 use Rattle.weld_eval.specs.Answers.{Answers}
@@ -19,37 +19,37 @@ use Rattle.weld_eval_plain.proofs.Nodes.{part_fits, part_takes, then_fits, other
 use Rattle.weld_eval_plain.proofs.Rows.{loop_legs_fit, loop_builder_fits, legs_there, rows_start}
 use Rattle.weld_acts.specs.ActFits.{ActFits}
 use Rattle.weld_acts.specs.Ranges.{HoldsRange, range_over}
-use Rattle.weld_acts.proofs.Direct.{direct_part, direct_then, direct_otherwise, direct_value, direct_let_body, direct_builder}
+use Rattle.weld_acts.proofs.Direct.{direct_part, direct_then, direct_otherwise, direct_value, direct_let_body, direct_legs, direct_builder}
 use Rattle.weld_acts.proofs.Children.{all_rows}
 use Rattle.weld_rows.specs.RowActs.{count_legs, legs_count, body_nodes}
-use Rattle.weld_rows.specs.Runs.{Runs}
+use Rattle.weld_rows.specs.Runs.{Runs, LegsRun}
 use Rattle.std.proofs.lemmas.List.{length-map}
 
-pub part_runs : (a : At) (o : One) (e : ExprTree) (env : Env) (n : ExprTree) → n ≡ one a o e → Runs n env → Runs e env
-part_runs a o e env n is h = record { fit = part_fits a o e env n is h.fit; direct = direct_part a o e n is h.direct }
+pub part_runs : {d : Bool} (a : At) (o : One) (e : ExprTree) (env : Env) (n : ExprTree) → n ≡ one a o e → Runs d n env → Runs d e env
+part_runs a o e env n is h = record { fit = part_fits a o e env n is h.fit; direct = λ t. direct_part a o e n is (h.direct t) }
 
-pub part_run_takes : (a : At) (o : One) (e : ExprTree) (env : Env) (n : ExprTree) (x : Thing) → n ≡ one a o e → Runs n env → eval e env ≡ done x → OneTakes o x
+pub part_run_takes : {d : Bool} (a : At) (o : One) (e : ExprTree) (env : Env) (n : ExprTree) (x : Thing) → n ≡ one a o e → Runs d n env → eval e env ≡ done x → OneTakes o x
 part_run_takes a o e env n x is h q = part_takes a o e env n x is h.fit q
 
-pub then_run : (a : At) (o : Three) (c e f : ExprTree) (env : Env) (n : ExprTree) → n ≡ three a o c e f → Runs n env → Runs e env
-then_run a o c e f env n is h = record { fit = then_fits a o c e f env n is h.fit; direct = direct_then a o c e f n is h.direct }
+pub then_run : {d : Bool} (a : At) (o : Three) (c e f : ExprTree) (env : Env) (n : ExprTree) → n ≡ three a o c e f → Runs d n env → Runs d e env
+then_run a o c e f env n is h = record { fit = then_fits a o c e f env n is h.fit; direct = λ t. direct_then a o c e f n is (h.direct t) }
 
-pub otherwise_run : (a : At) (o : Three) (c e f : ExprTree) (env : Env) (n : ExprTree) → n ≡ three a o c e f → Runs n env → Runs f env
-otherwise_run a o c e f env n is h = record { fit = otherwise_fits a o c e f env n is h.fit; direct = direct_otherwise a o c e f n is h.direct }
+pub otherwise_run : {d : Bool} (a : At) (o : Three) (c e f : ExprTree) (env : Env) (n : ExprTree) → n ≡ three a o c e f → Runs d n env → Runs d f env
+otherwise_run a o c e f env n is h = record { fit = otherwise_fits a o c e f env n is h.fit; direct = λ t. direct_otherwise a o c e f n is (h.direct t) }
 
-pub let_value_runs : (a : At) (b : Binder) (e f : ExprTree) (env : Env) (n : ExprTree) → n ≡ let_in a b e f → Runs n env → Runs e env
-let_value_runs a b e f env n is h = record { fit = let_value_fits a b e f env n is h.fit; direct = direct_value a b e f n is h.direct }
+pub let_value_runs : {d : Bool} (a : At) (b : Binder) (e f : ExprTree) (env : Env) (n : ExprTree) → n ≡ let_in a b e f → Runs d n env → Runs d e env
+let_value_runs a b e f env n is h = record { fit = let_value_fits a b e f env n is h.fit; direct = λ t. direct_value a b e f n is (h.direct t) }
 
-pub let_body_runs : (a : At) (b : Binder) (e f : ExprTree) (env : Env) (n : ExprTree) (x : Thing) → n ≡ let_in a b e f → Runs n env → eval e env ≡ done x → Runs f ((b.sym.0, x) ∷ env)
-let_body_runs a b e f env n x is h q = record { fit = let_body_fits a b e f env n x is h.fit q; direct = direct_let_body a b e f n is h.direct }
+pub let_body_runs : {d : Bool} (a : At) (b : Binder) (e f : ExprTree) (env : Env) (n : ExprTree) (x : Thing) → n ≡ let_in a b e f → Runs d n env → eval e env ≡ done x → Runs d f ((b.sym.0, x) ∷ env)
+let_body_runs a b e f env n x is h q = record { fit = let_body_fits a b e f env n x is h.fit q; direct = λ t. direct_let_body a b e f n is (h.direct t) }
 
 -- ---- loops
 
-pub loop_legs_run : (a : At) (ls : LegTrees) (e : ExprTree) (b n x : Binder) (f : ExprTree) (env : Env) (m : ExprTree) → m ≡ loop a ls e b n x f → Runs m env → LegsAreFit ls env
-loop_legs_run a ls e b n x f env m is h = loop_legs_fit a ls e b n x f env m is h.fit
+pub loop_legs_run : {d : Bool} (a : At) (ls : LegTrees) (e : ExprTree) (b n x : Binder) (f : ExprTree) (env : Env) (m : ExprTree) → m ≡ loop a ls e b n x f → Runs d m env → LegsRun d ls env
+loop_legs_run a ls e b n x f env m is h = record { fit = loop_legs_fit a ls e b n x f env m is h.fit; direct = λ t. direct_legs a ls e b n x f m is (h.direct t) }
 
-pub loop_start_runs : (a : At) (ls : LegTrees) (e : ExprTree) (b n x : Binder) (f : ExprTree) (env : Env) (m : ExprTree) → m ≡ loop a ls e b n x f → Runs m env → Runs e env
-loop_start_runs a ls e b n x f env m is h = record { fit = loop_builder_fits a ls e b n x f env m is h.fit; direct = direct_builder a ls e b n x f m is h.direct }
+pub loop_start_runs : {d : Bool} (a : At) (ls : LegTrees) (e : ExprTree) (b n x : Binder) (f : ExprTree) (env : Env) (m : ExprTree) → m ≡ loop a ls e b n x f → Runs d m env → Runs d e env
+loop_start_runs a ls e b n x f env m is h = record { fit = loop_builder_fits a ls e b n x f env m is h.fit; direct = λ t. direct_builder a ls e b n x f m is (h.direct t) }
 
 pub over_holds : (a : At) (ls : LegTrees) (e : ExprTree) (b n x : Binder) (f : ExprTree) (env : Env) (m : ExprTree) (lists : List (List Value)) (rows : List Value) (count : ℕ) (s : Thing)
     → m ≡ loop a ls e b n x f → IsFit m env → eval_legs ls env ≡ done lists → rows_of lists ≡ done rows → length rows ≡ count → eval e env ≡ done s → HoldsRange m env lists 0 count s
@@ -124,11 +124,11 @@ as_many a ls e b n x f env m hs is q =
     let long : length (leg_lists hs) ≡ length hs = simp length-map in
     subst (λ k. length hs ≤ legs_count k) (sym is) (omega arith)
 
-pub over_count : (a : At) (ls : LegTrees) (e : ExprTree) (b n x : Binder) (f : ExprTree) (env : Env) (m : ExprTree) (hs : List Held) → m ≡ loop a ls e b n x f → Runs m env → LegsAre m env (leg_lists hs) → 0 < length hs
+pub over_count : {d : Bool} (a : At) (ls : LegTrees) (e : ExprTree) (b n x : Binder) (f : ExprTree) (env : Env) (m : ExprTree) (hs : List Held) → m ≡ loop a ls e b n x f → Runs d m env → LegsAre m env (leg_lists hs) → 0 < length hs
 over_count a ls e b n x f env m hs is h q = legs_there a ls e b n x f env m hs is h.fit q
 
-pub loop_legs_acts : (a : At) (ls : LegTrees) (e : ExprTree) (b n x : Binder) (f : ExprTree) (env : Env) (m : ExprTree) (s : Thing) → m ≡ loop a ls e b n x f → ActFits m env s → LegsAreFit ls env
-loop_legs_acts a ls e b n x f env m s is h = loop_legs_fit a ls e b n x f env m is h.fit
+pub loop_legs_acts : (a : At) (ls : LegTrees) (e : ExprTree) (b n x : Binder) (f : ExprTree) (env : Env) (m : ExprTree) (s : Thing) → m ≡ loop a ls e b n x f → ActFits m env s → LegsRun true ls env
+loop_legs_acts a ls e b n x f env m s is h = record { fit = loop_legs_fit a ls e b n x f env m is h.fit; direct = λ t. direct_legs a ls e b n x f m is h.direct }
 
 pub reach_less : (a : At) (ls : LegTrees) (e : ExprTree) (b n x : Binder) (f : ExprTree) (env : Env) (m : ExprTree) (hs : List Held) → m ≡ loop a ls e b n x f → LegsAre m env (leg_lists hs) → 64 * body_nodes m + 42 + length hs < 64 * expr_nodes m
 reach_less a ls e b n x f env m hs is q =
@@ -136,8 +136,8 @@ reach_less a ls e b n x f env m hs is q =
     let below = legs_below ls in
     subst (λ k. 64 * body_nodes k + 42 + length hs < 64 * expr_nodes k) (sym is) (omega arith)
 
-pub over_ready : (a : At) (ls : LegTrees) (e : ExprTree) (b n x : Binder) (f : ExprTree) (env : Env) (m : ExprTree) (lists : List (List Value)) (count : ℕ) (s : Thing)
-    → m ≡ loop a ls e b n x f → Runs m env → LegsAre m env lists → RowsAnswer (Ok count) lists → eval e env ≡ done s → HoldsRange m env lists 0 count s
+pub over_ready : {d : Bool} (a : At) (ls : LegTrees) (e : ExprTree) (b n x : Binder) (f : ExprTree) (env : Env) (m : ExprTree) (lists : List (List Value)) (count : ℕ) (s : Thing)
+    → m ≡ loop a ls e b n x f → Runs d m env → LegsAre m env lists → RowsAnswer (Ok count) lists → eval e env ≡ done s → HoldsRange m env lists 0 count s
 over_ready a ls e b n x f env m lists count s is h q r u =
     over_holds a ls e b n x f env m lists (forms_rows lists) count s is h.fit (subst (λ k. LegsAre k env lists) is q) r.0 r.1 u
 

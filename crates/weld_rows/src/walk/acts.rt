@@ -1,6 +1,6 @@
 //! What expressions of builder type do to the builder that they act on.
 
-ghost use Rattle.std.specs.Prelude.{drop as drop_items};
+ghost use Rattle.std.specs.Prelude.{true, drop as drop_items};
 ghost use Rattle.weld_acts.specs.Act.{Acts, act as act_of, act_all};
 ghost use Rattle.weld_acts.specs.ActFits.{ActFits, ActsFit};
 ghost use Rattle.weld_blocks.specs.Puts.{PutFits, IsWrittenPair, IsTwo, IsTriple};
@@ -15,6 +15,7 @@ ghost use Rattle.weld_rows.specs.RowActs.{ActAll};
 ghost use Rattle.weld_rows.specs.Runs.{Runs};
 ghost use Rattle.weld_tree.specs.ExprTree.{pack_exprs};
 
+use super::legs::eval_legs;
 use super::numbers::{number, unread};
 use super::values::{reach, value};
 use crate::forms::{discard, is_numeric, is_pair, no_legs, with_number};
@@ -27,7 +28,6 @@ use weld_eval::frame::{Frame, bind};
 use weld_eval::short::Short;
 use weld_eval::thing::{Fields, Held, Owned};
 use weld_eval_forms::legs::count_rows;
-use weld_eval_plain::walk::eval_legs;
 use weld_tree::{Expr, Exprs, Form};
 
 /// What an expression of builder type does to the builder that it acts on.
@@ -83,7 +83,7 @@ fn act_first(e: &Expr, frame: &Frame, builder: &mut Owned, alloc: Global) -> Res
 #[cycle(rows)]
 #[tactic(auto, using(weld_blocks::proofs::Merges::put_number_item, weld_blocks::proofs::Merges::put_is, crate::proofs::ActLemmas::put_stops))]
 fn put(item: &Expr, frame: &Frame, builder: &mut Owned, alloc: Global) -> Result<(), Stop>
-    requires runs { Runs item.now (env_of frame.now) }
+    requires runs { Runs true item.now (env_of frame.now) }
     requires fits { PutFits item.now (env_of frame.now) (thing_of builder.old) }
     ensures { Acts result (merged (thing_of builder.old) (eval_of item.now (env_of frame.now))) (thing_of builder.new) }
 {
@@ -99,14 +99,14 @@ fn put(item: &Expr, frame: &Frame, builder: &mut Owned, alloc: Global) -> Result
 #[tactic(auto, using(crate::proofs::Numbers::numeric_runs))]
 #[inline(always)]
 pub(super) fn tried(e: &Expr, frame: &Frame, alloc: Global) -> Result<Option<Short>, Stop>
-    requires { Runs e.now (env_of frame.now) }
+    requires { Runs true e.now (env_of frame.now) }
     ensures { TriesNumber result (eval_of e.now (env_of frame.now)) }
 {
     match leaf_number(e, frame) {
         Some(n) => Ok(Some(n)),
         None => {
             if is_numeric(e) {
-                match unread(e, frame, alloc) {
+                match unread(e, frame, true, alloc) {
                     Ok(n) => Ok(Some(n)),
                     Err(stop) => Err(stop),
                 }
@@ -121,7 +121,7 @@ pub(super) fn tried(e: &Expr, frame: &Frame, alloc: Global) -> Result<Option<Sho
 #[cycle(rows)]
 #[tactic(auto, using(weld_blocks::proofs::Merges::put_number_item, weld_blocks::proofs::Merges::put_is))]
 fn put_other(item: &Expr, frame: &Frame, builder: &mut Owned, alloc: Global) -> Result<(), Stop>
-    requires runs { Runs item.now (env_of frame.now) }
+    requires runs { Runs true item.now (env_of frame.now) }
     requires fits { PutFits item.now (env_of frame.now) (thing_of builder.old) }
     ensures { Acts result (merged (thing_of builder.old) (eval_of item.now (env_of frame.now))) (thing_of builder.new) }
 {
@@ -134,7 +134,7 @@ fn put_other(item: &Expr, frame: &Frame, builder: &mut Owned, alloc: Global) -> 
 /// The same of what isn't read at once.
 #[cycle(rows)]
 fn put_compound(item: &Expr, frame: &Frame, builder: &mut Owned, alloc: Global) -> Result<(), Stop>
-    requires runs { Runs item.now (env_of frame.now) }
+    requires runs { Runs true item.now (env_of frame.now) }
     requires fits { PutFits item.now (env_of frame.now) (thing_of builder.old) }
     ensures { Acts result (merged (thing_of builder.old) (eval_of item.now (env_of frame.now))) (thing_of builder.new) }
 {
@@ -149,11 +149,11 @@ fn put_compound(item: &Expr, frame: &Frame, builder: &mut Owned, alloc: Global) 
 #[cycle(rows)]
 #[tactic(auto, using(weld_blocks::proofs::Merges::put_plain, weld_blocks::proofs::Merges::put_thing, weld_blocks::proofs::Merges::put_is, crate::proofs::ActLemmas::put_made_stops))]
 fn put_made(item: &Expr, frame: &Frame, builder: &mut Owned, alloc: Global) -> Result<(), Stop>
-    requires runs { Runs item.now (env_of frame.now) }
+    requires runs { Runs true item.now (env_of frame.now) }
     requires fits { PutFits item.now (env_of frame.now) (thing_of builder.old) }
     ensures { Acts result (merged (thing_of builder.old) (eval_of item.now (env_of frame.now))) (thing_of builder.new) }
 {
-    match value(item, &*frame, alloc) {
+    match value(item, &*frame, true, alloc) {
         Ok(x) => put_held(builder, x, alloc),
         Err(stop) => Err(stop),
     }
@@ -163,7 +163,7 @@ fn put_made(item: &Expr, frame: &Frame, builder: &mut Owned, alloc: Global) -> R
 #[cycle(rows)]
 #[tactic(auto, using(weld_blocks::proofs::Merges::written_length, crate::proofs::ActLemmas::pair_key_runs, crate::proofs::ActLemmas::pair_item_runs, weld_blocks::proofs::Merges::pair_is, crate::proofs::ActLemmas::pair_key_stops, crate::proofs::ActLemmas::pair_item_stops, weld_blocks::proofs::Merges::put_number_item, weld_blocks::proofs::Merges::put_is))]
 fn put_written(item: &Expr, frame: &Frame, builder: &mut Owned, alloc: Global) -> Result<(), Stop>
-    requires runs { Runs item.now (env_of frame.now) }
+    requires runs { Runs true item.now (env_of frame.now) }
     requires fits { PutFits item.now (env_of frame.now) (thing_of builder.old) }
     requires form { IsWrittenPair item.now }
     ensures { Acts result (merged (thing_of builder.old) (eval_of item.now (env_of frame.now))) (thing_of builder.new) }
@@ -198,7 +198,7 @@ fn act_if(e: &Expr, frame: &Frame, builder: &mut Owned, alloc: Global) -> Result
 {
     match &e.form {
         Form::Three(_, condition, then, otherwise) => {
-            let chosen = match number(condition, frame, alloc) {
+            let chosen = match number(condition, frame, true, alloc) {
                 Ok(x) => truth_of(x),
                 Err(stop) => return Err(stop),
             };
@@ -243,7 +243,7 @@ fn act_let_value(e: &Expr, frame: &Frame, builder: &mut Owned, alloc: Global) ->
 {
     match &e.form {
         Form::Let(binder, first, body) => {
-            let x = match value(first, &*frame, alloc) {
+            let x = match value(first, &*frame, true, alloc) {
                 Ok(x) => x,
                 Err(stop) => return Err(stop),
             };
@@ -265,7 +265,7 @@ fn act_loop(e: &Expr, frame: &Frame, builder: &mut Owned, alloc: Global) -> Resu
     ensures { Acts result (act_of e.now (env_of frame.now) (thing_of builder.old)) (thing_of builder.new) }
 {
     match &e.form {
-        Form::For(legs, _, _, _, _, _) => match eval_legs(legs, &*frame, alloc) {
+        Form::For(legs, _, _, _, _, _) => match eval_legs(legs, &*frame, true, alloc) {
             Ok(vectors) => act_over(e, frame, &vectors, builder, alloc),
             Err(stop) => Err(stop),
         },
@@ -304,6 +304,7 @@ fn act_over(
                     vectors.len(),
                     &end,
                     count,
+                    true,
                     builder,
                     alloc,
                 ),

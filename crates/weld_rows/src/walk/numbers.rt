@@ -20,25 +20,25 @@ use weld_tree::{Expr, Form, OneForm, ThreeForm, TwoForm};
 /// The number that an expression of a scalar type comes to.
 #[cycle(rows)]
 #[inline(always)]
-pub fn number(e: &Expr, frame: &Frame, alloc: Global) -> Result<Short, Stop>
-    requires { RunsNumber e.now (env_of frame.now) }
+pub fn number(e: &Expr, frame: &Frame, in_place: bool, alloc: Global) -> Result<Short, Stop>
+    requires { RunsNumber in_place e.now (env_of frame.now) }
     ensures { Answers number_thing result (eval_of e.now (env_of frame.now)) }
 {
     match leaf_number(e, frame) {
         Some(n) => Ok(n),
-        None => unread(e, frame, alloc),
+        None => unread(e, frame, in_place, alloc),
     }
 }
 
 /// The same of what isn't read at once.
 #[cycle(rows)]
 #[inline(always)]
-pub(super) fn unread(e: &Expr, frame: &Frame, alloc: Global) -> Result<Short, Stop>
-    requires { RunsNumber e.now (env_of frame.now) }
+pub(super) fn unread(e: &Expr, frame: &Frame, in_place: bool, alloc: Global) -> Result<Short, Stop>
+    requires { RunsNumber in_place e.now (env_of frame.now) }
     ensures { Answers number_thing result (eval_of e.now (env_of frame.now)) }
 {
     let mut word = 0;
-    match compound(e, frame, &mut word, alloc) {
+    match compound(e, frame, in_place, &mut word, alloc) {
         Ok(kind) => Ok(Short { kind, word }),
         Err(stop) => Err(stop),
     }
@@ -46,11 +46,17 @@ pub(super) fn unread(e: &Expr, frame: &Frame, alloc: Global) -> Result<Short, St
 
 /// The same, the number's kind and its word apart: so a call hands both on in registers.
 #[cycle(rows)]
-fn compound(e: &Expr, frame: &Frame, into: &mut i64, alloc: Global) -> Result<Kind, Stop>
-    requires { RunsNumber e.now (env_of frame.now) }
+fn compound(
+    e: &Expr,
+    frame: &Frame,
+    in_place: bool,
+    into: &mut i64,
+    alloc: Global,
+) -> Result<Kind, Stop>
+    requires { RunsNumber in_place e.now (env_of frame.now) }
     ensures { AnswersKind result into.new (eval_of e.now (env_of frame.now)) }
 {
-    match chosen(e, frame, alloc) {
+    match chosen(e, frame, in_place, alloc) {
         Ok(n) => {
             *into = n.word;
             Ok(n.kind)
@@ -62,39 +68,39 @@ fn compound(e: &Expr, frame: &Frame, into: &mut i64, alloc: Global) -> Result<Ki
 /// The same, by the form.
 #[cycle(rows)]
 #[inline(always)]
-fn chosen(e: &Expr, frame: &Frame, alloc: Global) -> Result<Short, Stop>
-    requires { RunsNumber e.now (env_of frame.now) }
+fn chosen(e: &Expr, frame: &Frame, in_place: bool, alloc: Global) -> Result<Short, Stop>
+    requires { RunsNumber in_place e.now (env_of frame.now) }
     ensures { Answers number_thing result (eval_of e.now (env_of frame.now)) }
 {
     match &e.form {
-        Form::Two(TwoForm::Binary(_), _, _) => binary(e, frame, alloc),
-        Form::Two(TwoForm::And, _, _) => either(e, frame, alloc),
-        Form::Two(TwoForm::Or, _, _) => either(e, frame, alloc),
-        Form::Three(ThreeForm::If, _, _, _) => choice(e, frame, alloc),
-        Form::Three(ThreeForm::Select, _, _, _) => selection(e, frame, alloc),
-        Form::One(OneForm::Neg, _) => on_number(e, frame, alloc),
-        Form::One(OneForm::Not, _) => on_number(e, frame, alloc),
-        Form::One(OneForm::Cast(_), _) => on_number(e, frame, alloc),
-        _ => in_value(e, frame, alloc),
+        Form::Two(TwoForm::Binary(_), _, _) => binary(e, frame, in_place, alloc),
+        Form::Two(TwoForm::And, _, _) => either(e, frame, in_place, alloc),
+        Form::Two(TwoForm::Or, _, _) => either(e, frame, in_place, alloc),
+        Form::Three(ThreeForm::If, _, _, _) => choice(e, frame, in_place, alloc),
+        Form::Three(ThreeForm::Select, _, _, _) => selection(e, frame, in_place, alloc),
+        Form::One(OneForm::Neg, _) => on_number(e, frame, in_place, alloc),
+        Form::One(OneForm::Not, _) => on_number(e, frame, in_place, alloc),
+        Form::One(OneForm::Cast(_), _) => on_number(e, frame, in_place, alloc),
+        _ => in_value(e, frame, in_place, alloc),
     }
 }
 
 /// An operator between two numbers.
 #[cycle(rows)]
 #[tactic(auto, using(crate::proofs::Numbers::left_runs, crate::proofs::Numbers::right_runs, crate::proofs::Numbers::binary_form, crate::proofs::Numbers::are_operands, crate::proofs::Numbers::binary_answers))]
-fn binary(e: &Expr, frame: &Frame, alloc: Global) -> Result<Short, Stop>
-    requires runs { RunsNumber e.now (env_of frame.now) }
+fn binary(e: &Expr, frame: &Frame, in_place: bool, alloc: Global) -> Result<Short, Stop>
+    requires runs { RunsNumber in_place e.now (env_of frame.now) }
     requires form { IsBinary e.now }
     ensures { Answers number_thing result (eval_of e.now (env_of frame.now)) }
 {
     match &e.form {
         Form::Two(form, first, second) => {
             let op = operator_of(*form);
-            let x = match number(first, frame, alloc) {
+            let x = match number(first, frame, in_place, alloc) {
                 Ok(x) => x,
                 Err(stop) => return Err(stop),
             };
-            match number(second, frame, alloc) {
+            match number(second, frame, in_place, alloc) {
                 Ok(y) => operated(op, x, y),
                 Err(stop) => Err(stop),
             }
@@ -106,21 +112,21 @@ fn binary(e: &Expr, frame: &Frame, alloc: Global) -> Result<Short, Stop>
 /// `&&` and `||`: the second part is evaluated only where it decides.
 #[cycle(rows)]
 #[tactic(auto, using(crate::proofs::Numbers::either_first, crate::proofs::Numbers::either_second, crate::proofs::Numbers::either_truth, crate::proofs::Numbers::either_goes_on, crate::proofs::Numbers::either_ends))]
-fn either(e: &Expr, frame: &Frame, alloc: Global) -> Result<Short, Stop>
-    requires runs { RunsNumber e.now (env_of frame.now) }
+pub(super) fn either(e: &Expr, frame: &Frame, in_place: bool, alloc: Global) -> Result<Short, Stop>
+    requires runs { RunsNumber in_place e.now (env_of frame.now) }
     requires form { IsEither e.now }
     ensures { Answers number_thing result (eval_of e.now (env_of frame.now)) }
 {
     match &e.form {
         Form::Two(form, first, second) => {
-            let truth = match number(first, frame, alloc) {
+            let truth = match number(first, frame, in_place, alloc) {
                 Ok(x) => truth_of(x),
                 Err(stop) => return Err(stop),
             };
             if decides(*form, truth) {
                 Ok(Short::of_truth(truth))
             } else {
-                number(second, frame, alloc)
+                number(second, frame, in_place, alloc)
             }
         }
         _ => unreachable!(),
@@ -130,21 +136,21 @@ fn either(e: &Expr, frame: &Frame, alloc: Global) -> Result<Short, Stop>
 /// An `if` between numbers.
 #[cycle(rows)]
 #[tactic(auto, using(crate::proofs::Numbers::choice_condition_runs, crate::proofs::Numbers::then_runs, crate::proofs::Numbers::otherwise_runs, crate::proofs::Numbers::choice_is_truth, crate::proofs::Numbers::if_is_then, crate::proofs::Numbers::if_is_otherwise))]
-fn choice(e: &Expr, frame: &Frame, alloc: Global) -> Result<Short, Stop>
-    requires runs { RunsNumber e.now (env_of frame.now) }
+fn choice(e: &Expr, frame: &Frame, in_place: bool, alloc: Global) -> Result<Short, Stop>
+    requires runs { RunsNumber in_place e.now (env_of frame.now) }
     requires form { IsIf e.now }
     ensures { Answers number_thing result (eval_of e.now (env_of frame.now)) }
 {
     match &e.form {
         Form::Three(_, condition, then, otherwise) => {
-            let chosen = match number(condition, frame, alloc) {
+            let chosen = match number(condition, frame, in_place, alloc) {
                 Ok(x) => truth_of(x),
                 Err(stop) => return Err(stop),
             };
             if chosen {
-                number(then, frame, alloc)
+                number(then, frame, in_place, alloc)
             } else {
-                number(otherwise, frame, alloc)
+                number(otherwise, frame, in_place, alloc)
             }
         }
         _ => unreachable!(),
@@ -154,22 +160,22 @@ fn choice(e: &Expr, frame: &Frame, alloc: Global) -> Result<Short, Stop>
 /// A `select` between numbers: all three are evaluated, and one is chosen.
 #[cycle(rows)]
 #[tactic(auto, using(crate::proofs::Choosing::selection_condition_runs, crate::proofs::Choosing::selection_then_runs, crate::proofs::Choosing::selection_otherwise_runs, crate::proofs::Choosing::selection_is_truth, crate::proofs::Choosing::selects_then, crate::proofs::Choosing::selects_otherwise, crate::proofs::Choosing::selection_then_faults, crate::proofs::Choosing::selection_otherwise_faults))]
-fn selection(e: &Expr, frame: &Frame, alloc: Global) -> Result<Short, Stop>
-    requires runs { RunsNumber e.now (env_of frame.now) }
+fn selection(e: &Expr, frame: &Frame, in_place: bool, alloc: Global) -> Result<Short, Stop>
+    requires runs { RunsNumber in_place e.now (env_of frame.now) }
     requires form { IsSelect e.now }
     ensures { Answers number_thing result (eval_of e.now (env_of frame.now)) }
 {
     match &e.form {
         Form::Three(_, condition, then, otherwise) => {
-            let chosen = match number(condition, frame, alloc) {
+            let chosen = match number(condition, frame, in_place, alloc) {
                 Ok(x) => truth_of(x),
                 Err(stop) => return Err(stop),
             };
-            let x = match number(then, frame, alloc) {
+            let x = match number(then, frame, in_place, alloc) {
                 Ok(x) => x,
                 Err(stop) => return Err(stop),
             };
-            match number(otherwise, frame, alloc) {
+            match number(otherwise, frame, in_place, alloc) {
                 Ok(y) => Ok(if chosen { x } else { y }),
                 Err(stop) => Err(stop),
             }
@@ -181,13 +187,13 @@ fn selection(e: &Expr, frame: &Frame, alloc: Global) -> Result<Short, Stop>
 /// A form of one part that makes a number of a number.
 #[cycle(rows)]
 #[tactic(auto, using(crate::proofs::Numbers::on_part_runs, crate::proofs::Numbers::on_form, crate::proofs::Numbers::on_takes, crate::proofs::Numbers::on_is))]
-fn on_number(e: &Expr, frame: &Frame, alloc: Global) -> Result<Short, Stop>
-    requires runs { RunsNumber e.now (env_of frame.now) }
+fn on_number(e: &Expr, frame: &Frame, in_place: bool, alloc: Global) -> Result<Short, Stop>
+    requires runs { RunsNumber in_place e.now (env_of frame.now) }
     requires form { IsNumberForm e.now }
     ensures { Answers number_thing result (eval_of e.now (env_of frame.now)) }
 {
     match &e.form {
-        Form::One(form, part) => match number(part, frame, alloc) {
+        Form::One(form, part) => match number(part, frame, in_place, alloc) {
             Ok(x) => Ok(one_number(form, x)),
             Err(stop) => Err(stop),
         },
@@ -198,11 +204,11 @@ fn on_number(e: &Expr, frame: &Frame, alloc: Global) -> Result<Short, Stop>
 /// A number that is in a value.
 #[cycle(rows)]
 #[tactic(auto, using(crate::proofs::Numbers::number_runs, crate::proofs::Numbers::number_given))]
-fn in_value(e: &Expr, frame: &Frame, alloc: Global) -> Result<Short, Stop>
-    requires { RunsNumber e.now (env_of frame.now) }
+fn in_value(e: &Expr, frame: &Frame, in_place: bool, alloc: Global) -> Result<Short, Stop>
+    requires { RunsNumber in_place e.now (env_of frame.now) }
     ensures { Answers number_thing result (eval_of e.now (env_of frame.now)) }
 {
-    match other(e, &*frame, alloc) {
+    match other(e, &*frame, in_place, alloc) {
         Ok(x) => Ok(number_in(x)),
         Err(stop) => Err(stop),
     }

@@ -1,6 +1,6 @@
 //! The rows of a loop, block by block or one by one.
 
-ghost use Rattle.std.specs.Prelude.{◌≤◌, ◌<◌, length as length_of};
+ghost use Rattle.std.specs.Prelude.{◌≡◌, ◌≤◌, ◌<◌, true, length as length_of};
 ghost use Rattle.weld_acts.specs.Act.{Acts, AreDirect};
 ghost use Rattle.weld_acts.specs.Ranges.{HoldsRange, range_over};
 ghost use Rattle.weld_eval.specs.FrameView.{env_of};
@@ -12,6 +12,7 @@ ghost use Rattle.weld_rows.specs.RangeOn.{RangeOn};
 ghost use Rattle.weld_rows.specs.RowActs.{RowActFits, row_act};
 
 use super::acts::act;
+use super::appended::append_rows;
 use crate::blocks::do_block;
 use crate::forms::{let_go, with_builder, with_number, with_row};
 use std::alloc::Global;
@@ -30,11 +31,36 @@ const BLOCK: usize = 1024;
 /// A loop of fewer rows is walked row by row: a block of them isn't worth what it takes.
 const FEW: usize = 8;
 
+/// A builder handed through the rows of a loop from a number up to, not including, another: in place,
+/// where each loop within acts on its own builder; else each row is evaluated and appended.
+#[cycle(rows)]
+pub fn hand_through(
+    e: &Expr,
+    frame: &Frame,
+    legs: &Legs,
+    from: usize,
+    to: usize,
+    in_place: bool,
+    builder: &mut Owned,
+    alloc: Global,
+) -> Result<(), Stop>
+    requires rows { HoldsRange e.now (env_of frame.now) (lists_of legs.now) from to (thing_of builder.old) }
+    requires direct { in_place ≡ true → AreDirect e.now }
+    requires form { IsLoop e.now }
+    ensures { Acts result (range_over e.now (env_of frame.now) (lists_of legs.now) from to (thing_of builder.old)) (thing_of builder.new) }
+{
+    if in_place {
+        run_rows(e, frame, legs, from, to, builder, alloc)
+    } else {
+        append_rows(e, frame, legs, from, to, builder, alloc)
+    }
+}
+
 /// The rows of a loop from a number up to, not including, another, in place, block by block where its body allows that. The
 /// builder's own name stands for one that has nothing merged, which is never looked at.
 #[cycle(rows)]
 #[tactic(auto, using(crate::proofs::RangeSteps::range_start))]
-pub fn run_rows(
+fn run_rows(
     e: &Expr,
     frame: &Frame,
     legs: &Legs,

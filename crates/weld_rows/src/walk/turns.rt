@@ -1,5 +1,6 @@
 //! The turns of an `iterate`.
 
+ghost use Rattle.std.specs.Prelude.{◌≡◌, true};
 ghost use Rattle.weld_acts.specs.Act.{AreDirect};
 ghost use Rattle.weld_data.specs.View.{view_val};
 ghost use Rattle.weld_eval.specs.FrameView.{env_of};
@@ -27,27 +28,28 @@ const TURN_LIMIT: u32 = 1_000_000;
 pub(super) fn value_of_iterate<'a>(
     e: &Expr,
     frame: &'a Frame<'a>,
+    in_place: bool,
     alloc: Global,
 ) -> Result<Held<'a>, Stop>
-    requires runs { Runs e.now (env_of frame.now) }
+    requires runs { Runs in_place e.now (env_of frame.now) }
     requires form { IsIterate e.now }
     ensures { Answers held_of result (eval_of e.now (env_of frame.now)) }
 {
-    match first_state(e, &*frame, alloc) {
-        Ok(state) => run_turns(e, frame, state, alloc),
+    match first_state(e, &*frame, in_place, alloc) {
+        Ok(state) => run_turns(e, frame, in_place, state, alloc),
         Err(stop) => Err(stop),
     }
 }
 
 /// The state that an `iterate` starts with.
 #[cycle(rows)]
-fn first_state(e: &Expr, frame: &Frame, alloc: Global) -> Result<Val, Stop>
-    requires runs { Runs e.now (env_of frame.now) }
+fn first_state(e: &Expr, frame: &Frame, in_place: bool, alloc: Global) -> Result<Val, Stop>
+    requires runs { Runs in_place e.now (env_of frame.now) }
     requires form { IsIterate e.now }
     ensures { StateAnswers result e.now (env_of frame.now) }
 {
     match &e.form {
-        Form::Iterate(start, _, _) => match value(start, &*frame, alloc) {
+        Form::Iterate(start, _, _) => match value(start, &*frame, in_place, alloc) {
             Ok(x) => match into_value(x, alloc) {
                 Ok(state) => Ok(state),
                 Err(_) => Err(Stop::Memory),
@@ -59,17 +61,17 @@ fn first_state(e: &Expr, frame: &Frame, alloc: Global) -> Result<Val, Stop>
 }
 
 /// The turns of an `iterate` from a state, until one says that it is the last; the millionth may be the
-/// last, and one more is a fault. They run in slots where the state and the body are numbers; else the loops in a turn run in
-/// place, since each acts on its own builder.
+/// last, and one more is a fault. They run in slots where the state and the body are numbers.
 #[cycle(rows)]
 pub fn run_turns<'a>(
     e: &Expr,
     frame: &'a Frame<'a>,
+    in_place: bool,
     start: Val,
     alloc: Global,
 ) -> Result<Held<'a>, Stop>
     requires state { HoldsState e.now (env_of frame.now) (view_val start) }
-    requires direct { AreDirect e.now }
+    requires direct { in_place ≡ true → AreDirect e.now }
     requires form { IsIterate e.now }
     ensures { Answers held_of result (turns_from e.now (env_of frame.now) turn_limit (view_val start)) }
 {
@@ -79,7 +81,7 @@ pub fn run_turns<'a>(
     }
     let mut state = start;
     for _turn in 0..TURN_LIMIT {
-        match run_turn(e, &*frame, state, alloc) {
+        match run_turn(e, &*frame, in_place, state, alloc) {
             Ok((next, true)) => state = next,
             Ok((last, false)) => return Ok(Held::Made(Owned::Value(last))),
             Err(stop) => return Err(stop),
@@ -90,9 +92,15 @@ pub fn run_turns<'a>(
 
 /// One turn: the next state, and whether to go on.
 #[cycle(rows)]
-fn run_turn(e: &Expr, frame: &Frame, state: Val, alloc: Global) -> Result<(Val, bool), Stop>
+fn run_turn(
+    e: &Expr,
+    frame: &Frame,
+    in_place: bool,
+    state: Val,
+    alloc: Global,
+) -> Result<(Val, bool), Stop>
     requires state { HoldsState e.now (env_of frame.now) (view_val state) }
-    requires direct { AreDirect e.now }
+    requires direct { in_place ≡ true → AreDirect e.now }
     requires form { IsIterate e.now }
     ensures { TurnAnswers result e.now (env_of frame.now) (view_val state) }
 {
@@ -100,7 +108,7 @@ fn run_turn(e: &Expr, frame: &Frame, state: Val, alloc: Global) -> Result<(Val, 
         Form::Iterate(_, binder, body) => {
             let state = Held::Made(Owned::Value(state));
             let inner = bind(binder.sym, &state, &*frame);
-            match value(body, &inner, alloc) {
+            match value(body, &inner, in_place, alloc) {
                 Ok(pair) => pair_of(pair, alloc),
                 Err(stop) => Err(stop),
             }

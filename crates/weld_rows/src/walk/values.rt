@@ -1,6 +1,6 @@
 //! Expressions that are values, or builders that were made.
 
-ghost use Rattle.std.specs.Prelude.{◌≡◌, ◌≤◌, length as length_of, drop as drop_items};
+ghost use Rattle.std.specs.Prelude.{◌≡◌, ◌≤◌, true, length as length_of, drop as drop_items};
 ghost use Rattle.weld_acts.specs.Act.{Acts, AreDirect};
 ghost use Rattle.weld_acts.specs.Ranges.{HoldsRange, range_over};
 ghost use Rattle.weld_eval.specs.FrameView.{env_of};
@@ -8,7 +8,7 @@ ghost use Rattle.weld_eval.specs.LegsView.{lists_of};
 ghost use Rattle.weld_eval.specs.ThingView.{thing_of, held_of};
 ghost use Rattle.weld_eval_forms.specs.FormTakes.{all_of, pack_things};
 ghost use Rattle.weld_eval_forms.specs.Legs.{leg_lists, AreVectors};
-ghost use Rattle.weld_eval_plain.specs.Nodes.{IsOne, IsIf, IsLet, IsLoop, IsMany, IsBoth, IsThree};
+ghost use Rattle.weld_eval_plain.specs.Nodes.{IsEither, IsOne, IsIf, IsLet, IsLoop, IsMany, IsBoth, IsThree};
 ghost use Rattle.weld_eval_plain.specs.Rows.{LegsAre};
 ghost use Rattle.weld_eval.specs.Answers.{Answers};
 ghost use Rattle.weld_meaning.specs.Evaluation.{eval as eval_of, eval_all};
@@ -16,8 +16,9 @@ ghost use Rattle.weld_rows.specs.RowActs.{legs_count};
 ghost use Rattle.weld_rows.specs.Runs.{Runs, RunsNumber, AllRun};
 ghost use Rattle.weld_tree.specs.ExprTree.{pack_exprs};
 
-use super::numbers::{number, unread};
-use super::rows::run_rows;
+use super::legs::eval_legs;
+use super::numbers::{either, number, unread};
+use super::rows::hand_through;
 use super::turns::value_of_iterate;
 use crate::forms::{column_of, discard, is_numeric, link, made, no_legs};
 use std::alloc::Global;
@@ -32,30 +33,39 @@ use weld_eval_forms::several::{many, push_thing};
 use weld_eval_forms::triple::three;
 use weld_eval_forms::twofold::two;
 use weld_eval_forms::unary::one;
-use weld_eval_plain::walk::{eval, eval_legs};
 use weld_tree::{Expr, Exprs, Form, ThreeForm, TwoForm};
 
 /// What an expression comes to that isn't a builder in place.
 #[cycle(rows)]
 #[tactic(auto, using(crate::proofs::Numbers::numeric_runs))]
-pub fn value<'a>(e: &Expr, frame: &'a Frame<'a>, alloc: Global) -> Result<Held<'a>, Stop>
-    requires { Runs e.now (env_of frame.now) }
+pub fn value<'a>(
+    e: &Expr,
+    frame: &'a Frame<'a>,
+    in_place: bool,
+    alloc: Global,
+) -> Result<Held<'a>, Stop>
+    requires { Runs in_place e.now (env_of frame.now) }
     ensures { Answers held_of result (eval_of e.now (env_of frame.now)) }
 {
     if is_numeric(e) {
-        numeral(e, frame, alloc)
+        numeral(e, frame, in_place, alloc)
     } else {
-        other(e, frame, alloc)
+        other(e, frame, in_place, alloc)
     }
 }
 
 /// A number as a value.
 #[cycle(rows)]
-fn numeral<'a>(e: &Expr, frame: &'a Frame<'a>, alloc: Global) -> Result<Held<'a>, Stop>
-    requires { RunsNumber e.now (env_of frame.now) }
+fn numeral<'a>(
+    e: &Expr,
+    frame: &'a Frame<'a>,
+    in_place: bool,
+    alloc: Global,
+) -> Result<Held<'a>, Stop>
+    requires { RunsNumber in_place e.now (env_of frame.now) }
     ensures { Answers held_of result (eval_of e.now (env_of frame.now)) }
 {
-    match unread(e, &*frame, alloc) {
+    match unread(e, &*frame, in_place, alloc) {
         Ok(n) => Ok(number_held(n.to_num())),
         Err(stop) => Err(stop),
     }
@@ -64,38 +74,49 @@ fn numeral<'a>(e: &Expr, frame: &'a Frame<'a>, alloc: Global) -> Result<Held<'a>
 /// What isn't a number by its looks.
 #[cycle(rows)]
 #[tactic(auto, using(weld_eval_plain::proofs::Nodes::leaf_takes))]
-pub(super) fn other<'a>(e: &Expr, frame: &'a Frame<'a>, alloc: Global) -> Result<Held<'a>, Stop>
-    requires { Runs e.now (env_of frame.now) }
+pub(super) fn other<'a>(
+    e: &Expr,
+    frame: &'a Frame<'a>,
+    in_place: bool,
+    alloc: Global,
+) -> Result<Held<'a>, Stop>
+    requires { Runs in_place e.now (env_of frame.now) }
     ensures { Answers held_of result (eval_of e.now (env_of frame.now)) }
 {
     match &e.form {
         Form::Leaf(form) => leaf(form, frame, alloc),
-        Form::One(_, _) => value_of_one(e, frame, alloc),
-        Form::Two(TwoForm::LookUp, _, _) => value_of_both(e, frame, alloc),
-        Form::Two(TwoForm::KeyExists, _, _) => value_of_both(e, frame, alloc),
-        Form::Two(TwoForm::Merge, _, _) => value_of_both(e, frame, alloc),
-        // Operators, `&&` and `||` are numbers by their looks.
-        Form::Two(_, _, _) => eval(e, frame, alloc),
-        Form::Three(ThreeForm::If, _, _, _) => value_of_if(e, frame, alloc),
-        Form::Three(ThreeForm::Select, _, _, _) => value_of_three(e, frame, alloc),
-        Form::Three(ThreeForm::Slice, _, _, _) => value_of_three(e, frame, alloc),
-        Form::Many(_, _) => value_of_many(e, frame, alloc),
-        Form::Let(_, _, _) => value_of_let(e, frame, alloc),
-        Form::For(_, _, _, _, _, _) => value_of_loop(e, frame, alloc),
-        Form::Iterate(_, _, _) => value_of_iterate(e, frame, alloc),
+        Form::One(_, _) => value_of_one(e, frame, in_place, alloc),
+        Form::Two(TwoForm::And, _, _) => value_of_either(e, frame, in_place, alloc),
+        Form::Two(TwoForm::Or, _, _) => value_of_either(e, frame, in_place, alloc),
+        Form::Two(TwoForm::Binary(_), _, _) => value_of_both(e, frame, in_place, alloc),
+        Form::Two(TwoForm::LookUp, _, _) => value_of_both(e, frame, in_place, alloc),
+        Form::Two(TwoForm::KeyExists, _, _) => value_of_both(e, frame, in_place, alloc),
+        Form::Two(TwoForm::Merge, _, _) => value_of_both(e, frame, in_place, alloc),
+        Form::Three(ThreeForm::If, _, _, _) => value_of_if(e, frame, in_place, alloc),
+        Form::Three(ThreeForm::Select, _, _, _) => value_of_three(e, frame, in_place, alloc),
+        Form::Three(ThreeForm::Slice, _, _, _) => value_of_three(e, frame, in_place, alloc),
+        Form::Many(_, _) => value_of_many(e, frame, in_place, alloc),
+        Form::Let(_, _, _) => value_of_let(e, frame, in_place, alloc),
+        Form::For(_, _, _, _, _, _) => value_of_loop(e, frame, in_place, alloc),
+        Form::Iterate(_, _, _) => value_of_iterate(e, frame, in_place, alloc),
     }
 }
 
 /// A form of one part.
 #[cycle(rows)]
 #[tactic(auto, using(crate::proofs::Values::part_runs, crate::proofs::Values::part_run_takes))]
-fn value_of_one<'a>(e: &Expr, frame: &'a Frame<'a>, alloc: Global) -> Result<Held<'a>, Stop>
-    requires runs { Runs e.now (env_of frame.now) }
+fn value_of_one<'a>(
+    e: &Expr,
+    frame: &'a Frame<'a>,
+    in_place: bool,
+    alloc: Global,
+) -> Result<Held<'a>, Stop>
+    requires runs { Runs in_place e.now (env_of frame.now) }
     requires form { IsOne e.now }
     ensures { Answers held_of result (eval_of e.now (env_of frame.now)) }
 {
     match &e.form {
-        Form::One(form, part) => match value(part, frame, alloc) {
+        Form::One(form, part) => match value(part, frame, in_place, alloc) {
             Ok(x) => one(form, x, alloc),
             Err(stop) => Err(stop),
         },
@@ -103,21 +124,45 @@ fn value_of_one<'a>(e: &Expr, frame: &'a Frame<'a>, alloc: Global) -> Result<Hel
     }
 }
 
+/// `&&` and `||`.
+#[cycle(rows)]
+#[tactic(auto, using(crate::proofs::Numbers::either_runs))]
+fn value_of_either<'a>(
+    e: &Expr,
+    frame: &'a Frame<'a>,
+    in_place: bool,
+    alloc: Global,
+) -> Result<Held<'a>, Stop>
+    requires runs { Runs in_place e.now (env_of frame.now) }
+    requires form { IsEither e.now }
+    ensures { Answers held_of result (eval_of e.now (env_of frame.now)) }
+{
+    match either(e, &*frame, in_place, alloc) {
+        Ok(n) => Ok(number_held(n.to_num())),
+        Err(stop) => Err(stop),
+    }
+}
+
 /// A form of two parts that evaluates both.
 #[cycle(rows)]
 #[tactic(auto, using(crate::proofs::Parts::first_runs, crate::proofs::Parts::second_runs, weld_eval_plain::proofs::Nodes::both_take))]
-fn value_of_both<'a>(e: &Expr, frame: &'a Frame<'a>, alloc: Global) -> Result<Held<'a>, Stop>
-    requires runs { Runs e.now (env_of frame.now) }
+fn value_of_both<'a>(
+    e: &Expr,
+    frame: &'a Frame<'a>,
+    in_place: bool,
+    alloc: Global,
+) -> Result<Held<'a>, Stop>
+    requires runs { Runs in_place e.now (env_of frame.now) }
     requires form { IsBoth e.now }
     ensures { Answers held_of result (eval_of e.now (env_of frame.now)) }
 {
     match &e.form {
         Form::Two(form, first, second) => {
-            let x = match value(first, frame, alloc) {
+            let x = match value(first, frame, in_place, alloc) {
                 Ok(x) => x,
                 Err(stop) => return Err(stop),
             };
-            match value(second, frame, alloc) {
+            match value(second, frame, in_place, alloc) {
                 Ok(y) => two(*form, x, y, alloc),
                 Err(stop) => {
                     discard(x);
@@ -132,21 +177,26 @@ fn value_of_both<'a>(e: &Expr, frame: &'a Frame<'a>, alloc: Global) -> Result<He
 /// An `if`: only the arm that is chosen is evaluated.
 #[cycle(rows)]
 #[tactic(auto, using(crate::proofs::Numbers::value_condition_runs, crate::proofs::Numbers::value_is_truth, crate::proofs::Values::then_run, crate::proofs::Values::otherwise_run, crate::proofs::Numbers::if_is_then, crate::proofs::Numbers::if_is_otherwise))]
-fn value_of_if<'a>(e: &Expr, frame: &'a Frame<'a>, alloc: Global) -> Result<Held<'a>, Stop>
-    requires runs { Runs e.now (env_of frame.now) }
+fn value_of_if<'a>(
+    e: &Expr,
+    frame: &'a Frame<'a>,
+    in_place: bool,
+    alloc: Global,
+) -> Result<Held<'a>, Stop>
+    requires runs { Runs in_place e.now (env_of frame.now) }
     requires form { IsIf e.now }
     ensures { Answers held_of result (eval_of e.now (env_of frame.now)) }
 {
     match &e.form {
         Form::Three(_, condition, then, otherwise) => {
-            let chosen = match number(condition, &*frame, alloc) {
+            let chosen = match number(condition, &*frame, in_place, alloc) {
                 Ok(x) => truth_of(x),
                 Err(stop) => return Err(stop),
             };
             if chosen {
-                value(then, frame, alloc)
+                value(then, frame, in_place, alloc)
             } else {
-                value(otherwise, frame, alloc)
+                value(otherwise, frame, in_place, alloc)
             }
         }
         _ => unreachable!(),
@@ -156,25 +206,30 @@ fn value_of_if<'a>(e: &Expr, frame: &'a Frame<'a>, alloc: Global) -> Result<Held
 /// A form of three parts that evaluates all of them.
 #[cycle(rows)]
 #[tactic(auto, using(crate::proofs::Parts::condition_runs, crate::proofs::Values::then_run, crate::proofs::Values::otherwise_run, weld_eval_plain::proofs::Nodes::all_take))]
-fn value_of_three<'a>(e: &Expr, frame: &'a Frame<'a>, alloc: Global) -> Result<Held<'a>, Stop>
-    requires runs { Runs e.now (env_of frame.now) }
+fn value_of_three<'a>(
+    e: &Expr,
+    frame: &'a Frame<'a>,
+    in_place: bool,
+    alloc: Global,
+) -> Result<Held<'a>, Stop>
+    requires runs { Runs in_place e.now (env_of frame.now) }
     requires form { IsThree e.now }
     ensures { Answers held_of result (eval_of e.now (env_of frame.now)) }
 {
     match &e.form {
         Form::Three(form, first, second, third) => {
-            let x = match value(first, frame, alloc) {
+            let x = match value(first, frame, in_place, alloc) {
                 Ok(x) => x,
                 Err(stop) => return Err(stop),
             };
-            let y = match value(second, frame, alloc) {
+            let y = match value(second, frame, in_place, alloc) {
                 Ok(y) => y,
                 Err(stop) => {
                     discard(x);
                     return Err(stop);
                 }
             };
-            match value(third, frame, alloc) {
+            match value(third, frame, in_place, alloc) {
                 Ok(z) => three(*form, x, y, z, alloc),
                 Err(stop) => {
                     discard(x);
@@ -190,13 +245,18 @@ fn value_of_three<'a>(e: &Expr, frame: &'a Frame<'a>, alloc: Global) -> Result<H
 /// A vector or a struct.
 #[cycle(rows)]
 #[tactic(auto, using(crate::proofs::Parts::parts_run, weld_eval_plain::proofs::Parts::parts_take))]
-fn value_of_many<'a>(e: &Expr, frame: &'a Frame<'a>, alloc: Global) -> Result<Held<'a>, Stop>
-    requires runs { Runs e.now (env_of frame.now) }
+fn value_of_many<'a>(
+    e: &Expr,
+    frame: &'a Frame<'a>,
+    in_place: bool,
+    alloc: Global,
+) -> Result<Held<'a>, Stop>
+    requires runs { Runs in_place e.now (env_of frame.now) }
     requires form { IsMany e.now }
     ensures { Answers held_of result (eval_of e.now (env_of frame.now)) }
 {
     match &e.form {
-        Form::Many(form, parts) => match things(parts, &*frame, alloc) {
+        Form::Many(form, parts) => match things(parts, &*frame, in_place, alloc) {
             Ok(things) => many(*form, things, alloc),
             Err(stop) => Err(stop),
         },
@@ -207,13 +267,13 @@ fn value_of_many<'a>(e: &Expr, frame: &'a Frame<'a>, alloc: Global) -> Result<He
 /// The things of the parts of a vector or a struct.
 #[cycle(rows)]
 #[tactic(auto, using(crate::proofs::Parts::part_runs_at, crate::proofs::Parts::rest_runs, weld_eval_plain::proofs::Parts::part_done, weld_eval_plain::proofs::Parts::part_faults, weld_eval_plain::proofs::Parts::no_part_left))]
-fn things(parts: &Exprs, frame: &Frame, alloc: Global) -> Result<Vec<Owned>, Stop>
-    requires { AllRun (pack_exprs parts.now) (env_of frame.now) }
+fn things(parts: &Exprs, frame: &Frame, in_place: bool, alloc: Global) -> Result<Vec<Owned>, Stop>
+    requires { AllRun in_place (pack_exprs parts.now) (env_of frame.now) }
     ensures { Answers (λ things. pack_things (all_of things.items)) result (eval_all (pack_exprs parts.now) (env_of frame.now)) }
 {
     let mut things = Vec::new(alloc);
     for part in parts.as_slice() {
-        match value(part, &*frame, alloc) {
+        match value(part, &*frame, in_place, alloc) {
             Ok(x) => match push_thing(&mut things, x, alloc) {
                 Ok(()) => {}
                 Err(_) => return Err(Stop::Memory),
@@ -227,19 +287,24 @@ fn things(parts: &Exprs, frame: &Frame, alloc: Global) -> Result<Vec<Owned>, Sto
 /// A `let`.
 #[cycle(rows)]
 #[tactic(auto, using(crate::proofs::Values::let_value_runs, crate::proofs::Values::let_body_runs))]
-fn value_of_let<'a>(e: &Expr, frame: &'a Frame<'a>, alloc: Global) -> Result<Held<'a>, Stop>
-    requires runs { Runs e.now (env_of frame.now) }
+fn value_of_let<'a>(
+    e: &Expr,
+    frame: &'a Frame<'a>,
+    in_place: bool,
+    alloc: Global,
+) -> Result<Held<'a>, Stop>
+    requires runs { Runs in_place e.now (env_of frame.now) }
     requires form { IsLet e.now }
     ensures { Answers held_of result (eval_of e.now (env_of frame.now)) }
 {
     match &e.form {
         Form::Let(binder, first, body) => {
-            let x = match value(first, frame, alloc) {
+            let x = match value(first, frame, in_place, alloc) {
                 Ok(x) => x,
                 Err(stop) => return Err(stop),
             };
             let inner = bind(binder.sym, &x, &*frame);
-            match value(body, &inner, alloc) {
+            match value(body, &inner, in_place, alloc) {
                 Ok(y) => made(y, alloc),
                 Err(stop) => Err(stop),
             }
@@ -248,17 +313,22 @@ fn value_of_let<'a>(e: &Expr, frame: &'a Frame<'a>, alloc: Global) -> Result<Hel
     }
 }
 
-/// A loop: its legs, then its builder, then its rows, in place.
+/// A loop: its legs, then its builder, then its rows.
 #[cycle(rows)]
 #[tactic(auto, using(crate::proofs::Values::loop_legs_run, weld_eval_plain::proofs::Rows::loop_legs_fault))]
-fn value_of_loop<'a>(e: &Expr, frame: &'a Frame<'a>, alloc: Global) -> Result<Held<'a>, Stop>
-    requires runs { Runs e.now (env_of frame.now) }
+fn value_of_loop<'a>(
+    e: &Expr,
+    frame: &'a Frame<'a>,
+    in_place: bool,
+    alloc: Global,
+) -> Result<Held<'a>, Stop>
+    requires runs { Runs in_place e.now (env_of frame.now) }
     requires form { IsLoop e.now }
     ensures { Answers held_of result (eval_of e.now (env_of frame.now)) }
 {
     match &e.form {
-        Form::For(legs, _, _, _, _, _) => match eval_legs(legs, frame, alloc) {
-            Ok(vectors) => value_over(e, frame, &vectors, alloc),
+        Form::For(legs, _, _, _, _, _) => match eval_legs(legs, frame, in_place, alloc) {
+            Ok(vectors) => value_over(e, frame, &vectors, in_place, alloc),
             Err(stop) => Err(stop),
         },
         _ => unreachable!(),
@@ -272,9 +342,10 @@ fn value_over<'a>(
     e: &Expr,
     frame: &'a Frame<'a>,
     vectors: &[Held],
+    in_place: bool,
     alloc: Global,
 ) -> Result<Held<'a>, Stop>
-    requires runs { Runs e.now (env_of frame.now) }
+    requires runs { Runs in_place e.now (env_of frame.now) }
     requires form { IsLoop e.now }
     requires legs { LegsAre e.now (env_of frame.now) (leg_lists vectors.now) }
     requires vectors { AreVectors vectors.now }
@@ -286,8 +357,8 @@ fn value_over<'a>(
                 Ok(count) => count,
                 Err(stop) => return Err(stop),
             };
-            match value(start, frame, alloc) {
-                Ok(builder) => fill(e, &*frame, vectors, count, builder, alloc),
+            match value(start, frame, in_place, alloc) {
+                Ok(builder) => fill(e, &*frame, vectors, count, in_place, builder, alloc),
                 Err(stop) => Err(stop),
             }
         }
@@ -295,18 +366,19 @@ fn value_over<'a>(
     }
 }
 
-/// A builder with the rows of a loop merged.
+/// A builder handed through the rows of a loop.
 #[cycle(rows)]
 fn fill<'a>(
     e: &Expr,
     frame: &Frame,
     vectors: &[Held],
     count: usize,
+    in_place: bool,
     builder: Held,
     alloc: Global,
 ) -> Result<Held<'a>, Stop>
     requires rows { HoldsRange e.now (env_of frame.now) (leg_lists vectors.now) 0 count (held_of builder) }
-    requires direct { AreDirect e.now }
+    requires direct { in_place ≡ true → AreDirect e.now }
     requires form { IsLoop e.now }
     requires legs { length_of vectors.now ≤ legs_count e.now }
     requires vectors { AreVectors vectors.now }
@@ -324,6 +396,7 @@ fn fill<'a>(
         vectors.len(),
         &end,
         count,
+        in_place,
         &mut builder,
         alloc,
     ) {
@@ -332,7 +405,7 @@ fn fill<'a>(
     }
 }
 
-/// Links the legs of a loop, the last one first, and runs its rows.
+/// Links the legs of a loop, the last one first, and hands the builder through its rows.
 #[cycle(rows)]
 pub(super) fn reach(
     e: &Expr,
@@ -341,11 +414,12 @@ pub(super) fn reach(
     left: usize,
     legs: &Legs,
     count: usize,
+    in_place: bool,
     builder: &mut Owned,
     alloc: Global,
 ) -> Result<(), Stop>
     requires rows { HoldsRange e.now (env_of frame.now) (leg_lists vectors.now) 0 count (thing_of builder.old) }
-    requires direct { AreDirect e.now }
+    requires direct { in_place ≡ true → AreDirect e.now }
     requires form { IsLoop e.now }
     requires left { left ≤ length_of vectors.now }
     requires legs { lists_of legs.now ≡ drop_items left (leg_lists vectors.now) }
@@ -353,9 +427,19 @@ pub(super) fn reach(
     ensures { Acts result (range_over e.now (env_of frame.now) (leg_lists vectors.now) 0 count (thing_of builder.old)) (thing_of builder.new) }
 {
     if left == 0 {
-        run_rows(e, frame, legs, 0, count, builder, alloc)
+        hand_through(e, frame, legs, 0, count, in_place, builder, alloc)
     } else {
         let more = link(column_of(&vectors[left - 1]), &*legs);
-        reach(e, frame, vectors, left - 1, &more, count, builder, alloc)
+        reach(
+            e,
+            frame,
+            vectors,
+            left - 1,
+            &more,
+            count,
+            in_place,
+            builder,
+            alloc,
+        )
     }
 }

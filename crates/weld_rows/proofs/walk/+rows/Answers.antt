@@ -6,12 +6,12 @@ use Rattle.weld_tree.specs.ExprTree.{ExprTree}
 use Rattle.weld_acts.specs.Act.{Acts, act, act_all}
 use Rattle.weld_rows.specs.RowActs.{row_act, RowActFits, body_nodes}
 use Rattle.weld_tree.specs.ExprFalls.{expr_nodes}
-use Rattle.weld_tree.specs.ExprTree.{Two, one, two, three, many, let_in, loop, iterate, pack_exprs, pack_legs}
-use Rattle.weld_tree.specs.ExprView.{view_form, view_one, view_two, view_three, view_many}
+use Rattle.weld_tree.specs.ExprTree.{Two, one, two, three, many, let_in, loop, iterate, whole, strided, pack_exprs, pack_legs}
+use Rattle.weld_tree.specs.ExprView.{view_form, view_one, view_two, view_three, view_many, view_leg}
 use Rattle.weld_tree.specs.declared.expr.Form.{Form}
 use Rattle.weld_builders.specs.Outcome.{done}
-use Rattle.weld_meaning.specs.Thing.{plain, more_things, fields_of}
-use Rattle.weld_meaning.specs.Evaluation.{Env, eval, whole_number}
+use Rattle.weld_meaning.specs.Thing.{plain, bare_thing, more_things, fields_of}
+use Rattle.weld_meaning.specs.Evaluation.{Env, eval, eval_leg, whole_number}
 use Rattle.weld_eval.specs.FrameView.{env_of}
 use Rattle.weld_eval.specs.LegsView.{lists_of}
 use Rattle.weld_eval.specs.RowLists.{row_in}
@@ -19,24 +19,30 @@ use Rattle.weld_eval.specs.RowView.{row_value}
 use Rattle.weld_eval.specs.ShortView.{view_short}
 use Rattle.weld_eval.specs.ThingView.{thing_of, things_of, held_of}
 use Rattle.weld_eval_forms.specs.FormTakes.{all_of}
-use Rattle.weld_eval_forms.specs.Legs.{leg_lists}
+use Rattle.weld_eval_forms.specs.Legs.{elements_in, leg_lists, AreVectors}
+use Rattle.weld_eval.specs.Fit.{IsFit}
+use Rattle.weld_eval_plain.specs.Rows.{BodyAnswer, Joins}
+use Rattle.weld_eval_plain.proofs.Legs.{whole_is_vector, vector_is, start_is, end_is, stride_is, start_faults, end_faults, stride_faults}
+use Rattle.weld_eval_plain.proofs.Rows.{row_body_fits}
 use Rattle.weld_eval_forms.proofs.Rows.{vector_at}
 use Rattle.weld_acts.specs.ActFits.{ActFits, ActsFit}
 use Rattle.weld_acts.proofs.Children.{let_acts, struct_acts, struct_several, acts_at, acts_after}
 use Rattle.weld_eval_plain.proofs.Nodes.{both_take, all_take}
-use Rattle.weld_eval_plain.proofs.Parts.{parts_take, part_done}
+use Rattle.weld_eval_plain.proofs.Parts.{parts_take, part_done, leg_done, one_vector_more, one_list_more}
 use Rattle.weld_eval_plain.proofs.Turns.{state_is_plain, state_holds, turns_start, turn_gives, turn_answers, turns_go_on, turns_end, turns_exceeded}
-use Rattle.weld_eval_plain.proofs.Steps.{stops, second_faults, middle_faults, third_faults}
+use Rattle.weld_eval_plain.proofs.Steps.{stops, second_faults, middle_faults, third_faults, body_joins, row_by_body, appended as body_appended}
+use Rattle.weld_rows.proofs.Direct.{plainly_runs}
+use Rattle.weld_rows.proofs.LegLemmas.{leg_less, leg_runs, legs_rest_run}
 use Rattle.weld_rows.specs.Numbers.{numeric}
 use Rattle.weld_rows.specs.Runs.{Runs}
 use Rattle.weld_rows.proofs.Choosing.{selection_condition_runs, selection_then_runs, selection_otherwise_runs, selection_is_truth}
 use Rattle.weld_rows.proofs.Parts.{turn_runs, part_runs_at, rest_runs, part_less}
-use Rattle.weld_rows.proofs.Numbers.{numeric_runs, number_given, either_first, either_second, either_truth, left_runs, right_runs, binary_form, binary_answers, are_operands, choice_condition_runs, choice_is_truth, value_condition_runs, value_is_truth, then_runs, otherwise_runs, on_part_runs, on_takes}
-use Rattle.weld_rows.proofs.Values.{part_run_takes, over_count, over_ready, as_many, reach_less, linked, all_linked, expr_some}
+use Rattle.weld_rows.proofs.Numbers.{numeric_runs, either_runs, number_given, either_first, either_second, either_truth, left_runs, right_runs, binary_form, binary_answers, are_operands, choice_condition_runs, choice_is_truth, value_condition_runs, value_is_truth, then_runs, otherwise_runs, on_part_runs, on_takes}
+use Rattle.weld_rows.proofs.Values.{part_run_takes, let_body_runs, over_count, over_ready, as_many, reach_less, linked, all_linked, expr_some}
 use Rattle.weld_rows.proofs.ActLemmas.{item_runs, act_over_count, act_over_ready, fields_fewer, fields_end, some_left, several_there, reads_some, choice_runs, choice_truth, pair_item_stops}
 use Rattle.weld_blocks.proofs.Merges.{item_puts, put_number_item, put_plain, put_is, pair_is}
 use Rattle.weld_built.specs.Pair.{pair}
-use Rattle.weld_rows.proofs.RangeSteps.{row_names, row_same, range_start, range_there, range_row_acts, range_act_stops, range_act_next, range_part, range_part_next, range_part_stops}
+use Rattle.weld_rows.proofs.RangeSteps.{row_names, row_names_bare, row_same, append_start, range_holds, range_append_stops, range_next, range_start, range_there, range_row_acts, range_act_stops, range_act_next, range_part, range_part_next, range_part_stops}
 use Rattle.weld_rows.proofs.walk.+rows.Goals as goal
 
 pub values::value_of_one-one-requires : goal.values::value_of_one-one-requires
@@ -66,7 +72,7 @@ pub acts::act_over-reach-requires : goal.acts::act_over-reach-requires
 acts::act_over-reach-requires t c =
     let is = sym c.e.view_is ∙ ap (λ (f : Form). view_form f (record { place = c.e.inside.place; ty = c.e.inside.ty })) c.in-For.is ∙ (λ i. loop (record { place = c.e.inside.place; ty = c.e.inside.ty }) (pack_legs c.in-For.field-0) (sym c.deref.ensures i) c.in-For.field-2.value c.in-For.field-3.value c.in-For.field-4.value c.in-For.field-5.value) in
     let less = reach_less _ _ _ _ _ _ _ (env_of c.args.frame.now) c.args.e.now c.args.vectors.now (sym c.e.view_is ∙ ap (λ (f : Form). view_form f (record { place = c.e.inside.place; ty = c.e.inside.ty })) c.in-For.is) c.requires.legs in
-    (omega arith, (act_over_ready _ _ c.deref.result.now _ _ _ _ (env_of c.args.frame.now) c.args.e.now (thing_of c.args.builder.now) (thing_of c.act.new.builder) (leg_lists c.args.vectors.now) c.in-Ok.count is c.requires.acts c.requires.legs c.in-Ok.ensures c.in-Ok-act.ensures, (c.requires.acts.direct, (c.requires.form, (omega arith, (c.no_legs-end.ensures ∙ all_linked c.args.vectors.now, c.requires.vectors))))))
+    (omega arith, (act_over_ready _ _ c.deref.result.now _ _ _ _ (env_of c.args.frame.now) c.args.e.now (thing_of c.args.builder.now) (thing_of c.act.new.builder) (leg_lists c.args.vectors.now) c.in-Ok.count is c.requires.acts c.requires.legs c.in-Ok.ensures c.in-Ok-act.ensures, ((λ u. c.requires.acts.direct), (c.requires.form, (omega arith, (c.no_legs-end.ensures ∙ all_linked c.args.vectors.now, c.requires.vectors))))))
 
 pub values::value_over-fill-requires : goal.values::value_over-fill-requires
 values::value_over-fill-requires t c =
@@ -333,7 +339,7 @@ turns::first_state-returns-in-Ok-into_value t c =
 pub turns::run_turn-value-requires : goal.turns::run_turn-value-requires
 turns::run_turn-value-requires t c =
     let is : c.args.e.now ≡ iterate (record { place = c.e.inside.place; ty = c.e.inside.ty }) c.in-Iterate.field-0.value c.in-Iterate.binder c.deref.result.now = sym c.e.view_is ∙ ap (λ (f : Form). view_form f (record { place = c.e.inside.place; ty = c.e.inside.ty })) c.in-Iterate.is ∙ (λ i. iterate (record { place = c.e.inside.place; ty = c.e.inside.ty }) c.in-Iterate.field-0.value c.in-Iterate.binder (sym c.deref.ensures i)) in
-    (omega (arith, ap expr_nodes is), subst (λ (g : Env). Runs c.deref.result.now g) (sym c.bind-inner.ensures) (turn_runs _ _ _ c.deref.result.now (env_of c.args.frame.now) c.args.e.now (view_val c.args.state) is c.requires.state c.requires.direct))
+    (omega (arith, ap expr_nodes is), subst (λ (g : Env). Runs c.args.in_place c.deref.result.now g) (sym c.bind-inner.ensures) (turn_runs _ _ _ c.deref.result.now (env_of c.args.frame.now) c.args.e.now (view_val c.args.state) is c.requires.state c.requires.direct))
 
 pub turns::run_turn-pair_of-requires : goal.turns::run_turn-pair_of-requires
 turns::run_turn-pair_of-requires t c =
@@ -389,3 +395,99 @@ pub numbers::selection-number-requires-in-Three-2 : goal.numbers::selection-numb
 numbers::selection-number-requires-in-Three-2 t c =
     let is : c.args.e.now ≡ three (record { place = c.e.inside.place; ty = c.e.inside.ty }) (view_three c.in-Three.field-0) c.in-Three.condition.value c.in-Three.then.value c.deref-in-Three-2.result.now = sym c.e.view_is ∙ ap (λ (f : Form). view_form f (record { place = c.e.inside.place; ty = c.e.inside.ty })) c.in-Three.is ∙ (λ i. three (record { place = c.e.inside.place; ty = c.e.inside.ty }) (view_three c.in-Three.field-0) c.in-Three.condition.value c.in-Three.then.value (sym c.deref-in-Three-2.ensures i)) in
     (omega (arith, ap expr_nodes is), selection_otherwise_runs _ _ c.in-Three.condition.value c.in-Three.then.value c.deref-in-Three-2.result.now (env_of c.args.frame.now) c.args.e.now is c.requires.form c.requires.runs)
+
+pub values::value_of_either-either-requires : goal.values::value_of_either-either-requires
+values::value_of_either-either-requires t c = (omega arith, (either_runs c.args.e.now (env_of c.args.frame.now) c.requires.form c.requires.runs, c.requires.form))
+
+pub values::value_of_let-value-requires-in-Let : goal.values::value_of_let-value-requires-in-Let
+values::value_of_let-value-requires-in-Let t c =
+    let is : c.args.e.now ≡ let_in (record { place = c.e.inside.place; ty = c.e.inside.ty }) c.in-Let.binder c.deref.result.now c.deref-in-Let.result.now = sym c.e.view_is ∙ ap (λ (f : Form). view_form f (record { place = c.e.inside.place; ty = c.e.inside.ty })) c.in-Let.is ∙ (λ i. let_in (record { place = c.e.inside.place; ty = c.e.inside.ty }) c.in-Let.binder (sym c.deref.ensures i) (sym c.deref-in-Let.ensures i)) in
+    (omega (arith, ap expr_nodes is), subst (λ (g : Env). Runs c.args.in_place c.deref-in-Let.result.now g) (sym c.bind-inner.ensures) (let_body_runs _ _ c.deref.result.now c.deref-in-Let.result.now (env_of c.args.frame.now) c.args.e.now (held_of c.in-Ok.x) is c.requires.runs c.in-Ok.ensures))
+
+-- ---- legs
+
+pub legs::eval_legs-eval_leg-requires : goal.legs::eval_legs-eval_leg-requires
+legs::eval_legs-eval_leg-requires t c =
+    let less = leg_less c.as_slice-leg-items.result.now c.args.legs.now c.loop-leg.leg-index c.leg-item.result c.as_slice-leg-items.ensures.value c.loop-leg-test.true c.leg-item.is in
+    (omega arith, leg_runs c.as_slice-leg-items.result.now (env_of c.args.frame.now) c.loop-leg.leg-index c.leg-item.result c.loop-leg-test.true c.leg-item.is c.loop-leg.invariant.0)
+
+pub legs::eval_leg-whole-requires : goal.legs::eval_leg-whole-requires
+legs::eval_leg-whole-requires t c =
+    whole_is_vector c.deref.result.now (env_of c.args.frame.now) (view_leg c.args.leg.now) (held_of c.in-Ok.v) (ap view_leg c.in-Whole.is ∙ (λ i. whole (sym c.deref.ensures i))) c.requires.fit c.in-Ok.ensures
+
+pub legs::eval_strided-strided-requires-clause-vector : goal.legs::eval_strided-strided-requires-clause-vector
+legs::eval_strided-strided-requires-clause-vector t c =
+    vector_is c.deref.result.now c.deref-in-Strided.result.now c.deref-in-Strided-2.result.now c.deref-in-Strided-3.result.now (env_of c.args.frame.now) (view_leg c.args.leg.now) (held_of c.in-Ok.v) (ap view_leg c.in-Strided.is ∙ (λ i. strided (sym c.deref.ensures i) (sym c.deref-in-Strided.ensures i) (sym c.deref-in-Strided-2.ensures i) (sym c.deref-in-Strided-3.ensures i))) c.requires.runs.fit c.in-Ok.ensures
+
+pub legs::eval_strided-strided-requires-clause-start : goal.legs::eval_strided-strided-requires-clause-start
+legs::eval_strided-strided-requires-clause-start t c =
+    start_is c.deref.result.now c.deref-in-Strided.result.now c.deref-in-Strided-2.result.now c.deref-in-Strided-3.result.now (env_of c.args.frame.now) (view_leg c.args.leg.now) (held_of c.in-Ok-value.x) (ap view_leg c.in-Strided.is ∙ (λ i. strided (sym c.deref.ensures i) (sym c.deref-in-Strided.ensures i) (sym c.deref-in-Strided-2.ensures i) (sym c.deref-in-Strided-3.ensures i))) c.requires.runs.fit c.in-Ok-value.ensures
+
+pub legs::eval_strided-strided-requires-clause-end : goal.legs::eval_strided-strided-requires-clause-end
+legs::eval_strided-strided-requires-clause-end t c =
+    end_is c.deref.result.now c.deref-in-Strided.result.now c.deref-in-Strided-2.result.now c.deref-in-Strided-3.result.now (env_of c.args.frame.now) (view_leg c.args.leg.now) (held_of c.in-Ok-value-2.x) (ap view_leg c.in-Strided.is ∙ (λ i. strided (sym c.deref.ensures i) (sym c.deref-in-Strided.ensures i) (sym c.deref-in-Strided-2.ensures i) (sym c.deref-in-Strided-3.ensures i))) c.requires.runs.fit c.in-Ok-value-2.ensures
+
+pub legs::eval_strided-strided-requires-clause-stride : goal.legs::eval_strided-strided-requires-clause-stride
+legs::eval_strided-strided-requires-clause-stride t c =
+    stride_is c.deref.result.now c.deref-in-Strided.result.now c.deref-in-Strided-2.result.now c.deref-in-Strided-3.result.now (env_of c.args.frame.now) (view_leg c.args.leg.now) (held_of c.in-Ok-value-3.stride) (ap view_leg c.in-Strided.is ∙ (λ i. strided (sym c.deref.ensures i) (sym c.deref-in-Strided.ensures i) (sym c.deref-in-Strided-2.ensures i) (sym c.deref-in-Strided-3.ensures i))) c.requires.runs.fit c.in-Ok-value-3.ensures
+
+pub legs::eval_strided-returns-in-Err-value-clause-elements : goal.legs::eval_strided-returns-in-Err-value-clause-elements
+legs::eval_strided-returns-in-Err-value-clause-elements t c =
+    stops held_of elements_in c.in-Err-value.stop (eval c.deref-in-Strided.result.now (env_of c.args.frame.now)) (eval_leg (view_leg c.args.leg.now) (env_of c.args.frame.now)) (λ q. start_faults c.deref.result.now c.deref-in-Strided.result.now c.in-Strided.end.value c.in-Strided.stride.value (env_of c.args.frame.now) (view_leg c.args.leg.now) (held_of c.in-Ok.v) (ap view_leg c.in-Strided.is ∙ (λ i. strided (sym c.deref.ensures i) (sym c.deref-in-Strided.ensures i) c.in-Strided.end.value c.in-Strided.stride.value)) c.in-Ok.ensures (vector_is c.deref.result.now c.deref-in-Strided.result.now c.in-Strided.end.value c.in-Strided.stride.value (env_of c.args.frame.now) (view_leg c.args.leg.now) (held_of c.in-Ok.v) (ap view_leg c.in-Strided.is ∙ (λ i. strided (sym c.deref.ensures i) (sym c.deref-in-Strided.ensures i) c.in-Strided.end.value c.in-Strided.stride.value)) c.requires.runs.fit c.in-Ok.ensures) q) c.in-Err-value.ensures
+
+pub legs::eval_strided-returns-in-Err-value-2-clause-elements : goal.legs::eval_strided-returns-in-Err-value-2-clause-elements
+legs::eval_strided-returns-in-Err-value-2-clause-elements t c =
+    stops held_of elements_in c.in-Err-value-2.stop (eval c.deref-in-Strided-2.result.now (env_of c.args.frame.now)) (eval_leg (view_leg c.args.leg.now) (env_of c.args.frame.now)) (λ q. end_faults c.deref.result.now c.deref-in-Strided.result.now c.deref-in-Strided-2.result.now c.in-Strided.stride.value (env_of c.args.frame.now) (view_leg c.args.leg.now) (held_of c.in-Ok.v) (held_of c.in-Ok-value.x) (ap view_leg c.in-Strided.is ∙ (λ i. strided (sym c.deref.ensures i) (sym c.deref-in-Strided.ensures i) (sym c.deref-in-Strided-2.ensures i) c.in-Strided.stride.value)) c.in-Ok.ensures (vector_is c.deref.result.now c.deref-in-Strided.result.now c.deref-in-Strided-2.result.now c.in-Strided.stride.value (env_of c.args.frame.now) (view_leg c.args.leg.now) (held_of c.in-Ok.v) (ap view_leg c.in-Strided.is ∙ (λ i. strided (sym c.deref.ensures i) (sym c.deref-in-Strided.ensures i) (sym c.deref-in-Strided-2.ensures i) c.in-Strided.stride.value)) c.requires.runs.fit c.in-Ok.ensures) c.in-Ok-value.ensures (start_is c.deref.result.now c.deref-in-Strided.result.now c.deref-in-Strided-2.result.now c.in-Strided.stride.value (env_of c.args.frame.now) (view_leg c.args.leg.now) (held_of c.in-Ok-value.x) (ap view_leg c.in-Strided.is ∙ (λ i. strided (sym c.deref.ensures i) (sym c.deref-in-Strided.ensures i) (sym c.deref-in-Strided-2.ensures i) c.in-Strided.stride.value)) c.requires.runs.fit c.in-Ok-value.ensures) q) c.in-Err-value-2.ensures
+
+pub legs::eval_strided-returns-in-Err-value-3-clause-elements : goal.legs::eval_strided-returns-in-Err-value-3-clause-elements
+legs::eval_strided-returns-in-Err-value-3-clause-elements t c =
+    stops held_of elements_in c.in-Err-value-3.stop (eval c.deref-in-Strided-3.result.now (env_of c.args.frame.now)) (eval_leg (view_leg c.args.leg.now) (env_of c.args.frame.now)) (λ q. stride_faults c.deref.result.now c.deref-in-Strided.result.now c.deref-in-Strided-2.result.now c.deref-in-Strided-3.result.now (env_of c.args.frame.now) (view_leg c.args.leg.now) (held_of c.in-Ok.v) (held_of c.in-Ok-value.x) (held_of c.in-Ok-value-2.x) (ap view_leg c.in-Strided.is ∙ (λ i. strided (sym c.deref.ensures i) (sym c.deref-in-Strided.ensures i) (sym c.deref-in-Strided-2.ensures i) (sym c.deref-in-Strided-3.ensures i))) c.in-Ok.ensures (vector_is c.deref.result.now c.deref-in-Strided.result.now c.deref-in-Strided-2.result.now c.deref-in-Strided-3.result.now (env_of c.args.frame.now) (view_leg c.args.leg.now) (held_of c.in-Ok.v) (ap view_leg c.in-Strided.is ∙ (λ i. strided (sym c.deref.ensures i) (sym c.deref-in-Strided.ensures i) (sym c.deref-in-Strided-2.ensures i) (sym c.deref-in-Strided-3.ensures i))) c.requires.runs.fit c.in-Ok.ensures) c.in-Ok-value.ensures (start_is c.deref.result.now c.deref-in-Strided.result.now c.deref-in-Strided-2.result.now c.deref-in-Strided-3.result.now (env_of c.args.frame.now) (view_leg c.args.leg.now) (held_of c.in-Ok-value.x) (ap view_leg c.in-Strided.is ∙ (λ i. strided (sym c.deref.ensures i) (sym c.deref-in-Strided.ensures i) (sym c.deref-in-Strided-2.ensures i) (sym c.deref-in-Strided-3.ensures i))) c.requires.runs.fit c.in-Ok-value.ensures) c.in-Ok-value-2.ensures (end_is c.deref.result.now c.deref-in-Strided.result.now c.deref-in-Strided-2.result.now c.deref-in-Strided-3.result.now (env_of c.args.frame.now) (view_leg c.args.leg.now) (held_of c.in-Ok-value-2.x) (ap view_leg c.in-Strided.is ∙ (λ i. strided (sym c.deref.ensures i) (sym c.deref-in-Strided.ensures i) (sym c.deref-in-Strided-2.ensures i) (sym c.deref-in-Strided-3.ensures i))) c.requires.runs.fit c.in-Ok-value-2.ensures) q) c.in-Err-value-3.ensures
+
+pub legs::eval_legs-loop-leg-preserved : goal.legs::eval_legs-loop-leg-preserved
+legs::eval_legs-loop-leg-preserved t c = (
+  legs_rest_run c.as_slice-leg-items.result.now (env_of c.args.frame.now) c.loop-leg.leg-index c.leg-item.result c.loop-leg-test.true c.leg-item.is c.loop-leg.invariant.0,
+  subst (λ hs. AreVectors hs) (sym c.in-Ok-push.ensures.items) (one_vector_more c.loop-leg.vectors.items c.in-Ok.vector c.loop-leg.invariant.1 c.in-Ok.ensures.vector),
+  c.loop-leg.invariant.2 ∙ leg_done c.as_slice-leg-items.result.now (env_of c.args.frame.now) (leg_lists c.loop-leg.vectors.items) (leg_lists c.push.new.self.items) c.loop-leg.leg-index c.leg-item.result (elements_in c.in-Ok.vector) c.loop-leg-test.true c.leg-item.is c.in-Ok.ensures.elements
+      (ap (λ hs. leg_lists hs) c.in-Ok-push.ensures.items ∙ one_list_more c.loop-leg.vectors.items c.in-Ok.vector),
+)
+
+-- ---- rows that are appended
+
+pub appended::append_row-append_body-answer-requires : goal.appended::append_row-append_body-answer-requires
+appended::append_row-append_body-answer-requires t c =
+    let is : c.args.e.now ≡ loop (record { place = c.e.inside.place; ty = c.e.inside.ty }) (pack_legs c.in-For.field-0) c.in-For.field-1.value c.deref.result.now c.deref-in-For.result.now c.deref-in-For-2.result.now c.deref-in-For-3.result.now = sym c.e.view_is ∙ ap (λ (f : Form). view_form f (record { place = c.e.inside.place; ty = c.e.inside.ty })) c.in-For.is ∙ (λ i. loop (record { place = c.e.inside.place; ty = c.e.inside.ty }) (pack_legs c.in-For.field-0) c.in-For.field-1.value (sym c.deref.ensures i) (sym c.deref-in-For.ensures i) (sym c.deref-in-For-2.ensures i) (sym c.deref-in-For-3.ensures i)) in
+    let same : row_value c.new-row.result ≡ row_in (lists_of c.args.legs.now) c.args.number = row_same c.new-row.result (lists_of c.args.legs.now) c.args.number (row_value c.new-row.result) refl c.new-row.ensures.number c.new-row.ensures.lists in
+    let names : env_of c.with_row-inner.result ≡ ((c.deref-in-For-2.result.now.sym.0, plain (row_in (lists_of c.args.legs.now) c.args.number)) ∷ (c.deref-in-For.result.now.sym.0, plain (whole_number c.args.number)) ∷ (c.deref.result.now.sym.0, bare_thing (thing_of c.args.builder.now)) ∷ (env_of c.args.frame.now)) = row_names_bare _ _ _ _ _ _ _ _ _ _ _ _ _ c.with_row-inner.ensures c.with_number-middle.ensures c.with_builder-outer.ensures same c.whole_number.ensures c.in-Ok.ensures in (
+      omega (arith, ap body_nodes is),
+      (
+        plainly_runs c.deref-in-For-3.result.now (env_of c.with_row-inner.result) (subst (λ (g : Env). IsFit c.deref-in-For-3.result.now g) (sym names) (row_body_fits _ _ _ _ _ _ c.deref-in-For-3.result.now (env_of c.args.frame.now) c.args.e.now c.args.number (thing_of c.args.builder.now) (row_in (lists_of c.args.legs.now) c.args.number) is c.requires.holds)),
+        subst (λ (g : Env). Joins c.deref-in-For-3.result.now g (thing_of c.args.builder.now)) (sym names) (body_joins _ _ _ _ _ _ c.deref-in-For-3.result.now (env_of c.args.frame.now) c.args.e.now c.args.number (thing_of c.args.builder.now) (row_in (lists_of c.args.legs.now) c.args.number) is c.requires.holds),
+      ),
+    )
+
+pub appended::append_row-returns : goal.appended::append_row-returns
+appended::append_row-returns t c =
+    let is : c.args.e.now ≡ loop (record { place = c.e.inside.place; ty = c.e.inside.ty }) (pack_legs c.in-For.field-0) c.in-For.field-1.value c.deref.result.now c.deref-in-For.result.now c.deref-in-For-2.result.now c.deref-in-For-3.result.now = sym c.e.view_is ∙ ap (λ (f : Form). view_form f (record { place = c.e.inside.place; ty = c.e.inside.ty })) c.in-For.is ∙ (λ i. loop (record { place = c.e.inside.place; ty = c.e.inside.ty }) (pack_legs c.in-For.field-0) c.in-For.field-1.value (sym c.deref.ensures i) (sym c.deref-in-For.ensures i) (sym c.deref-in-For-2.ensures i) (sym c.deref-in-For-3.ensures i)) in
+    let same : row_value c.new-row.result ≡ row_in (lists_of c.args.legs.now) c.args.number = row_same c.new-row.result (lists_of c.args.legs.now) c.args.number (row_value c.new-row.result) refl c.new-row.ensures.number c.new-row.ensures.lists in
+    let names : env_of c.with_row-inner.result ≡ ((c.deref-in-For-2.result.now.sym.0, plain (row_in (lists_of c.args.legs.now) c.args.number)) ∷ (c.deref-in-For.result.now.sym.0, plain (whole_number c.args.number)) ∷ (c.deref.result.now.sym.0, bare_thing (thing_of c.args.builder.now)) ∷ (env_of c.args.frame.now)) = row_names_bare _ _ _ _ _ _ _ _ _ _ _ _ _ c.with_row-inner.ensures c.with_number-middle.ensures c.with_builder-outer.ensures same c.whole_number.ensures c.in-Ok.ensures in
+    row_by_body c.append_body-answer.result _ _ _ _ _ _ c.deref-in-For-3.result.now (env_of c.args.frame.now) c.args.e.now c.args.number (thing_of c.args.builder.now) (thing_of c.append_body-answer.new.builder) (row_in (lists_of c.args.legs.now) c.args.number) is c.requires.holds
+    (subst (λ (g : Env). BodyAnswer c.append_body-answer.result c.deref-in-For-3.result.now g (thing_of c.args.builder.now) (thing_of c.append_body-answer.new.builder)) names c.append_body-answer.ensures)
+
+pub appended::append_body-append-requires : goal.appended::append_body-append-requires
+appended::append_body-append-requires t c = c.requires.joins.joins (held_of c.in-Ok.merged) c.in-Ok.ensures
+
+pub appended::append_body-returns-in-Ok : goal.appended::append_body-returns-in-Ok
+appended::append_body-returns-in-Ok t c =
+    body_appended c.append.result c.args.body.now (env_of c.args.frame.now) (thing_of c.args.builder.now) (held_of c.in-Ok.merged) (thing_of c.append.new.builder) c.in-Ok.ensures c.append.ensures.joined c.append.ensures.memory
+
+pub appended::append_rows-loop-number-init : goal.appended::append_rows-loop-number-init
+appended::append_rows-loop-number-init t c = append_start c.args.e.now (env_of c.args.frame.now) (lists_of c.args.legs.now) c.args.from c.args.to (thing_of c.args.builder.now) c.requires.rows
+
+pub appended::append_rows-append_row-requires : goal.appended::append_rows-append_row-requires
+appended::append_rows-append_row-requires t c = (omega arith, (range_there c.args.e.now (env_of c.args.frame.now) (lists_of c.args.legs.now) c.args.from c.args.to _ _ c.loop-number.number (thing_of c.loop-number.builder) c.loop-number.invariant c.loop-number-test.true, (range_holds c.args.e.now (env_of c.args.frame.now) (lists_of c.args.legs.now) c.args.from c.args.to _ _ c.loop-number.number (thing_of c.loop-number.builder) c.loop-number.invariant c.loop-number-test.true, c.requires.form)))
+
+pub appended::append_rows-returns-in-Err : goal.appended::append_rows-returns-in-Err
+appended::append_rows-returns-in-Err t c = range_append_stops (Unit {0}) (Unit {0}) c.in-Err.stop c.args.e.now (env_of c.args.frame.now) (lists_of c.args.legs.now) c.args.from c.args.to _ _ c.loop-number.number (thing_of c.loop-number.builder) (thing_of c.append_row.new.builder) (thing_of c.append_row.new.builder) c.loop-number.invariant c.loop-number-test.true c.in-Err.ensures
+
+pub appended::append_rows-loop-number-preserved : goal.appended::append_rows-loop-number-preserved
+appended::append_rows-loop-number-preserved t c = range_next c.args.e.now (env_of c.args.frame.now) (lists_of c.args.legs.now) c.args.from c.args.to _ _ c.loop-number.number (thing_of c.loop-number.builder) (thing_of c.append_row.new.builder) c.loop-number.invariant c.loop-number-test.true c.in-Ok.ensures

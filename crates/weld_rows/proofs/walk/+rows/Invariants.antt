@@ -1,16 +1,18 @@
-use Rattle.std.proofs.Common.{◌≡◌, ◌+◌, ◌-◌, ◌*◌, drop, length}
+use Rattle.std.proofs.Common.{◌≡◌, ◌+◌, ◌-◌, ◌*◌, ◌++◌, drop, length, map}
 use Rattle.weld_data.specs.View.{view_val}
-use Rattle.weld_tree.specs.ExprFalls.{expr_nodes, exprs_nodes}
-use Rattle.weld_tree.specs.ExprTree.{pack_exprs}
+use Rattle.weld_tree.specs.ExprFalls.{expr_nodes, exprs_nodes, leg_nodes, legs_nodes}
+use Rattle.weld_tree.specs.ExprTree.{pack_exprs, pack_legs}
+use Rattle.weld_tree.specs.ExprView.{view_leg}
 use Rattle.weld_builders.specs.Outcome.{map_out}
-use Rattle.weld_meaning.specs.Evaluation.{eval_all, turn_limit}
+use Rattle.weld_meaning.specs.Evaluation.{eval_all, eval_legs, turn_limit}
 use Rattle.weld_eval.specs.FrameView.{env_of}
 use Rattle.weld_eval.specs.LegsView.{lists_of}
 use Rattle.weld_eval.specs.ThingView.{thing_of}
 use Rattle.weld_eval_forms.specs.FormTakes.{all_of, before_things}
 use Rattle.weld_eval_plain.specs.Turns.{HoldsState, turns_from}
 use Rattle.weld_rows.specs.RangeOn.{RangeOn}
-use Rattle.weld_rows.specs.Runs.{AllRun}
+use Rattle.weld_eval_forms.specs.Legs.{leg_lists, AreVectors}
+use Rattle.weld_rows.specs.Runs.{AllRun, LegsRun}
 use Rattle.weld_rows.specs.RowActs.{body_nodes}
 use Rattle.weld_rows.proofs.walk.+rows.Given as goal
 
@@ -27,7 +29,7 @@ abbrev pub decreases-numbers::binary : goal.decreases-numbers::binary
 decreases-numbers::binary l = 64 * expr_nodes l.e.now + 9
 
 abbrev pub decreases-numbers::either : goal.decreases-numbers::either
-decreases-numbers::either l = 64 * expr_nodes l.e.now + 9
+decreases-numbers::either l = 64 * expr_nodes l.e.now + 6
 
 abbrev pub decreases-numbers::choice : goal.decreases-numbers::choice
 decreases-numbers::choice l = 64 * expr_nodes l.e.now + 9
@@ -49,6 +51,9 @@ decreases-values::other l = 64 * expr_nodes l.e.now + 8
 
 abbrev pub decreases-values::value_of_one : goal.decreases-values::value_of_one
 decreases-values::value_of_one l = 64 * expr_nodes l.e.now + 7
+
+abbrev pub decreases-values::value_of_either : goal.decreases-values::value_of_either
+decreases-values::value_of_either l = 64 * expr_nodes l.e.now + 7
 
 abbrev pub decreases-values::value_of_if : goal.decreases-values::value_of_if
 decreases-values::value_of_if l = 64 * expr_nodes l.e.now + 7
@@ -119,6 +124,9 @@ decreases-values::fill l = 64 * body_nodes l.e.now + 41 + length l.vectors.now
 abbrev pub decreases-values::reach : goal.decreases-values::reach
 decreases-values::reach l = 64 * body_nodes l.e.now + 40 + l.left
 
+abbrev pub decreases-rows::hand_through : goal.decreases-rows::hand_through
+decreases-rows::hand_through l = 64 * body_nodes l.e.now + 39
+
 abbrev pub decreases-rows::run_rows : goal.decreases-rows::run_rows
 decreases-rows::run_rows l = 64 * body_nodes l.e.now + 38
 
@@ -170,10 +178,31 @@ decreases-turns::run_turns l = 64 * expr_nodes l.e.now + 6
 abbrev pub decreases-turns::run_turn : goal.decreases-turns::run_turn
 decreases-turns::run_turn l = 64 * expr_nodes l.e.now + 5
 
+abbrev pub decreases-appended::append_rows : goal.decreases-appended::append_rows
+decreases-appended::append_rows l = 64 * body_nodes l.e.now + 38
+
+abbrev pub decreases-appended::append_row : goal.decreases-appended::append_row
+decreases-appended::append_row l = 64 * body_nodes l.e.now + 37
+
+abbrev pub decreases-appended::append_body : goal.decreases-appended::append_body
+decreases-appended::append_body l = 64 * expr_nodes l.body.now + 36
+
+abbrev pub decreases-legs::eval_legs : goal.decreases-legs::eval_legs
+decreases-legs::eval_legs l = 64 * legs_nodes (pack_legs l.legs.now) + 20
+
+abbrev pub decreases-legs::eval_leg : goal.decreases-legs::eval_leg
+decreases-legs::eval_leg l = 64 * leg_nodes (view_leg l.leg.now) + 19
+
+abbrev pub decreases-legs::eval_strided : goal.decreases-legs::eval_strided
+decreases-legs::eval_strided l = 64 * leg_nodes (view_leg l.leg.now) + 18
+
 -- the builder has come so far
 
 abbrev pub invariant-rows::walk_rows-loop-number : goal.invariant-rows::walk_rows-loop-number
 invariant-rows::walk_rows-loop-number l = RangeOn l.e (env_of l.frame) (lists_of l.legs) l.from l.to (thing_of l.fn.builder) (thing_of l.own) l.number (thing_of l.builder)
+
+abbrev pub invariant-appended::append_rows-loop-number : goal.invariant-appended::append_rows-loop-number
+invariant-appended::append_rows-loop-number l = RangeOn l.e (env_of l.frame) (lists_of l.legs) l.from l.to (thing_of l.fn.builder) (thing_of l.fn.builder) l.number (thing_of l.builder)
 
 abbrev pub invariant-rows::run_blocks-pieces : goal.invariant-rows::run_blocks-pieces
 invariant-rows::run_blocks-pieces l = RangeOn l.e (env_of l.frame) (lists_of l.legs) l.from l.to (thing_of l.fn.builder) (thing_of l.own) l.reached (thing_of l.builder)
@@ -190,5 +219,11 @@ invariant-turns::run_turns-loop-turn l = HoldsState l.e (env_of l.frame) (view_v
 
 abbrev pub invariant-values::things-loop-part : goal.invariant-values::things-loop-part
 invariant-values::things-loop-part l =
-    AllRun (pack_exprs (drop l.part-index l.part-items)) (env_of l.frame)
+    AllRun l.in_place (pack_exprs (drop l.part-index l.part-items)) (env_of l.frame)
     × (eval_all (pack_exprs l.part-items) (env_of l.frame) ≡ map_out (before_things (all_of l.things.items)) (eval_all (pack_exprs (drop l.part-index l.part-items)) (env_of l.frame)))
+
+abbrev pub invariant-legs::eval_legs-loop-leg : goal.invariant-legs::eval_legs-loop-leg
+invariant-legs::eval_legs-loop-leg l =
+    LegsRun l.in_place (pack_legs (map view_leg (drop l.leg-index l.leg-items))) (env_of l.frame)
+    × AreVectors l.vectors.items
+    × (eval_legs (pack_legs (map view_leg l.leg-items)) (env_of l.frame) ≡ map_out (λ rest. leg_lists l.vectors.items ++ rest) (eval_legs (pack_legs (map view_leg (drop l.leg-index l.leg-items))) (env_of l.frame)))
