@@ -66,6 +66,14 @@ some_legs a ls e b n x f env hs h q =
 pub legs_there : (a : At) (ls : LegTrees) (e : ExprTree) (b n x : Binder) (f : ExprTree) (env : Env) (m : ExprTree) (hs : List Held) → m ≡ loop a ls e b n x f → IsFit m env → LegsAre m env (leg_lists hs) → 0 < length hs
 legs_there a ls e b n x f env m hs is h q = some_legs a ls e b n x f env hs (subst (λ k. IsFit k env) is h) (subst (λ k. LegsAre k env (leg_lists hs)) is q)
 
+pub rows_are_all : (a : At) (ls : LegTrees) (e : ExprTree) (b n x : Binder) (f : ExprTree) (env : Env) (lists : List (List Value)) (rows : List Value) (s : Thing)
+    → eval_legs ls env ≡ done lists → rows_of lists ≡ done rows → eval e env ≡ done s → eval (loop a ls e b n x f) env ≡ loop_over (loop a ls e b n x f) env lists s
+rows_are_all a ls e b n x f env lists rows s q r u =
+    ap (λ o. and_then o (λ legs. and_then (rows_of legs) (λ vs. and_then (eval e env) (λ t. run (number_from 0 vs) t (λ w y. row_of b n x f env w y))))) q
+    ∙ ap (λ o. and_then o (λ vs. and_then (eval e env) (λ t. run (number_from 0 vs) t (λ w y. row_of b n x f env w y)))) r
+    ∙ ap (λ o. and_then o (λ t. run (number_from 0 rows) t (λ w y. row_of b n x f env w y))) u
+    ∙ sym (ap (λ o. and_then o (λ vs. rows_from (loop a ls e b n x f) env 0 vs s)) r)
+
 -- ---- what has nothing merged
 
 mutual

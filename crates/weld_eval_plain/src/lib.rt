@@ -1,7 +1,5 @@
-//! Evaluates an accepted program one element after another.
+//! What a program is evaluated by, as definitions with their laws: the nodes of an expression and what
+//! each takes, the rows of a loop one after another, the turns of an `iterate`.
 #![tactic(auto)]
 
-mod plain;
-pub mod walk;
-
-pub use plain::eval_plain;
+pub mod laws;
