@@ -1,6 +1,6 @@
-pub mod Begun
-pub mod Made
-pub mod Ranks
-pub mod Tokens
-pub mod AtOnce
-pub mod Operators
+mod Begun
+mod Made
+mod Ranks
+mod Tokens
+mod AtOnce
+mod Operators

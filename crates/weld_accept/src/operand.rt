@@ -120,7 +120,8 @@ fn bracketed(symbol: Symbol) -> Option<Item>
 
 fn worded(reserved: Reserved) -> Option<Item>
     ensures is { result ≡ primary_of (classes.Reserved reserved) }
-    ensures begins { IfSome result (λ item. IsTrue (begins_class item (classes.Reserved reserved))) }
+    ensures begins { IfSome result (λ item. IsTrue (begins_class item
+        (classes.Reserved reserved))) }
 {
     match reserved {
         Reserved::True | Reserved::False => Some(Item::One(Terminal::Fixed(reserved))),

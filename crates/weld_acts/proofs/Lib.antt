@@ -1,9 +1,9 @@
-pub mod Outcomes
-pub mod InPlace
-pub mod Keeps
+mod Outcomes
+mod InPlace
+mod Keeps
 pub mod Direct
 pub mod RowActs
 pub mod RangeSteps
 pub mod Children
 pub mod RangeLaw
-pub mod Decided
+mod Decided

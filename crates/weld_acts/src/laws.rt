@@ -24,12 +24,17 @@ ghost use Rattle.weld_acts.specs.Ranges.{Evaluation, range_over, HoldsEvaluation
 /// builder's own name may stand for anything while it is done in place. So a row of a loop whose body
 /// acts on the loop's own builder makes of a builder what is done to it in place.
 pub fn in_place_is_the_meaning()
-    ensures expression { (e : ExprTree) (b : ℕ) (p : Path) (names : Types) (t : TypeTree) (env before : Env) (s : Thing)
-        → AreFormed names → EnvFits names env → HasType e names t → IsBuilder t → HasThing s t → IsAct b p e
-        → Stands b p env s → AgreeOn (Besides (IsFree e) b) env before → eval e env ≡ act e before s }
-    ensures row { (a : At) (ls : LegTrees) (e : ExprTree) (b n x : Binder) (f : ExprTree) (env : Env) (i : ℕ) (s own : Thing) (v : Value)
+    ensures expression { (e : ExprTree) (b : ℕ) (p : Path) (names : Types) (t : TypeTree)
+        (env before : Env) (s : Thing)
+        → AreFormed names → EnvFits names env → HasType e names t → IsBuilder t → HasThing s t
+        → IsAct b p e
+        → Stands b p env s → AgreeOn (Besides (IsFree e) b) env before
+        → eval e env ≡ act e before s }
+    ensures row { (a : At) (ls : LegTrees) (e : ExprTree) (b n x : Binder) (f : ExprTree)
+        (env : Env) (i : ℕ) (s own : Thing) (v : Value)
         → AreDirect (loop a ls e b n x f) → HoldsRow (loop a ls e b n x f) env s v
-        → row_of b n x f env (i, v) s ≡ act f (with_row b n x own (plain (whole_number i)) (plain v) env) s }
+        → row_of b n x f env (i, v) s ≡ act f (with_row b n x own (plain (whole_number i)) (plain v)
+        env) s }
 {}
 
 /// The rows of a loop may be cut anywhere: the action of the rows from a number to another joins the
@@ -37,14 +42,17 @@ pub fn in_place_is_the_meaning()
 /// all rows have been joined, the builder is what the loop makes. A fault of one such action is a
 /// fault of the loop.
 pub fn tiles_join_in_order()
-    ensures start { (ev : Evaluation) (count : ℕ) → HoldsEvaluation ev count → IsSoFar ev 0 ev.start }
+    ensures start { (ev : Evaluation) (count : ℕ) → HoldsEvaluation ev count
+        → IsSoFar ev 0 ev.start }
     ensures join { (ev : Evaluation) (count from to : ℕ) (j d : Thing) → HoldsEvaluation ev count
         → IsSoFar ev from j → IsAction ev from to d → Join j d }
-    ensures next { (ev : Evaluation) (count from to : ℕ) (j d : Thing) → HoldsEvaluation ev count → from ≤ to
+    ensures next { (ev : Evaluation) (count from to : ℕ) (j d : Thing) → HoldsEvaluation ev count
+        → from ≤ to
         → to ≤ count → IsSoFar ev from j → IsAction ev from to d → IsSoFar ev to (after_thing j d) }
     ensures whole { (ev : Evaluation) (j : Thing) (rows : List Value) → rows_of ev.lists ≡ done rows
         → IsSoFar ev (length rows) j → loop_over ev.node ev.names ev.lists ev.start ≡ done j }
-    ensures fault { (ev : Evaluation) (from to : ℕ) (rows : List Value) → HoldsEvaluation ev (length rows)
+    ensures fault { (ev : Evaluation) (from to : ℕ) (rows : List Value)
+        → HoldsEvaluation ev (length rows)
         → rows_of ev.lists ≡ done rows → from ≤ to → to ≤ length rows
         → range_over ev.node ev.names ev.lists from to (bare_thing ev.start) ≡ fault
         → loop_over ev.node ev.names ev.lists ev.start ≡ fault }

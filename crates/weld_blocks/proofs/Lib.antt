@@ -1,17 +1,17 @@
-pub mod BodyLemmas
-pub mod ColumnLemmas
-pub mod Doing
-pub mod Gathering
-pub mod LeafLemmas
+mod BodyLemmas
+mod ColumnLemmas
+mod Doing
+mod Gathering
+mod LeafLemmas
 pub mod Merges
-pub mod OuterLemmas
-pub mod PairLemmas
-pub mod PutLemmas
-pub mod Scalars
-pub mod StructLemmas
-pub mod Words
-pub mod WorkLemmas
-pub mod DeedForms
-pub mod FieldLemmas
-pub mod ManyPuts
-pub mod ThroughLemmas
+mod OuterLemmas
+mod PairLemmas
+mod PutLemmas
+mod Scalars
+mod StructLemmas
+mod Words
+mod WorkLemmas
+mod DeedForms
+mod FieldLemmas
+mod ManyPuts
+mod ThroughLemmas

@@ -321,7 +321,8 @@ pub(crate) fn arithmetic(
     alloc: Global,
 ) -> Option<Numbers>
     requires { left.now.kind ≡ right.now.kind }
-    ensures { MayGive (λ place v. operated_value op (number_at left.now place) (number_at right.now place) ≡ done v) result count }
+    ensures { MayGive (λ place v. operated_value op (number_at left.now place)
+        (number_at right.now place) ≡ done v) result count }
 {
     match left.kind {
         Kind::Bool => None,
@@ -347,7 +348,8 @@ fn arithmetic_of<K: OfKind + Drop>(
 ) -> Option<Numbers>
     requires same { left.now.kind ≡ right.now.kind }
     requires kind { left.now.kind ≡ K.named of }
-    ensures { MayGive (λ place v. operated_value op (number_at left.now place) (number_at right.now place) ≡ done v) result count }
+    ensures { MayGive (λ place v. operated_value op (number_at left.now place)
+        (number_at right.now place) ≡ done v) result count }
 {
     let kind = of.kind();
     match op {
@@ -369,7 +371,8 @@ fn divided<K: OfKind + Drop>(
 ) -> Option<Numbers>
     requires same { left.now.kind ≡ right.now.kind }
     requires kind { left.now.kind ≡ K.named of }
-    ensures { MayGive (λ place v. operated_value op (number_at left.now place) (number_at right.now place) ≡ done v) result count }
+    ensures { MayGive (λ place v. operated_value op (number_at left.now place)
+        (number_at right.now place) ≡ done v) result count }
 {
     if has_zero(&right.items) {
         return None;
@@ -400,7 +403,8 @@ pub(crate) fn compared(
 ) -> Option<Numbers>
     requires same { left.now.kind ≡ right.now.kind }
     requires takes { TakesKind op left.now.kind }
-    ensures { MayGive (λ place v. operated_value op (number_at left.now place) (number_at right.now place) ≡ done v) result count }
+    ensures { MayGive (λ place v. operated_value op (number_at left.now place)
+        (number_at right.now place) ≡ done v) result count }
 {
     let kind = left.kind;
     let truths = Kind::Bool;

@@ -34,7 +34,8 @@ pub fn block_of(
     count: usize,
     alloc: Global,
 ) -> Option<Deed>
-    ensures { MayBeBlock e.now (env_of frame.now) (thing_of own.now) (lists_of legs.now) from result count }
+    ensures { MayBeBlock e.now (env_of frame.now) (thing_of own.now) (lists_of legs.now) from result
+        count }
 {
     match &e.form {
         Form::For(_, _, own_binder, count_binder, row_binder, body) => {
@@ -170,7 +171,8 @@ fn choose_pairs(
     count: usize,
     alloc: Global,
 ) -> Option<Deed>
-    ensures { MayBePair (λ place v. IsChosen (number_at condition.now place) (item_at then.now place) (item_at otherwise.now place) v) result count }
+    ensures { MayBePair (λ place v. IsChosen (number_at condition.now place)
+        (item_at then.now place) (item_at otherwise.now place) v) result count }
 {
     match then {
         Deed::Pair(first, second) => match otherwise {

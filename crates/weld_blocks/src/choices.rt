@@ -21,7 +21,8 @@ pub(crate) fn choose(
 ) -> Option<Numbers>
     requires truths { condition.now.kind ≡ kind_names.Bool }
     requires same { then.now.kind ≡ otherwise.now.kind }
-    ensures { MayGive (λ place v. IsChosen (number_at condition.now place) (number_at then.now place) (number_at otherwise.now place) v) result count }
+    ensures { MayGive (λ place v. IsChosen (number_at condition.now place)
+        (number_at then.now place) (number_at otherwise.now place) v) result count }
 {
     if condition.len() < count || then.len() < count || otherwise.len() < count {
         return None;

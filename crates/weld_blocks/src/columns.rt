@@ -54,7 +54,8 @@ pub fn numbers(e: &Expr, scope: &Scope, count: usize, alloc: Global) -> Option<N
 /// The numbers of a literal or a name.
 #[tactic(auto, using(crate::proofs::ColumnLemmas::constant_gives, crate::proofs::ColumnLemmas::name_gives))]
 fn of_leaf(form: &LeafForm, scope: &Scope, count: usize, alloc: Global) -> Option<Numbers>
-    ensures { MayGive (λ place v. leaf_thing (view_leaf form.now) (scope_env scope.now place) ≡ done (plain v)) result count }
+    ensures { MayGive (λ place v. leaf_thing (view_leaf form.now) (scope_env scope.now place)
+        ≡ done (plain v)) result count }
 {
     match form {
         LeafForm::Int(kind, value) => match literal(*kind, *value) {
@@ -165,7 +166,8 @@ fn of_look_up(e: &Expr, scope: &Scope, count: usize, alloc: Global) -> Option<Nu
 
 /// The elements of a column at places that are numbers.
 fn looked_up(column: &Column, places: &Numbers, count: usize, alloc: Global) -> Option<Numbers>
-    ensures { MayGive (λ place v. looked_up_value (list (values (view_column column.now))) (number_at places.now place) ≡ done v) result count }
+    ensures { MayGive (λ place v. looked_up_value (list (values (view_column column.now)))
+        (number_at places.now place) ≡ done v) result count }
 {
     let of = Looked { column, places };
     gather(alloc, count, &of)
@@ -173,7 +175,8 @@ fn looked_up(column: &Column, places: &Numbers, count: usize, alloc: Global) -> 
 
 /// What a form of one part makes of numbers.
 fn altered(form: &OneForm, part: &Numbers, count: usize, alloc: Global) -> Option<Numbers>
-    ensures { MayGive (λ place v. one_thing (view_one form.now) (plain (number_at part.now place)) ≡ done (plain v)) result count }
+    ensures { MayGive (λ place v. one_thing (view_one form.now) (plain (number_at part.now place))
+        ≡ done (plain v)) result count }
 {
     let of = Altered { form, part };
     gather(alloc, count, &of)
@@ -209,7 +212,8 @@ fn operated(
     count: usize,
     alloc: Global,
 ) -> Option<Numbers>
-    ensures { MayGive (λ place v. operated_value op (number_at left.now place) (number_at right.now place) ≡ done v) result count }
+    ensures { MayGive (λ place v. operated_value op (number_at left.now place)
+        (number_at right.now place) ≡ done v) result count }
 {
     if !is_same(left.kind, right.kind) || !takes(op, left.kind) {
         return None;
@@ -247,7 +251,8 @@ fn of_and(e: &Expr, scope: &Scope, count: usize, alloc: Global) -> Option<Number
 /// The second truth value where the first one is true, else false.
 #[tactic(auto, using(crate::proofs::ColumnLemmas::both_given))]
 fn both(condition: &Numbers, then: &Numbers, count: usize, alloc: Global) -> Option<Numbers>
-    ensures { MayGive (λ place v. IsChosen (number_at condition.now place) (number_at then.now place) (truth_value false) v) result count }
+    ensures { MayGive (λ place v. IsChosen (number_at condition.now place)
+        (number_at then.now place) (truth_value false) v) result count }
 {
     match constant(Short::of_truth(false), count, alloc) {
         Some(otherwise) => chosen(condition, then, &otherwise, count, alloc),
@@ -280,7 +285,8 @@ fn of_or(e: &Expr, scope: &Scope, count: usize, alloc: Global) -> Option<Numbers
 /// True where the first truth value is, else the second one.
 #[tactic(auto, using(crate::proofs::ColumnLemmas::either_given))]
 fn either(condition: &Numbers, otherwise: &Numbers, count: usize, alloc: Global) -> Option<Numbers>
-    ensures { MayGive (λ place v. IsChosen (number_at condition.now place) (truth_value true) (number_at otherwise.now place) v) result count }
+    ensures { MayGive (λ place v. IsChosen (number_at condition.now place) (truth_value true)
+        (number_at otherwise.now place) v) result count }
 {
     match constant(Short::of_truth(true), count, alloc) {
         Some(then) => chosen(condition, &then, otherwise, count, alloc),
@@ -323,7 +329,8 @@ pub(crate) fn chosen(
     count: usize,
     alloc: Global,
 ) -> Option<Numbers>
-    ensures { MayGive (λ place v. IsChosen (number_at condition.now place) (number_at then.now place) (number_at otherwise.now place) v) result count }
+    ensures { MayGive (λ place v. IsChosen (number_at condition.now place)
+        (number_at then.now place) (number_at otherwise.now place) v) result count }
 {
     if condition.kind != Kind::Bool || !is_same(then.kind, otherwise.kind) {
         return None;
@@ -376,7 +383,8 @@ pub(crate) fn fields_of(
     alloc: Global,
 ) -> Option<Vec<Numbers>>
     requires { IsStructTree e.now }
-    ensures { IfSome result (λ cs. AreStructs (λ place v. eval_of e.now (scope_env scope.now place) ≡ done (plain v)) cs.items count) }
+    ensures { IfSome result (λ cs. AreStructs (λ place v. eval_of e.now (scope_env scope.now place)
+        ≡ done (plain v)) cs.items count) }
 {
     match &e.form {
         Form::Many(_, parts) => {

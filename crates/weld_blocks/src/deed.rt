@@ -63,7 +63,8 @@ pub fn do_deed(deed: &Deed, place: usize, builder: &mut Owned) -> Result<(), Sto
 #[cycle(doing)]
 fn do_deeds(deeds: &Deeds, place: usize, fields: &mut Fields) -> Result<(), Stop>
     requires { DeedsFit deeds.now place (things_of fields.old) }
-    ensures { DoesAll result (do_all deeds.now place (things_of fields.old)) (things_of fields.new) }
+    ensures { DoesAll result (do_all deeds.now place (things_of fields.old))
+        (things_of fields.new) }
 {
     match deeds {
         Deeds::End => Ok(()),

@@ -151,7 +151,8 @@ pub(crate) fn items_of<T: Item>(
     count: usize,
     alloc: Global,
 ) -> Option<Numbers>
-    ensures { MayGive (λ place v. slice_get (map T.value items.now) (from + place) ≡ Some v) result count }
+    ensures { MayGive (λ place v. slice_get (map T.value items.now) (from + place) ≡ Some v) result
+        count }
 {
     if from > items.len() || count > items.len() - from {
         return None;

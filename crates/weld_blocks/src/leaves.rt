@@ -64,7 +64,8 @@ pub(crate) fn elements_of(
     count: usize,
     alloc: Global,
 ) -> Option<Numbers>
-    ensures { MayGive (λ place v. slice_get (view_column column.now) (from + place) ≡ Some v) result count }
+    ensures { MayGive (λ place v. slice_get (view_column column.now) (from + place) ≡ Some v) result
+        count }
 {
     match column {
         Column::Bool(items) => items_of(items.as_slice(), from, count, alloc),
@@ -120,7 +121,8 @@ fn column_at<'a>(legs: &'a Legs<'a>, place: u32) -> Option<&'a Column>
 /// The numbers that a name stands for on so many rows, where it stands for a number on each.
 #[tactic(auto, using(crate::proofs::LeafLemmas::name_here, crate::proofs::LeafLemmas::name_below, crate::proofs::LeafLemmas::name_of_rows))]
 pub(crate) fn named(scope: &Scope, name: Sym, count: usize, alloc: Global) -> Option<Numbers>
-    ensures { MayGive (λ place v. look_for name.0 (scope_env scope.now place) ≡ Some (plain v)) result count }
+    ensures { MayGive (λ place v. look_for name.0 (scope_env scope.now place) ≡ Some (plain v))
+        result count }
 {
     match scope {
         Scope::Let(newest, bound, rest) => {
@@ -148,7 +150,8 @@ fn numbers_bound(bound: &Bound, count: usize, alloc: Global) -> Option<Numbers>
 /// The numbers of a field of the structs that are bound.
 #[tactic(auto, using(crate::proofs::LeafLemmas::field_bound))]
 fn field_of_bound(field: u32, bound: &Bound, count: usize, alloc: Global) -> Option<Numbers>
-    ensures { MayGive (λ place v. value_field field (bound_at bound.now place) ≡ done v) result count }
+    ensures { MayGive (λ place v. value_field field (bound_at bound.now place) ≡ done v) result
+        count }
 {
     match bound {
         Bound::Number(_) => None,
@@ -178,7 +181,8 @@ pub(crate) fn first_of(numbers: &Numbers, count: usize, alloc: Global) -> Option
 /// The numbers that a name of rows stands for.
 #[tactic(auto, using(crate::proofs::LeafLemmas::row_here, crate::proofs::LeafLemmas::count_here, crate::proofs::LeafLemmas::outside_here))]
 fn named_by_rows(rows: &Rows, name: Sym, count: usize, alloc: Global) -> Option<Numbers>
-    ensures { MayGive (λ place v. look_for name.0 (row_env rows.now place) ≡ Some (plain v)) result count }
+    ensures { MayGive (λ place v. look_for name.0 (row_env rows.now place) ≡ Some (plain v)) result
+        count }
 {
     if rows.row_name.0 == name.0 {
         single_rows(rows.legs, rows.from, count, alloc)
@@ -213,7 +217,8 @@ fn counts(from: usize, count: usize, alloc: Global) -> Option<Numbers>
 /// The number of a name outside, at each place.
 #[tactic(auto, using(crate::proofs::LeafLemmas::outside_given))]
 fn outside(frame: &Frame, name: Sym, count: usize, alloc: Global) -> Option<Numbers>
-    ensures { MayGive (λ place v. look_for name.0 (env_of frame.now) ≡ Some (plain v)) result count }
+    ensures { MayGive (λ place v. look_for name.0 (env_of frame.now) ≡ Some (plain v)) result
+        count }
 {
     match number_named(frame, name) {
         Some(number) => constant(number, count, alloc),
@@ -242,7 +247,8 @@ fn constant_of(kind: Kind, x: i64, count: usize, alloc: Global) -> Option<Number
 /// The number that a name stands for, where it stands for one. It takes no memory.
 #[tactic(auto, using(weld_eval::proofs::Below::found_among, weld_eval::proofs::Below::found_below))]
 fn number_named(frame: &Frame, name: Sym) -> Option<Short>
-    ensures { IfSome result (λ n. look_for name.0 (env_of frame.now) ≡ Some (plain (view_short n))) }
+    ensures { IfSome result (λ n. look_for name.0 (env_of frame.now)
+        ≡ Some (plain (view_short n))) }
 {
     match frame {
         Frame::Arguments(params, values) => match argument(params, values, name) {
@@ -303,7 +309,8 @@ fn number_in(x: &Owned) -> Option<Short>
 /// The argument of a parameter, where there is one. It takes no memory.
 #[tactic(auto, using(weld_eval::proofs::Arguments::found_there, weld_eval::proofs::Arguments::not_there, weld_eval::proofs::Arguments::ended))]
 pub(crate) fn argument<'a>(params: &'a Binders, values: &'a Vals, name: Sym) -> Option<&'a Val>
-    ensures { IfSome result (λ v. look_for name.0 (with_arguments params.now values.now) ≡ Some (plain (view_val v.now))) }
+    ensures { IfSome result (λ v. look_for name.0 (with_arguments params.now values.now)
+        ≡ Some (plain (view_val v.now))) }
 {
     let binders = params.as_slice();
     for i in 0..binders.len().min(values.len()) {
@@ -323,7 +330,8 @@ pub(crate) fn field_named(
     count: usize,
     alloc: Global,
 ) -> Option<Numbers>
-    ensures { MayGive (λ place v. and_then (found (look_for name.0 (scope_env scope.now place))) (field_of_thing field) ≡ done (plain v)) result count }
+    ensures { MayGive (λ place v. and_then (found (look_for name.0 (scope_env scope.now place)))
+        (field_of_thing field) ≡ done (plain v)) result count }
 {
     match scope {
         Scope::Let(newest, bound, rest) => {
@@ -352,7 +360,8 @@ fn field_of_row(
     count: usize,
     alloc: Global,
 ) -> Option<Numbers>
-    ensures { MayGive (λ place v. value_field field (row_in (lists_of legs.now) (from + place)) ≡ done v) result count }
+    ensures { MayGive (λ place v. value_field field (row_in (lists_of legs.now) (from + place))
+        ≡ done v) result count }
 {
     match legs {
         Legs::And(_, rest) => match rest {

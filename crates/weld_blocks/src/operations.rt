@@ -84,7 +84,8 @@ impl<'a> Gives for Altered<'a> {
 /// What a form of one part makes of a number, where it is `-`, `!` or a cast and the number is one that it takes.
 #[inline(always)]
 fn alteration_of(form: &OneForm, x: Short) -> Option<Short>
-    ensures { IfSome result (λ n. one_thing (view_one form.now) (plain (view_short x)) ≡ done (plain (view_short n))) }
+    ensures { IfSome result (λ n. one_thing (view_one form.now) (plain (view_short x))
+        ≡ done (plain (view_short n))) }
 {
     match form {
         OneForm::Neg if is_integer(x.kind) => Some(negated(x)),

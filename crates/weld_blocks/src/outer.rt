@@ -104,7 +104,8 @@ fn outside_rows<'a>(rows: &'a Rows<'a>, name: Sym) -> Option<&'a Val>
 /// The value that a name stands for, where it stands for one that is kept. It takes no memory.
 #[tactic(auto, using(weld_eval::proofs::Below::found_among, weld_eval::proofs::Below::found_below))]
 fn value_named<'a>(frame: &'a Frame<'a>, name: Sym) -> Option<&'a Val>
-    ensures { IfSome result (λ v. look_for name.0 (env_of frame.now) ≡ Some (plain (view_val v.now))) }
+    ensures { IfSome result (λ v. look_for name.0 (env_of frame.now)
+        ≡ Some (plain (view_val v.now))) }
 {
     match frame {
         Frame::Arguments(params, values) => match argument(params, values, name) {
@@ -186,7 +187,8 @@ impl<'a> Gives for Looked<'a> {
 #[tactic(auto, using(crate::proofs::OuterLemmas::element_looked_up))]
 #[inline(always)]
 fn element_at(column: &Column, n: Short) -> Option<Short>
-    ensures { IfSome result (λ m. looked_up_value (list (values (view_column column.now))) (view_short n) ≡ done (view_short m)) }
+    ensures { IfSome result (λ m. looked_up_value (list (values (view_column column.now)))
+        (view_short n) ≡ done (view_short m)) }
 {
     if n.kind != Kind::I64 || n.word < 0 {
         return None;

@@ -20,7 +20,8 @@ use weld_tree::Sym;
 /// The columns of two legs.
 #[tactic(auto, using(crate::proofs::LeafLemmas::two_legs))]
 fn two_columns<'a>(legs: &'a Legs<'a>) -> Option<(&'a Column, &'a Column)>
-    ensures { IfSome result (λ p. lists_of legs.now ≡ view_column p.0.now ∷ view_column p.1.now ∷ []) }
+    ensures { IfSome result (λ p. lists_of legs.now ≡ view_column p.0.now ∷ view_column p.1.now
+        ∷ []) }
 {
     match legs {
         Legs::And(column, rest) => match only_column(rest) {
@@ -34,7 +35,8 @@ fn two_columns<'a>(legs: &'a Legs<'a>) -> Option<(&'a Column, &'a Column)>
 /// The two numbers of which a name is a struct on so many rows, where it is the row of two legs or was bound to such a struct.
 #[tactic(auto, using(crate::proofs::PairLemmas::pair_here, crate::proofs::PairLemmas::pair_below, crate::proofs::PairLemmas::pair_of_rows))]
 pub(crate) fn pair_named(scope: &Scope, name: Sym, count: usize, alloc: Global) -> Option<Deed>
-    ensures { MayBePair (λ place v. look_for name.0 (scope_env scope.now place) ≡ Some (plain v)) result count }
+    ensures { MayBePair (λ place v. look_for name.0 (scope_env scope.now place) ≡ Some (plain v))
+        result count }
 {
     match scope {
         Scope::Let(newest, bound, rest) => {

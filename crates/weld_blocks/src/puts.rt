@@ -30,7 +30,8 @@ use weld_eval::thing::{Held, Owned, into_value};
 #[inline(always)]
 pub fn put_number(builder: &mut Owned, x: Short) -> Result<(), Stop>
     requires { IsPut (thing_of builder.old) (view_short x) }
-    ensures { Acts result (merged (thing_of builder.old) (done (plain (view_short x)))) (thing_of builder.new) }
+    ensures { Acts result (merged (thing_of builder.old) (done (plain (view_short x))))
+        (thing_of builder.new) }
 {
     if x.is_word() {
         put_word(builder, x.kind, x.word)
@@ -45,7 +46,8 @@ pub fn put_number(builder: &mut Owned, x: Short) -> Result<(), Stop>
 fn put_word(builder: &mut Owned, kind: Kind, x: i64) -> Result<(), Stop>
     requires in_range { InRange kind x }
     requires put { IsPut (thing_of builder.old) (number kind x) }
-    ensures { Acts result (merged (thing_of builder.old) (done (plain (number kind x)))) (thing_of builder.new) }
+    ensures { Acts result (merged (thing_of builder.old) (done (plain (number kind x))))
+        (thing_of builder.new) }
 {
     match builder {
         Owned::Built(built) => built.merge_number(kind, x),
@@ -57,8 +59,10 @@ fn put_word(builder: &mut Owned, kind: Kind, x: i64) -> Result<(), Stop>
 #[tactic(auto, using(crate::proofs::ManyPuts::put_none, crate::proofs::ManyPuts::numbers_there, crate::proofs::ManyPuts::numbers_taken))]
 pub fn put_numbers(numbers: &Numbers, count: usize, builder: &mut Owned) -> Result<(), Stop>
     requires narrow { IsNarrow numbers.now.kind }
-    requires fits { FitsThrough (number_done numbers.now) (NumberFits numbers.now) 0 count (thing_of builder.old) }
-    ensures { Acts result (done_through (number_done numbers.now) 0 count (thing_of builder.old)) (thing_of builder.new) }
+    requires fits { FitsThrough (number_done numbers.now) (NumberFits numbers.now) 0 count
+        (thing_of builder.old) }
+    ensures { Acts result (done_through (number_done numbers.now) 0 count (thing_of builder.old))
+        (thing_of builder.new) }
 {
     if count == 0 {
         return Ok(());
@@ -74,7 +78,8 @@ pub fn put_numbers(numbers: &Numbers, count: usize, builder: &mut Owned) -> Resu
 #[inline(always)]
 pub fn put_two(builder: &mut Owned, key: Short, x: Short, alloc: Global) -> Result<(), Stop>
     requires { IsPut (thing_of builder.old) (pair (view_short key) (view_short x)) }
-    ensures { Acts result (merged (thing_of builder.old) (done (plain (pair (view_short key) (view_short x))))) (thing_of builder.new) }
+    ensures { Acts result (merged (thing_of builder.old)
+        (done (plain (pair (view_short key) (view_short x))))) (thing_of builder.new) }
 {
     if key.is_word() && x.is_word() {
         put_pair(builder, key, x)
@@ -104,7 +109,8 @@ pub fn put_pair(builder: &mut Owned, key: Short, x: Short) -> Result<(), Stop>
     requires key { IsWord key }
     requires number { IsWord x }
     requires put { IsPut (thing_of builder.old) (pair (view_short key) (view_short x)) }
-    ensures { Acts result (merged (thing_of builder.old) (done (plain (pair (view_short key) (view_short x))))) (thing_of builder.new) }
+    ensures { Acts result (merged (thing_of builder.old)
+        (done (plain (pair (view_short key) (view_short x))))) (thing_of builder.new) }
 {
     put_words(builder, key.kind, key.word, x.kind, x.word)
 }
@@ -116,7 +122,8 @@ fn put_words(builder: &mut Owned, key_kind: Kind, key: i64, kind: Kind, x: i64) 
     requires key { InRange key_kind key }
     requires number { InRange kind x }
     requires put { IsPut (thing_of builder.old) (pair (number key_kind key) (number kind x)) }
-    ensures { Acts result (merged (thing_of builder.old) (done (plain (pair (number key_kind key) (number kind x))))) (thing_of builder.new) }
+    ensures { Acts result (merged (thing_of builder.old)
+        (done (plain (pair (number key_kind key) (number kind x))))) (thing_of builder.new) }
 {
     match builder {
         Owned::Built(built) => built.merge_pair(key_kind, key, kind, x),
@@ -129,7 +136,8 @@ fn put_words(builder: &mut Owned, key_kind: Kind, key: i64, kind: Kind, x: i64) 
 pub fn put_struct(columns: &Vec<Numbers>, place: usize, builder: &mut Owned) -> Result<(), Stop>
     requires long { AreLonger columns.now.items place }
     requires put { IsPut (thing_of builder.old) (struct_at columns.now.items place) }
-    ensures { Acts result (merged (thing_of builder.old) (done (plain (struct_at columns.now.items place)))) (thing_of builder.new) }
+    ensures { Acts result (merged (thing_of builder.old)
+        (done (plain (struct_at columns.now.items place)))) (thing_of builder.new) }
 {
     match struct_of_row(columns, place) {
         Ok(item) => put_value(builder, item),
@@ -162,7 +170,8 @@ fn value_at(column: &Numbers, place: usize) -> Val
 #[tactic(auto, using(crate::proofs::PutLemmas::put_acts))]
 pub fn put_value(builder: &mut Owned, item: Val) -> Result<(), Stop>
     requires { IsPut (thing_of builder.old) (view_val item) }
-    ensures { Acts result (merged (thing_of builder.old) (done (plain (view_val item)))) (thing_of builder.new) }
+    ensures { Acts result (merged (thing_of builder.old) (done (plain (view_val item))))
+        (thing_of builder.new) }
 {
     match builder {
         Owned::Built(built) => built.merge(item),
@@ -174,7 +183,8 @@ pub fn put_value(builder: &mut Owned, item: Val) -> Result<(), Stop>
 pub fn put_held(builder: &mut Owned, item: Held, alloc: Global) -> Result<(), Stop>
     requires plain { IsPlain (held_of item) }
     requires put { PutsThing (thing_of builder.old) (held_of item) }
-    ensures { Acts result (merged (thing_of builder.old) (done (held_of item.entry))) (thing_of builder.new) }
+    ensures { Acts result (merged (thing_of builder.old) (done (held_of item.entry)))
+        (thing_of builder.new) }
 {
     match into_value(item, alloc) {
         Ok(item) => put_value(builder, item),

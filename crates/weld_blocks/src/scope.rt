@@ -46,7 +46,8 @@ pub(crate) fn of_rows<'a>(rows: &'a Rows<'a>) -> Scope<'a>
 
 /// The names with one more. It takes no memory.
 pub(crate) fn with_bound<'a>(name: Sym, bound: &'a Bound, rest: &'a Scope<'a>) -> Scope<'a>
-    ensures { (place : ℕ) → scope_env result place ≡ (name.0, plain (bound_at bound.now place)) ∷ scope_env rest.now place }
+    ensures { (place : ℕ) → scope_env result place ≡ (name.0, plain (bound_at bound.now place))
+        ∷ scope_env rest.now place }
 {
     Scope::Let(name, bound, rest)
 }

@@ -22,7 +22,8 @@ pub(crate) fn columns_of(
     count: usize,
     alloc: Global,
 ) -> Option<Vec<Numbers>>
-    ensures { IfSome result (λ cs. AreStructs (λ place v. eval_of item.now (scope_env scope.now place) ≡ done (plain v)) cs.items count) }
+    ensures { IfSome result (λ cs. AreStructs (λ place v. eval_of item.now
+        (scope_env scope.now place) ≡ done (plain v)) cs.items count) }
 {
     match &item.form {
         Form::Many(ManyForm::Struct, _) => fields_of(item, scope, count, alloc),
@@ -38,7 +39,8 @@ pub(crate) fn columns_of(
 #[cycle(structs)]
 fn chosen_columns(item: &Expr, scope: &Scope, count: usize, alloc: Global) -> Option<Vec<Numbers>>
     requires { Chooses item.now }
-    ensures { IfSome result (λ cs. AreStructs (λ place v. eval_of item.now (scope_env scope.now place) ≡ done (plain v)) cs.items count) }
+    ensures { IfSome result (λ cs. AreStructs (λ place v. eval_of item.now
+        (scope_env scope.now place) ≡ done (plain v)) cs.items count) }
 {
     match &item.form {
         Form::Three(_, condition, then, otherwise) => {
@@ -68,7 +70,8 @@ fn choose_columns(
     count: usize,
     alloc: Global,
 ) -> Option<Vec<Numbers>>
-    ensures { IfSome result (λ cs. AreStructs (λ place v. IsChosen (number_at condition.now place) (struct_at then.now.items place) (struct_at otherwise.now.items place) v) cs.items count) }
+    ensures { IfSome result (λ cs. AreStructs (λ place v. IsChosen (number_at condition.now place)
+        (struct_at then.now.items place) (struct_at otherwise.now.items place) v) cs.items count) }
 {
     if then.len() != otherwise.len() || then.is_empty() {
         return None;

@@ -20,7 +20,8 @@ use weld_eval::thing::{Fields, Owned};
 #[tactic(auto, using(crate::proofs::DeedForms::pair_as, crate::proofs::DeedForms::any_as, crate::proofs::ThroughLemmas::nothing_through))]
 pub fn do_through(deed: &Deed, count: usize, builder: &mut Owned) -> Result<(), Stop>
     requires { FitsThrough (do_of deed.now) (DeedFits deed.now) 0 count (thing_of builder.old) }
-    ensures { Acts result (done_through (do_of deed.now) 0 count (thing_of builder.old)) (thing_of builder.new) }
+    ensures { Acts result (done_through (do_of deed.now) 0 count (thing_of builder.old))
+        (thing_of builder.new) }
 {
     match deed {
         Deed::Nothing => Ok(()),
@@ -40,9 +41,11 @@ pub fn do_through(deed: &Deed, count: usize, builder: &mut Owned) -> Result<(), 
 /// The same of a number on each row: all at once where their kind allows it.
 #[tactic(auto, using(crate::proofs::DeedForms::number_as, crate::proofs::DeedForms::number_fits, crate::proofs::DeedForms::number_acts))]
 fn do_number(deed: &Deed, numbers: &Numbers, count: usize, builder: &mut Owned) -> Result<(), Stop>
-    requires fits { FitsThrough (do_of deed.now) (DeedFits deed.now) 0 count (thing_of builder.old) }
+    requires fits { FitsThrough (do_of deed.now) (DeedFits deed.now) 0 count
+        (thing_of builder.old) }
     requires number { deed.now ≡ OfNumber numbers.now }
-    ensures { Acts result (done_through (do_of deed.now) 0 count (thing_of builder.old)) (thing_of builder.new) }
+    ensures { Acts result (done_through (do_of deed.now) 0 count (thing_of builder.old))
+        (thing_of builder.new) }
 {
     if numbers.kind.is_narrow() {
         put_numbers(numbers, count, builder)
@@ -55,9 +58,11 @@ fn do_number(deed: &Deed, numbers: &Numbers, count: usize, builder: &mut Owned) 
 /// The same of a struct of builders: field by field, where nothing that is done can fault.
 #[tactic(auto, using(crate::proofs::DeedForms::any_as))]
 fn do_struct(deed: &Deed, deeds: &Deeds, count: usize, builder: &mut Owned) -> Result<(), Stop>
-    requires fits { FitsThrough (do_of deed.now) (DeedFits deed.now) 0 count (thing_of builder.old) }
+    requires fits { FitsThrough (do_of deed.now) (DeedFits deed.now) 0 count
+        (thing_of builder.old) }
     requires fields { deed.now ≡ OfFields deeds.now }
-    ensures { Acts result (done_through (do_of deed.now) 0 count (thing_of builder.old)) (thing_of builder.new) }
+    ensures { Acts result (done_through (do_of deed.now) 0 count (thing_of builder.old))
+        (thing_of builder.new) }
 {
     if count == 0 {
         return Ok(());
@@ -77,8 +82,10 @@ fn do_struct(deed: &Deed, deeds: &Deeds, count: usize, builder: &mut Owned) -> R
 fn do_fields(deeds: &Deeds, count: usize, fields: &mut Fields) -> Result<(), Stop>
     requires some { 0 < count }
     requires calm { AreCalm deeds.now }
-    requires fits { FitsThrough (do_all deeds.now) (DeedsFit deeds.now) 0 count (things_of fields.old) }
-    ensures { DoesAll result (done_through (do_all deeds.now) 0 count (things_of fields.old)) (things_of fields.new) }
+    requires fits { FitsThrough (do_all deeds.now) (DeedsFit deeds.now) 0 count
+        (things_of fields.old) }
+    ensures { DoesAll result (done_through (do_all deeds.now) 0 count (things_of fields.old))
+        (things_of fields.new) }
 {
     match deeds {
         Deeds::End => Ok(()),
@@ -98,8 +105,10 @@ fn do_fields(deeds: &Deeds, count: usize, fields: &mut Fields) -> Result<(), Sto
 fn do_calm(deed: &Deed, count: usize, builder: &mut Owned) -> Result<(), Stop>
     requires some { 0 < count }
     requires calm { IsCalm deed.now }
-    requires fits { FitsThrough (do_of deed.now) (DeedFits deed.now) 0 count (thing_of builder.old) }
-    ensures { Acts result (done_through (do_of deed.now) 0 count (thing_of builder.old)) (thing_of builder.new) }
+    requires fits { FitsThrough (do_of deed.now) (DeedFits deed.now) 0 count
+        (thing_of builder.old) }
+    ensures { Acts result (done_through (do_of deed.now) 0 count (thing_of builder.old))
+        (thing_of builder.new) }
 {
     match deed {
         Deed::Nothing => Ok(()),
@@ -146,9 +155,11 @@ fn do_choice(
     count: usize,
     builder: &mut Owned,
 ) -> Result<(), Stop>
-    requires fits { FitsThrough (do_of deed.now) (DeedFits deed.now) 0 count (thing_of builder.old) }
+    requires fits { FitsThrough (do_of deed.now) (DeedFits deed.now) 0 count
+        (thing_of builder.old) }
     requires choice { IsChoice deed.now truths.now then.now otherwise.now }
-    ensures { Acts result (done_through (do_of deed.now) 0 count (thing_of builder.old)) (thing_of builder.new) }
+    ensures { Acts result (done_through (do_of deed.now) 0 count (thing_of builder.old))
+        (thing_of builder.new) }
 {
     match then {
         Deed::Number(numbers) if is_nothing(otherwise) => {
@@ -172,9 +183,11 @@ fn is_nothing(deed: &Deed) -> bool
 /// The same, row by row.
 #[tactic(auto, using(crate::proofs::ThroughLemmas::come_start, crate::proofs::ThroughLemmas::come_end))]
 fn do_each<D: Does>(deed: &Deed, each: &D, count: usize, builder: &mut Owned) -> Result<(), Stop>
-    requires fits { FitsThrough (do_of deed.now) (DeedFits deed.now) 0 count (thing_of builder.old) }
+    requires fits { FitsThrough (do_of deed.now) (DeedFits deed.now) 0 count
+        (thing_of builder.old) }
     requires each { DoesAs (D.does each.now) (D.fits each.now) deed.now }
-    ensures { Acts result (done_through (do_of deed.now) 0 count (thing_of builder.old)) (thing_of builder.new) }
+    ensures { Acts result (done_through (do_of deed.now) 0 count (thing_of builder.old))
+        (thing_of builder.new) }
 {
     let _deed = deed;
     for place in 0..count {

@@ -30,8 +30,11 @@ pub(crate) trait Works {
         requires left { InRange (kind self.now) (of_word (kind self.now) x) }
         requires right { InRange (kind self.now) (of_word (kind self.now) y) }
         requires divides { Divides (op self.now) → y ≢ pos 0 }
-        ensures value { Some (of_word (answer_kind (op self.now) (kind self.now)) result) ≡ operation (op self.now) (kind self.now) (of_word (kind self.now) x) (of_word (kind self.now) y) }
-        ensures in_range { InRange (answer_kind (op self.now) (kind self.now)) (of_word (answer_kind (op self.now) (kind self.now)) result) };
+        ensures value { Some (of_word (answer_kind (op self.now) (kind self.now)) result)
+            ≡ operation (op self.now) (kind self.now) (of_word (kind self.now) x)
+            (of_word (kind self.now) y) }
+        ensures in_range { InRange (answer_kind (op self.now) (kind self.now))
+            (of_word (answer_kind (op self.now) (kind self.now)) result) };
 }
 
 /// What the operator makes of the numbers at each place, where there are so many of both and there
@@ -50,7 +53,8 @@ pub(crate) fn worked<W: Works>(
     requires takes { TakesKind (W.op work.now) (W.kind work.now) }
     requires answer { kind ≡ answer_kind (W.op work.now) (W.kind work.now) }
     requires divides { Divides (W.op work.now) → Contains right.now.items.items (pos 0) → ⊥ }
-    ensures { MayGive (λ place v. operated_value (W.op work.now) (number_at left.now place) (number_at right.now place) ≡ done v) result count }
+    ensures { MayGive (λ place v. operated_value (W.op work.now) (number_at left.now place)
+        (number_at right.now place) ≡ done v) result count }
 {
     if left.len() < count || right.len() < count {
         return None;
@@ -70,7 +74,8 @@ fn work_all<W: Works>(work: &W, items: &mut [i64], left: &[i64], right: &[i64])
     requires left { AreInRange (W.kind work.now) left.now }
     requires right { AreInRange (W.kind work.now) right.now }
     requires divides { Divides (W.op work.now) → Contains right.now (pos 0) → ⊥ }
-    ensures { AreWorked (W.op work.now) (W.kind work.now) left.now right.now items.new (length items.old) }
+    ensures { AreWorked (W.op work.now) (W.kind work.now) left.now right.now items.new
+        (length items.old) }
 {
     for place in 0..items.len() {
         items[place] = work.of(word_at(left, place), word_at(right, place));

@@ -1,6 +1,6 @@
 mod Machines
 mod Once
-pub mod HandsDealt
+mod HandsDealt
 mod Done
 mod Ending
 mod Sorting

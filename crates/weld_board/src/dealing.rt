@@ -20,7 +20,8 @@ pub fn deal(alloc: Global, list: &[Tile], workers: u32) -> Result<(Board, Seats)
     requires some_worker { 1 ≤ workers }
     requires workers { workers ≤ 64 }
     ensures tiles { IfOk result (λ r. board_tiles r.0 ≡ list.now) }
-    ensures dealt { IfOk result (λ r. board_dealt r.0 ≡ record { tiles = length list.now; workers = workers }) }
+    ensures dealt { IfOk result (λ r. board_dealt r.0 ≡ record
+        { tiles = length list.now; workers = workers }) }
     ensures seats { IfOk result (λ r. AreFresh r.0 0 (seats_in r.1)) }
     ensures all { IfOk result (λ r. length (seats_in r.1) ≡ workers) }
     ensures room { IfOk result (λ r. seats_room r.1 ≡ workers) }

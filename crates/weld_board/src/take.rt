@@ -32,7 +32,9 @@ impl Board {
     /// The tile at a place of a hand, if the hand has so many.
     fn tile_at(&self, hand: u32, place: u64) -> Option<Tile>
         requires { hand < self.now.dealt.workers }
-        ensures { MatchOption result (size_of self.now.dealt hand ≤ place) (λ t. (place < size_of self.now.dealt hand) × (t ≡ slice_index_or (board_tiles self.now) (first_of self.now.dealt hand + place) t)) }
+        ensures { MatchOption result (size_of self.now.dealt hand ≤ place)
+            (λ t. (place < size_of self.now.dealt hand) × (t
+            ≡ slice_index_or (board_tiles self.now) (first_of self.now.dealt hand + place) t)) }
     {
         let first = start_of(self.tiles.len(), self.dealt.workers, hand);
         let end = start_of(self.tiles.len(), self.dealt.workers, hand + 1);

@@ -43,7 +43,8 @@ pub fn join_is_associative()
 
 /// To merge into a join is to merge into its later part: done, fault or stuck alike.
 pub fn merge_into_a_join()
-    ensures { (s d : Part) (v : Value) → merge_part (after_part s d) v ≡ map_out (after_part s) (merge_part d v) }
+    ensures { (s d : Part) (v : Value) → merge_part (after_part s d) v
+        ≡ map_out (after_part s) (merge_part d v) }
 {}
 
 /// Groups keep the order of merges: after merging pairs one after another, a key has what it had
@@ -73,5 +74,6 @@ pub fn struct_join_is_associative()
 
 /// and that to merge into a join is to merge into its later part.
 pub fn merge_into_a_struct_join()
-    ensures { (s d : Builder) (i : Item) → merge_item (after_builder s d) i ≡ map_out (after_builder s) (merge_item d i) }
+    ensures { (s d : Builder) (i : Item) → merge_item (after_builder s d) i
+        ≡ map_out (after_builder s) (merge_item d i) }
 {}

@@ -1,4 +1,4 @@
-pub mod CellsLemmas
-pub mod KeyLemmas
-pub mod ManyLemmas
-pub mod TotalsLemmas
+mod CellsLemmas
+mod KeyLemmas
+mod ManyLemmas
+mod TotalsLemmas

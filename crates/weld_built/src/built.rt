@@ -193,7 +193,8 @@ impl Built {
         requires key { InRange key_kind key }
         requires number { InRange kind x }
         requires item { IsItemOf self.old (pair (number key_kind key) (number kind x)) }
-        ensures { MergeAnswer result (merge_part self.old (pair (number key_kind key) (number kind x))) self.new }
+        ensures { MergeAnswer result (merge_part self.old
+            (pair (number key_kind key) (number kind x))) self.new }
     {
         pair_into(&mut self.state, key_kind, key, kind, x)
     }
@@ -203,7 +204,8 @@ impl Built {
     pub fn merge_at(&mut self, key: Val, kind: Kind, x: i64) -> Result<(), Stop>
         requires number { InRange kind x }
         requires item { IsItemOf self.old (pair (view_val key) (number kind x)) }
-        ensures { MergeAnswer result (merge_part self.old (pair (view_val key) (number kind x))) self.new }
+        ensures { MergeAnswer result (merge_part self.old (pair (view_val key) (number kind x)))
+            self.new }
     {
         values_into(&mut self.state, key, number_of(kind, x))
     }
@@ -300,7 +302,8 @@ fn number_into(state: &mut State, kind: Kind, x: i64) -> Result<(), Stop>
     requires state { IsState state.old }
     requires number { InRange kind x }
     requires item { IsItemOf (part_of_state state.old) (number kind x) }
-    ensures answer { MergeAnswer result (merge_part (part_of_state state.old) (number kind x)) (part_of_state state.new) }
+    ensures answer { MergeAnswer result (merge_part (part_of_state state.old) (number kind x))
+        (part_of_state state.new) }
     ensures state { IsState state.new }
 {
     match state {
@@ -323,7 +326,8 @@ fn numbers_into(state: &mut State, kind: Kind, items: &[i64]) -> Result<(), Stop
     requires narrow { IsNarrow kind }
     requires numbers { AllInRange kind items.now }
     requires items { TakesNumbers (part_of_state state.old) kind }
-    ensures answer { MergeAnswer result (merge_all (part_of_state state.old) (map (number kind) items.now)) (part_of_state state.new) }
+    ensures answer { MergeAnswer result (merge_all (part_of_state state.old)
+        (map (number kind) items.now)) (part_of_state state.new) }
     ensures state { IsState state.new }
 {
     match state {
@@ -345,8 +349,10 @@ fn pair_into(state: &mut State, key_kind: Kind, key: i64, kind: Kind, x: i64) ->
     requires state { IsState state.old }
     requires key { InRange key_kind key }
     requires number { InRange kind x }
-    requires item { IsItemOf (part_of_state state.old) (pair (number key_kind key) (number kind x)) }
-    ensures answer { MergeAnswer result (merge_part (part_of_state state.old) (pair (number key_kind key) (number kind x))) (part_of_state state.new) }
+    requires item { IsItemOf (part_of_state state.old) (pair (number key_kind key)
+        (number kind x)) }
+    ensures answer { MergeAnswer result (merge_part (part_of_state state.old)
+        (pair (number key_kind key) (number kind x))) (part_of_state state.new) }
     ensures state { IsState state.new }
 {
     match state {
@@ -369,7 +375,8 @@ fn pair_into(state: &mut State, key_kind: Kind, key: i64, kind: Kind, x: i64) ->
 fn values_into(state: &mut State, first: Val, second: Val) -> Result<(), Stop>
     requires state { IsState state.old }
     requires item { IsItemOf (part_of_state state.old) (pair (view_val first) (view_val second)) }
-    ensures answer { MergeAnswer result (merge_part (part_of_state state.old) (pair (view_val first) (view_val second))) (part_of_state state.new) }
+    ensures answer { MergeAnswer result (merge_part (part_of_state state.old)
+        (pair (view_val first) (view_val second))) (part_of_state state.new) }
     ensures state { IsState state.new }
 {
     match state {
@@ -405,7 +412,8 @@ fn values_into(state: &mut State, first: Val, second: Val) -> Result<(), Stop>
 fn merge_into(state: &mut State, item: Val) -> Result<(), Stop>
     requires state { IsState state.old }
     requires item { IsItemOf (part_of_state state.old) (view_val item) }
-    ensures answer { MergeAnswer result (merge_part (part_of_state state.old) (view_val item)) (part_of_state state.new) }
+    ensures answer { MergeAnswer result (merge_part (part_of_state state.old) (view_val item))
+        (part_of_state state.new) }
     ensures state { IsState state.new }
 {
     match state {
@@ -450,7 +458,8 @@ fn join_into(state: &mut State, later: State) -> Result<(), AllocError>
     requires later { IsState later }
     requires shape { shape_of (part_of_state state.old) ≡ shape_of (part_of_state later) }
     requires in_range { IsInRange (part_of_state state.old) }
-    ensures joined { OnOk result (part_of_state state.new ≡ after_part (part_of_state state.old) (part_of_state later)) }
+    ensures joined { OnOk result (part_of_state state.new
+        ≡ after_part (part_of_state state.old) (part_of_state later)) }
     ensures state { IsState state.new }
 {
     match (state, later) {

@@ -30,7 +30,9 @@ pub(crate) enum Cells {
 pub(crate) fn merge_cell(cells: &mut Cells, index: i64, x: i128) -> Result<(), Stop>
     requires formed { AreFormed cells.old }
     requires in_range { InRange (kind_of_cells cells.old) x }
-    ensures answer { MergeAnswer result (merge_part (part_of_cells_state cells.old) (pair (number kinds.I64 index) (number (kind_of_cells cells.old) x))) (part_of_cells_state cells.new) }
+    ensures answer { MergeAnswer result (merge_part (part_of_cells_state cells.old)
+        (pair (number kinds.I64 index) (number (kind_of_cells cells.old) x)))
+        (part_of_cells_state cells.new) }
     ensures formed { AreFormed cells.new }
 {
     match cells {
@@ -50,7 +52,8 @@ pub(crate) fn merge_cell(cells: &mut Cells, index: i64, x: i128) -> Result<(), S
 /// The operator, the kind and the number of the cells. It takes no memory.
 pub(crate) fn shape_of_cells(cells: &Cells) -> CellsShape
     requires { AreFormed cells.now }
-    ensures shape { cells_shape result.op result.kind result.count ≡ shape_of (part_of_cells_state cells.now) }
+    ensures shape { cells_shape result.op result.kind result.count
+        ≡ shape_of (part_of_cells_state cells.now) }
     ensures integer { IsInteger result.kind }
 {
     match cells {
@@ -74,9 +77,11 @@ pub(crate) fn copy_of_cells(cells: &Cells, alloc: Global) -> Result<Cells, Alloc
 /// Appends what later cells of the same shape have merged. It takes no memory.
 pub(crate) fn join_cells(cells: &mut Cells, later: Cells)
     requires formed { AreFormed cells.old }
-    requires shape { shape_of (part_of_cells_state cells.old) ≡ shape_of (part_of_cells_state later) }
+    requires shape { shape_of (part_of_cells_state cells.old)
+        ≡ shape_of (part_of_cells_state later) }
     requires in_range { IsInRange (part_of_cells_state cells.old) }
-    ensures joined { part_of_cells_state cells.new ≡ after_part (part_of_cells_state cells.old) (part_of_cells_state later) }
+    ensures joined { part_of_cells_state cells.new ≡ after_part (part_of_cells_state cells.old)
+        (part_of_cells_state later) }
     ensures formed { AreFormed cells.new }
 {
     match later {
@@ -87,8 +92,10 @@ pub(crate) fn join_cells(cells: &mut Cells, later: Cells)
 
 /// Appends what later cells have merged.
 fn append(cells: &mut Cells, later: CellsPart)
-    requires shape { shape_of (part_of_cells_state cells.old) ≡ cells_shape later.op later.kind (length later.cells) }
-    ensures joined { part_of_cells_state cells.new ≡ after_part (part_of_cells_state cells.old) (part_of_cells later) }
+    requires shape { shape_of (part_of_cells_state cells.old)
+        ≡ cells_shape later.op later.kind (length later.cells) }
+    ensures joined { part_of_cells_state cells.new ≡ after_part (part_of_cells_state cells.old)
+        (part_of_cells later) }
     ensures formed { AreFormed cells.new }
 {
     match cells {

@@ -21,7 +21,8 @@ pub(crate) fn push_item(
 ) -> Result<(), AllocError>
     requires keys { AreKeys part.old.key part.old.groups }
     requires key { IsKey (view_val key) }
-    ensures ok { OnOk result (part.new.groups ≡ merge_key appended part.old.groups (view_val key) (view_val item ∷ [])) }
+    ensures ok { OnOk result (part.new.groups ≡ merge_key appended part.old.groups (view_val key)
+        (view_val item ∷ [])) }
     ensures keys { AreKeys part.new.key part.new.groups }
 {
     match make_ready(alloc, part, &key, &item) {
@@ -96,7 +97,8 @@ pub(crate) fn join_groups(
 fn append_copy(alloc: Global, part: &mut GroupsPart, later: &GroupsPart) -> Result<(), AllocError>
     requires keys { AreKeys part.old.key part.old.groups }
     requires later { AreKeys later.now.key later.now.groups }
-    ensures ok { OnOk result (part.new.groups ≡ join_maps appended part.old.groups later.now.groups) }
+    ensures ok { OnOk result (part.new.groups ≡ join_maps appended part.old.groups
+        later.now.groups) }
     ensures keys { AreKeys part.new.key part.new.groups }
 {
     if later.is_empty() {

@@ -26,7 +26,8 @@ pub(crate) fn merge_number(
     requires keys { AreKeys part.old.key part.old.numbers }
     requires key { InRange key_kind key }
     requires in_range { InRange part.old.kind x }
-    ensures ok { OnOk result (part.new.numbers ≡ merge_key (combined part.old.op part.old.kind) part.old.numbers (number key_kind key) x) }
+    ensures ok { OnOk result (part.new.numbers ≡ merge_key (combined part.old.op part.old.kind)
+        part.old.numbers (number key_kind key) x) }
     ensures keys { AreKeys part.new.key part.new.numbers }
     ensures op { part.new.op ≡ part.old.op }
     ensures kind { part.new.kind ≡ part.old.kind }
@@ -47,7 +48,8 @@ pub(crate) fn merge_value(
     requires keys { AreKeys part.old.key part.old.numbers }
     requires key { IsKey (view_val key) }
     requires in_range { InRange part.old.kind x }
-    ensures ok { OnOk result (part.new.numbers ≡ merge_key (combined part.old.op part.old.kind) part.old.numbers (view_val key) x) }
+    ensures ok { OnOk result (part.new.numbers ≡ merge_key (combined part.old.op part.old.kind)
+        part.old.numbers (view_val key) x) }
     ensures keys { AreKeys part.new.key part.new.numbers }
     ensures op { part.new.op ≡ part.old.op }
     ensures kind { part.new.kind ≡ part.old.kind }
@@ -111,7 +113,8 @@ pub(crate) fn join_keyed(
     requires later { AreKeys later.key later.numbers }
     requires op { part.old.op ≡ later.op }
     requires kind { part.old.kind ≡ later.kind }
-    ensures ok { OnOk result (part.new.numbers ≡ join_maps (combined part.old.op part.old.kind) part.old.numbers later.numbers) }
+    ensures ok { OnOk result (part.new.numbers ≡ join_maps (combined part.old.op part.old.kind)
+        part.old.numbers later.numbers) }
     ensures keys { AreKeys part.new.key part.new.numbers }
     ensures op { part.new.op ≡ part.old.op }
     ensures kind { part.new.kind ≡ part.old.kind }
@@ -131,7 +134,8 @@ fn append_copy(alloc: Global, part: &mut KeyedPart, later: &KeyedPart) -> Result
     requires keys { AreKeys part.old.key part.old.numbers }
     requires later { AreKeys later.now.key later.now.numbers }
     requires kind { part.old.kind ≡ later.now.kind }
-    ensures ok { OnOk result (part.new.numbers ≡ join_maps (combined part.old.op part.old.kind) part.old.numbers later.now.numbers) }
+    ensures ok { OnOk result (part.new.numbers ≡ join_maps (combined part.old.op part.old.kind)
+        part.old.numbers later.now.numbers) }
     ensures keys { AreKeys part.new.key part.new.numbers }
     ensures op { part.new.op ≡ part.old.op }
     ensures kind { part.new.kind ≡ part.old.kind }
@@ -150,7 +154,8 @@ fn append(alloc: Global, part: &mut KeyedPart, later: KeyedPart) -> Result<(), A
     requires later { AreKeys later.key later.numbers }
     requires key { part.old.key ≡ later.key }
     requires kind { part.old.kind ≡ later.kind }
-    ensures ok { OnOk result (part.new.numbers ≡ join_maps (combined part.old.op part.old.kind) part.old.numbers later.numbers) }
+    ensures ok { OnOk result (part.new.numbers ≡ join_maps (combined part.old.op part.old.kind)
+        part.old.numbers later.numbers) }
     ensures keys { AreKeys part.new.key part.new.numbers }
     ensures op { part.new.op ≡ part.old.op }
     ensures kind { part.new.kind ≡ part.old.kind }

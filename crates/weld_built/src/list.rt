@@ -40,7 +40,8 @@ pub(crate) fn push_numbers(
 ) -> Result<(), AllocError>
     requires narrow { IsNarrow kind }
     requires in_range { AllInRange kind items.now }
-    ensures { OnOk result (items_of_list list.new ≡ items_of_list list.old ++ map (number kind) items.now) }
+    ensures { OnOk result (items_of_list list.new ≡ items_of_list list.old
+        ++ map (number kind) items.now) }
 {
     make_ready_for(alloc, list, kind);
     if keeps(list.kind(), kind) {
@@ -67,7 +68,8 @@ fn push_each(
 ) -> Result<(), AllocError>
     requires narrow { IsNarrow kind }
     requires in_range { AllInRange kind items.now }
-    ensures { OnOk result (items_of_list list.new ≡ items_of_list list.old ++ map (number kind) items.now) }
+    ensures { OnOk result (items_of_list list.new ≡ items_of_list list.old
+        ++ map (number kind) items.now) }
 {
     for i in 0..items.len() {
         push_number(alloc, list, kind, items[i])?;
@@ -92,7 +94,8 @@ pub(crate) fn push_pair(
     first: Val,
     second: Val,
 ) -> Result<(), AllocError>
-    ensures { OnOk result (items_of_list list.new ≡ items_of_list list.old ++ pair (view_val first) (view_val second) ∷ []) }
+    ensures { OnOk result (items_of_list list.new ≡ items_of_list list.old
+        ++ pair (view_val first) (view_val second) ∷ []) }
 {
     let mut fields = Vals::new(alloc);
     fields.push(first)?;
@@ -171,7 +174,8 @@ pub(crate) fn join_lists(
 
 /// Appends the items of a list that is kept otherwise.
 fn append_copy(alloc: Global, list: &mut ListPart, later: &ListPart) -> Result<(), AllocError>
-    ensures { OnOk result (items_of_list list.new ≡ items_of_list list.old ++ items_of_list later.now) }
+    ensures { OnOk result (items_of_list list.new ≡ items_of_list list.old
+        ++ items_of_list later.now) }
 {
     if later.is_empty() {
         return Ok(());

@@ -24,7 +24,8 @@ pub(crate) fn merge_fields(
     item: Val,
 ) -> Result<(), AllocError>
     requires { IsStructOfNumbers (kinds_of totals.old.totals) (view_val item) }
-    ensures { OnOk result (merge_part (part_of_totals totals.old) (view_val item) ≡ done (part_of_totals totals.new)) }
+    ensures { OnOk result (merge_part (part_of_totals totals.old) (view_val item)
+        ≡ done (part_of_totals totals.new)) }
 {
     match item {
         Val::Struct(fields) => {
@@ -38,8 +39,10 @@ pub(crate) fn merge_fields(
 
 /// Merges a struct of two numbers. It takes no memory.
 pub(crate) fn merge_two(totals: &mut TotalsPart, first: Val, second: Val)
-    requires { IsStructOfNumbers (kinds_of totals.old.totals) (pair (view_val first) (view_val second)) }
-    ensures { merge_part (part_of_totals totals.old) (pair (view_val first) (view_val second)) ≡ done (part_of_totals totals.new) }
+    requires { IsStructOfNumbers (kinds_of totals.old.totals)
+        (pair (view_val first) (view_val second)) }
+    ensures { merge_part (part_of_totals totals.old) (pair (view_val first) (view_val second))
+        ≡ done (part_of_totals totals.new) }
 {
     let numbers = [as_number(first), as_number(second)];
     totals.merge_numbers(&numbers);

@@ -1,19 +1,19 @@
-pub mod Keys
+mod Keys
 pub mod Outcomes
 pub mod Eaches
 pub mod Totals
 pub mod Groups
-pub mod LoopLaw
+mod LoopLaw
 pub mod Arguments
-pub mod Legs
-pub mod Shapes
-pub mod MappedCalls
-pub mod TotalCalls
-pub mod KeyCalls
-pub mod OtherCalls
+mod Legs
+mod Shapes
+mod MappedCalls
+mod TotalCalls
+mod KeyCalls
+mod OtherCalls
 pub mod Tallies
 pub mod Histograms
-pub mod EachCall
+mod EachCall
 mod Wanted
 mod Table
 mod Fitting

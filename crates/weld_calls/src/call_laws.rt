@@ -22,8 +22,10 @@ use crate::laws::rows_are_a_table;
 /// steps one after another, with a fault where the legs or a step have one.
 pub fn loops_fold_their_rows()
     ensures { (legs : LegTrees) (builder : ExprTree) (b n x : ℕ) (body : ExprTree) (env : Env)
-        (rows : Outcome (List Value)) (row : Value → Value) (p : Part) (step : Part → Value → Outcome Part)
-        → RowsAre legs env row rows → eval builder env ≡ done (building p) → BodySteps b n x body env row step
+        (rows : Outcome (List Value)) (row : Value → Value) (p : Part)
+        (step : Part → Value → Outcome Part)
+        → RowsAre legs env row rows → eval builder env ≡ done (building p)
+        → BodySteps b n x body env row step
         → eval (gathered legs builder b n x body) env ≡ map_out plain (folded_result step p rows) }
 {}
 

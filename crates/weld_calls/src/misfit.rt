@@ -65,7 +65,8 @@ fn misfit_of_column(call: Call, types: &[Ty]) -> Option<(u32, &Ty)>
 
 /// The struct, where it has no column of that number.
 fn column_misfit(number: u32, ty: &Ty) -> Option<(u32, &Ty)>
-    ensures { (us : List TypeTree) → option_map (λ x. (x.0, x.1.now)) result ≡ no_column (calls.Column number) (ty.now ∷ us) }
+    ensures { (us : List TypeTree) → option_map (λ x. (x.0, x.1.now)) result
+        ≡ no_column (calls.Column number) (ty.now ∷ us) }
 {
     match &ty.form {
         TyForm::Struct(fields) => {

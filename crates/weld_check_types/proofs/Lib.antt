@@ -1,9 +1,9 @@
-pub mod Left
-pub mod Params
-pub mod Answered
-pub mod TypeWalkNoting
+mod Left
+mod Params
+mod Answered
+mod TypeWalkNoting
 mod Uses
 mod Sameness
 pub mod Found
-pub mod Noting
-pub mod Same
+mod Noting
+mod Same

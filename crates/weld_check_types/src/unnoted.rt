@@ -8,6 +8,7 @@ ghost use Rattle.weld_check_types.specs.Unnoted.{IsSameButNotes};
 
 /// Noted types play no part in the walk over builders, and programs that differ in them alone are the same.
 pub fn notes_play_no_part()
-    ensures linear { (p q : ProgramTree) → IsSameButNotes p q → linear_refusal p ≡ linear_refusal q }
+    ensures linear { (p q : ProgramTree) → IsSameButNotes p q
+        → linear_refusal p ≡ linear_refusal q }
     ensures same { (p q : ProgramTree) → IsSameButNotes p q → AreSame p q }
 {}

@@ -1,9 +1,9 @@
-pub mod Depths
+mod Depths
 pub mod Integers
 pub mod Keys
 pub mod Lookups
 pub mod Operations
 pub mod Ranges
-pub mod Rising
-pub mod Views
+mod Rising
+mod Views
 pub mod Wrapping

@@ -41,7 +41,8 @@ pub fn combination_laws(op: MergeOp, kind: Kind)
     ensures associative { (x y z : ℤ) → combination op kind (combination op kind x y) z
         ≡ combination op kind x (combination op kind y z) }
     ensures commutative { (x y : ℤ) → combination op kind x y ≡ combination op kind y x }
-    ensures in_range { (x y : ℤ) → InRange kind x → InRange kind y → InRange kind (combination op kind x y) }
+    ensures in_range { (x y : ℤ) → InRange kind x → InRange kind y
+        → InRange kind (combination op kind x y) }
 {}
 
 /// On numbers of kind i64 the operations are those of std that wrap.
@@ -63,7 +64,8 @@ pub fn key_order()
 /// To be keys of one type is symmetric. Keys that have one key type are of one type, and whatever has a key type is a key.
 pub fn one_key_type()
     ensures symmetric { (x y : Value) → SameKeyType x y → SameKeyType y x }
-    ensures shared { (t : KeyType) (x y : Value) → HasKeyType t x → HasKeyType t y → SameKeyType x y }
+    ensures shared { (t : KeyType) (x y : Value) → HasKeyType t x → HasKeyType t y
+        → SameKeyType x y }
     ensures is_key { (t : KeyType) (x : Value) → HasKeyType t x → IsKey x }
     ensures has_type { (x : Value) → IsKey x → (t : KeyType) × HasKeyType t x }
 {}

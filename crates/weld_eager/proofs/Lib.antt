@@ -1,11 +1,11 @@
-pub mod Words
-pub mod Columns
-pub mod Combining
-pub mod Choosing
-pub mod Answering
-pub mod Keeping
-pub mod Taking
-pub mod Tallying
-pub mod DotRows
-pub mod Grouping
-pub mod ByNumber
+mod Words
+mod Columns
+mod Combining
+mod Choosing
+mod Answering
+mod Keeping
+mod Taking
+mod Tallying
+mod DotRows
+mod Grouping
+mod ByNumber

@@ -12,8 +12,10 @@ use weld_data::{Stop, Val};
 
 /// A value that is always there, unless memory is wanting.
 pub fn always(answer: Result<Val, AllocError>) -> Result<Val, Stop>
-    ensures outcome { (o : Outcome Value) → IfOk answer (λ v. o ≡ done (view_val v)) → Answers view_val result o }
-    ensures value { (w : Value) → IfOk answer (λ v. view_val v ≡ w) → Answers view_val result (done w) }
+    ensures outcome { (o : Outcome Value) → IfOk answer (λ v. o ≡ done (view_val v))
+        → Answers view_val result o }
+    ensures value { (w : Value) → IfOk answer (λ v. view_val v ≡ w)
+        → Answers view_val result (done w) }
 {
     match answer {
         Ok(v) => Ok(v),
@@ -23,7 +25,8 @@ pub fn always(answer: Result<Val, AllocError>) -> Result<Val, Stop>
 
 /// A value, or a fault where there is none, unless memory is wanting.
 pub fn or_fault(answer: Result<Option<Val>, AllocError>) -> Result<Val, Stop>
-    ensures { (o : Outcome Value) → IfOk answer (λ r. IsFaultOr r view_val o) → Answers view_val result o }
+    ensures { (o : Outcome Value) → IfOk answer (λ r. IsFaultOr r view_val o)
+        → Answers view_val result o }
 {
     match answer {
         Ok(Some(v)) => Ok(v),

@@ -36,7 +36,8 @@ pub fn arithmetic(
     requires operator { IsArithmetic op }
     requires left { HasValue (vec (scalar kind)) (view_val v.now) }
     requires right { HasValue (vec (scalar kind)) (view_val w.now) }
-    ensures { IfOk result (λ r. IsFaultOr r view_val (place_by_place op kind (view_val v.now) (view_val w.now))) }
+    ensures { IfOk result (λ r. IsFaultOr r view_val (place_by_place op kind (view_val v.now)
+        (view_val w.now))) }
 {
     let xs = numbers_as(alloc, kind, v)?;
     let ys = numbers_as(alloc, kind, w)?;
@@ -82,7 +83,8 @@ pub fn where_(
     requires marks { HasValue (vec truth_type) (view_val m.now) }
     requires left { HasValue (vec (scalar kind)) (view_val v.now) }
     requires right { HasValue (vec (scalar kind)) (view_val w.now) }
-    ensures { IfOk result (λ r. IsFaultOr r view_val (where_meaning kind (view_val m.now) (view_val v.now) (view_val w.now))) }
+    ensures { IfOk result (λ r. IsFaultOr r view_val (where_meaning kind (view_val m.now)
+        (view_val v.now) (view_val w.now))) }
 {
     let marks = truths_of(alloc, m)?;
     let xs = numbers_as(alloc, kind, v)?;
@@ -119,7 +121,8 @@ pub fn dot(alloc: Global, kind: Kind, v: &Val, w: &Val) -> Result<Option<Val>, A
     requires integer { IsInteger kind }
     requires left { HasValue (vec (scalar kind)) (view_val v.now) }
     requires right { HasValue (vec (scalar kind)) (view_val w.now) }
-    ensures { IfOk result (λ r. IsFaultOr r view_val (map_out (number kind) (dot_list kind (numbers (view_val v.now)) (numbers (view_val w.now))))) }
+    ensures { IfOk result (λ r. IsFaultOr r view_val (map_out (number kind)
+        (dot_list kind (numbers (view_val v.now)) (numbers (view_val w.now))))) }
 {
     let xs = numbers_as(alloc, kind, v)?;
     let ys = numbers_as(alloc, kind, w)?;
@@ -133,7 +136,8 @@ pub fn dot(alloc: Global, kind: Kind, v: &Val, w: &Val) -> Result<Option<Val>, A
 pub fn reduce(alloc: Global, op: MergeOp, kind: Kind, v: &Val) -> Result<Val, AllocError>
     requires integer { IsInteger kind }
     requires vector { HasValue (vec (scalar kind)) (view_val v.now) }
-    ensures { IfOk result (λ r. view_val r ≡ number kind (combined_all op kind (start_of op kind) (numbers (view_val v.now)))) }
+    ensures { IfOk result (λ r. view_val r ≡ number kind
+        (combined_all op kind (start_of op kind) (numbers (view_val v.now)))) }
 {
     let xs = numbers_as(alloc, kind, v)?;
     Ok(Val::Num(total(op, kind, &xs)))

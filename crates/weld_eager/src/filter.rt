@@ -25,7 +25,8 @@ pub fn filter(
 ) -> Result<Option<Val>, AllocError>
     requires elements { IsKeptVector kind (view_val c.now) }
     requires marks { HasValue (vec truth_type) (view_val m.now) }
-    ensures { IfOk result (λ r. IsFaultOr r view_val (map_out (λ ps. vector (marked ps)) (paired (items (view_val c.now)) (truths (view_val m.now))))) }
+    ensures { IfOk result (λ r. IsFaultOr r view_val (map_out (λ ps. vector (marked ps))
+        (paired (items (view_val c.now)) (truths (view_val m.now))))) }
 {
     let marks = truths_of(alloc, m)?;
     match c {
@@ -46,7 +47,8 @@ fn kept_column(
     marks: &[bool],
 ) -> Result<Option<Column>, AllocError>
     requires { AreKept kind (view_column column.now) }
-    ensures { IfOk result (λ r. IsFaultOr r view_column (map_out marked (paired (view_column column.now) marks.now))) }
+    ensures { IfOk result (λ r. IsFaultOr r view_column (map_out marked
+        (paired (view_column column.now) marks.now))) }
 {
     if column.len() != marks.len() {
         return Ok(None);
@@ -63,7 +65,8 @@ fn kept_elements(
 ) -> Result<Column, AllocError>
     requires kept { AreKept kind (view_column column.now) }
     requires count { length (view_column column.now) ≡ length marks.now }
-    ensures { IfOk result (λ r. map_out marked (paired (view_column column.now) marks.now) ≡ done (view_column r)) }
+    ensures { IfOk result (λ r. map_out marked (paired (view_column column.now) marks.now)
+        ≡ done (view_column r)) }
 {
     let _count = column.len();
     let mut list = ListPart::empty(alloc, kind);

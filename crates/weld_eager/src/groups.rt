@@ -27,7 +27,8 @@ pub fn group_sum(alloc: Global, kind: Kind, keys: &Val, v: &Val) -> Result<Optio
     requires integer { IsInteger kind }
     requires keys { IsKeyVector (view_val keys.now) }
     requires numbers { HasValue (vec (scalar kind)) (view_val v.now) }
-    ensures { IfOk result (λ r. IsFaultOr r view_val (group_sum_meaning kind (view_val keys.now) (view_val v.now))) }
+    ensures { IfOk result (λ r. IsFaultOr r view_val (group_sum_meaning kind (view_val keys.now)
+        (view_val v.now))) }
 {
     let xs = numbers_as(alloc, kind, v)?;
     let column = column_of(keys);
@@ -50,7 +51,8 @@ fn sums_by_keys(
     requires numbers { AllInRange kind xs.now }
     requires count { length (view_column keys.now) ≡ length xs.now }
     ensures kind { IfOk result (λ p. p.kind ≡ kind) }
-    ensures sums { IfOk result (λ p. AreGrouped (wrapped_sum kind) (view_column keys.now) xs.now p.numbers) }
+    ensures sums { IfOk result (λ p. AreGrouped (wrapped_sum kind) (view_column keys.now) xs.now
+        p.numbers) }
     ensures kept { IfOk result (λ p. KeysAreKept p.key p.numbers) }
     ensures one_type { IfOk result (λ p. HasOneKeyType p.numbers) }
 {
@@ -65,7 +67,8 @@ fn sums_by_keys(
 #[tactic(auto, using(crate::proofs::Grouping::keys_are_list))]
 pub fn group_count(alloc: Global, keys: &Val) -> Result<Val, AllocError>
     requires { IsKeyVector (view_val keys.now) }
-    ensures { IfOk result (λ r. group_count_meaning (items (view_val keys.now)) ≡ done (view_val r)) }
+    ensures { IfOk result (λ r. group_count_meaning (items (view_val keys.now))
+        ≡ done (view_val r)) }
 {
     let column = column_of(keys);
     let counts = counts_by_keys(alloc, column)?;
@@ -76,7 +79,8 @@ pub fn group_count(alloc: Global, keys: &Val) -> Result<Val, AllocError>
 fn counts_by_keys(alloc: Global, keys: &Column) -> Result<KeyedPart, AllocError>
     requires { AreKeys (view_column keys.now) }
     ensures kind { IfOk result (λ p. p.kind ≡ kinds.I64) }
-    ensures counts { IfOk result (λ p. AreGrouped how_many_wrapped (view_column keys.now) (view_column keys.now) p.numbers) }
+    ensures counts { IfOk result (λ p. AreGrouped how_many_wrapped (view_column keys.now)
+        (view_column keys.now) p.numbers) }
     ensures kept { IfOk result (λ p. KeysAreKept p.key p.numbers) }
     ensures one_type { IfOk result (λ p. HasOneKeyType p.numbers) }
 {
@@ -98,7 +102,8 @@ pub fn group_list(
 ) -> Result<Option<Val>, AllocError>
     requires keys { IsKeyVector (view_val keys.now) }
     requires elements { IsKeptVector kind (view_val v.now) }
-    ensures { IfOk result (λ r. IsFaultOr r view_val (group_list_meaning (view_val keys.now) (view_val v.now))) }
+    ensures { IfOk result (λ r. IsFaultOr r view_val (group_list_meaning (view_val keys.now)
+        (view_val v.now))) }
 {
     let column = column_of(keys);
     let elements = column_of(v);
@@ -119,7 +124,8 @@ fn lists_by_keys(
     requires keys { AreKeys (view_column keys.now) }
     requires elements { AreKept kind (view_column vs.now) }
     requires count { length (view_column keys.now) ≡ length (view_column vs.now) }
-    ensures lists { IfOk result (λ p. AreGrouped (λ us. us) (view_column keys.now) (view_column vs.now) p.groups) }
+    ensures lists { IfOk result (λ p. AreGrouped (λ us. us) (view_column keys.now)
+        (view_column vs.now) p.groups) }
     ensures kept { IfOk result (λ p. KeysAreKept p.key p.groups) }
     ensures one_type { IfOk result (λ p. HasOneKeyType p.groups) }
 {

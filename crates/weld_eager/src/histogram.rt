@@ -23,7 +23,8 @@ use weld_data::{Kind, MergeOp, Val, combine};
 pub fn histogram(alloc: Global, v: &Val, starts: &Val) -> Result<Option<Val>, AllocError>
     requires places { HasValue (vec place_type) (view_val v.now) }
     requires starts { HasValue (vec place_type) (view_val starts.now) }
-    ensures { IfOk result (λ r. IsFaultOr r view_val (histogram_meaning (numbers (view_val v.now)) (numbers (view_val starts.now)))) }
+    ensures { IfOk result (λ r. IsFaultOr r view_val (histogram_meaning (numbers (view_val v.now))
+        (numbers (view_val starts.now)))) }
 {
     let places = numbers_as(alloc, Kind::I64, v)?;
     let numbers = numbers_as(alloc, Kind::I64, starts)?;
@@ -37,7 +38,8 @@ pub fn histogram(alloc: Global, v: &Val, starts: &Val) -> Result<Option<Val>, Al
 fn tally(places: &[i128], starts: Vec<i128>) -> Option<Vec<i128>>
     requires places { AllInRange kinds.I64 places.now }
     requires starts { AllInRange kinds.I64 starts.items }
-    ensures answer { IsFaultOr result (λ c. number_vector kinds.I64 c.items) (histogram_meaning places.now starts.items) }
+    ensures answer { IsFaultOr result (λ c. number_vector kinds.I64 c.items)
+        (histogram_meaning places.now starts.items) }
     ensures in_range { IfSome result (λ c. AllInRange kinds.I64 c.items) }
 {
     let mut cells = starts;

@@ -40,7 +40,8 @@ pub fn elementwise(
     requires operator { IsArithmetic op }
     requires left { AllInRange kind xs.now }
     requires right { AllInRange kind ys.now }
-    ensures answer { IfOk result (λ r. IsFaultOr r (λ v. v.items) (elementwise_list op kind xs.now ys.now)) }
+    ensures answer { IfOk result (λ r. IsFaultOr r (λ v. v.items)
+        (elementwise_list op kind xs.now ys.now)) }
     ensures in_range { IfOk result (λ r. IfSome r (λ v. AllInRange kind v.items)) }
 {
     if xs.len() != ys.len() {
@@ -123,7 +124,8 @@ pub fn chosen(
 ) -> Result<Option<Vec<i128>>, AllocError>
     requires left { AllInRange kind xs.now }
     requires right { AllInRange kind ys.now }
-    ensures answer { IfOk result (λ r. IsFaultOr r (λ v. v.items) (chosen_list marks.now xs.now ys.now)) }
+    ensures answer { IfOk result (λ r. IsFaultOr r (λ v. v.items)
+        (chosen_list marks.now xs.now ys.now)) }
     ensures in_range { IfOk result (λ r. IfSome r (λ v. AllInRange kind v.items)) }
 {
     if xs.len() != ys.len() {

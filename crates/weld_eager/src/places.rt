@@ -29,7 +29,8 @@ pub fn slice(alloc: Global, v: &Val, start: &Val, count: &Val) -> Result<Val, St
     requires vector { IsList (view_val v.now) }
     requires start { HasValue place_type (view_val start.now) }
     requires count { HasValue place_type (view_val count.now) }
-    ensures { Answers view_val result (slice_meaning (view_val v.now) (view_val start.now) (view_val count.now)) }
+    ensures { Answers view_val result (slice_meaning (view_val v.now) (view_val start.now)
+        (view_val count.now)) }
 {
     part_of(alloc, v, start, count)
 }
@@ -52,7 +53,8 @@ pub fn take(
 ) -> Result<Option<Val>, AllocError>
     requires elements { IsKeptVector kind (view_val v.now) }
     requires places { HasValue (vec place_type) (view_val places.now) }
-    ensures { IfOk result (λ r. IsFaultOr r view_val (take_meaning (view_val v.now) (view_val places.now))) }
+    ensures { IfOk result (λ r. IsFaultOr r view_val (take_meaning (view_val v.now)
+        (view_val places.now))) }
 {
     let wanted = numbers_as(alloc, Kind::I64, places)?;
     let column = column_of(v);
@@ -74,7 +76,8 @@ pub fn column_of<'a>(v: &'a Val) -> &'a Column
 
 /// A column that may be there, as a vector. It takes no memory.
 fn listed(found: Option<Column>) -> Option<Val>
-    ensures { (o : Outcome (List Value)) → IsFaultOr found view_column o → IsFaultOr result view_val (map_out vector o) }
+    ensures { (o : Outcome (List Value)) → IsFaultOr found view_column o
+        → IsFaultOr result view_val (map_out vector o) }
 {
     match found {
         Some(column) => Some(Val::List(column)),
@@ -91,7 +94,8 @@ fn taken(
 ) -> Result<Option<Column>, AllocError>
     requires kept { AreKept kind (view_column column.now) }
     requires places { AllInRange kinds.I64 places.now }
-    ensures { IfOk result (λ r. IsFaultOr r view_column (each (element_at (view_column column.now)) places.now)) }
+    ensures { IfOk result (λ r. IsFaultOr r view_column (each (element_at (view_column column.now))
+        places.now)) }
 {
     let count = column.len();
     let mut list = ListPart::empty(alloc, kind);

@@ -26,7 +26,8 @@ pub fn rows_dot(alloc: Global, kind: Kind, m: &Val, w: &Val) -> Result<Option<Va
     requires integer { IsInteger kind }
     requires rows { HasValue (vec (vec (scalar kind))) (view_val m.now) }
     requires vector { HasValue (vec (scalar kind)) (view_val w.now) }
-    ensures { IfOk result (λ r. IsFaultOr r view_val (rows_dot_meaning kind (view_val m.now) (view_val w.now))) }
+    ensures { IfOk result (λ r. IsFaultOr r view_val (rows_dot_meaning kind (view_val m.now)
+        (view_val w.now))) }
 {
     let weights = numbers_as(alloc, kind, w)?;
     let rows = column_of(m);
@@ -46,7 +47,8 @@ fn dots(
     requires integer { IsInteger kind }
     requires rows { AllAre (HasValue (vec (scalar kind))) (values (view_column rows.now)) }
     requires weights { AllInRange kind weights.now }
-    ensures answer { IfOk result (λ r. IsFaultOr r (λ v. v.items) (each (λ row. dot_list kind (numbers row) weights.now) (view_column rows.now))) }
+    ensures answer { IfOk result (λ r. IsFaultOr r (λ v. v.items)
+        (each (λ row. dot_list kind (numbers row) weights.now) (view_column rows.now))) }
     ensures in_range { IfOk result (λ r. IfSome r (λ v. AllInRange kind v.items)) }
 {
     let count = rows.len();
@@ -70,7 +72,8 @@ fn element_dot(
     requires integer { IsInteger kind }
     requires row { HasValue (vec (scalar kind)) (view_element row) }
     requires weights { AllInRange kind weights.now }
-    ensures value { IfOk result (λ r. IsFaultOr r (λ x. x) (dot_list kind (numbers (view_element row.entry)) weights.now)) }
+    ensures value { IfOk result (λ r. IsFaultOr r (λ x. x)
+        (dot_list kind (numbers (view_element row.entry)) weights.now)) }
     ensures in_range { IfOk result (λ r. IfSome r (InRange kind)) }
 {
     match row {
@@ -90,7 +93,8 @@ fn row_dot(
     requires integer { IsInteger kind }
     requires row { HasValue (vec (scalar kind)) (view_val row.now) }
     requires weights { AllInRange kind weights.now }
-    ensures value { IfOk result (λ r. IsFaultOr r (λ x. x) (dot_list kind (numbers (view_val row.now)) weights.now)) }
+    ensures value { IfOk result (λ r. IsFaultOr r (λ x. x)
+        (dot_list kind (numbers (view_val row.now)) weights.now)) }
     ensures in_range { IfOk result (λ r. IfSome r (InRange kind)) }
 {
     let xs = numbers_as(alloc, kind, row)?;

@@ -1,14 +1,14 @@
-pub mod ByteLemmas
+mod ByteLemmas
 pub mod ScalarLemmas
-pub mod VectorLemmas
+mod VectorLemmas
 pub mod Words
 pub mod Arguments
 pub mod Below
 pub mod Children
 pub mod LegLists
 pub mod LoopSteps
-pub mod OwnedNames
-pub mod Pairs
+mod OwnedNames
+mod Pairs
 pub mod RowLists
 pub mod Shorts
-pub mod Starting
+mod Starting

@@ -94,7 +94,8 @@ fn fresh_total(ty: &Ty, op: MergeOp, alloc: Global) -> Result<Built, AllocError>
 #[tactic(auto, using(crate::proofs::Starting::field_scalar, crate::proofs::Starting::field_integer, crate::proofs::Starting::field_added, crate::proofs::Starting::added_integers, crate::proofs::Starting::totals_start))]
 fn fresh_totals(fields: &Tys, op: MergeOp, alloc: Global) -> Result<Built, AllocError>
     requires { AreIntegerTypes (pack fields.now) }
-    ensures { IfOk result (λ b. started_builder (total (tuple (pack fields.now)) op) None ≡ done (building b)) }
+    ensures { IfOk result (λ b. started_builder (total (tuple (pack fields.now)) op) None
+        ≡ done (building b)) }
 {
     let items = fields.as_slice();
     let mut numbers = Vec::with_capacity(alloc, items.len())?;

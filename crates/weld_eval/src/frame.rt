@@ -197,7 +197,9 @@ fn read_far<'a>(frame: &'a Frame<'a>, name: Sym) -> Slot<'a>
 /// The argument of a parameter. It takes no memory.
 #[tactic(auto, using(crate::proofs::Arguments::found_there, crate::proofs::Arguments::not_there, crate::proofs::Arguments::ended))]
 fn find_argument<'a>(params: &'a Binders, values: &'a Vals, name: Sym) -> Option<&'a Val>
-    ensures { MatchOption result (look_for name.0 (with_arguments params.now values.now) ≡ None) (λ v. look_for name.0 (with_arguments params.now values.now) ≡ Some (plain (view_val v.now))) }
+    ensures { MatchOption result (look_for name.0 (with_arguments params.now values.now) ≡ None)
+        (λ v. look_for name.0 (with_arguments params.now values.now)
+        ≡ Some (plain (view_val v.now))) }
 {
     let binders = params.as_slice();
     for i in 0..binders.len().min(values.len()) {

@@ -48,7 +48,8 @@ impl Names {
 
     /// One name more, which is seen first. Where memory is wanting, the names stay as they were.
     pub fn bind(&mut self, name: Sym, thing: Owned) -> Result<(), AllocError>
-        ensures ok { OnOk result (env_of_names self.new ≡ (name.0, thing_of thing) ∷ env_of_names self.old) }
+        ensures ok { OnOk result (env_of_names self.new ≡ (name.0, thing_of thing)
+            ∷ env_of_names self.old) }
         ensures err { OnErr result (env_of_names self.new ≡ env_of_names self.old) }
     {
         self.items.push(Named { name, thing })?;
@@ -66,7 +67,8 @@ impl Names {
     /// The thing of a name, if it is there. It takes no memory.
     #[tactic(auto, using(crate::proofs::OwnedNames::all_names, crate::proofs::OwnedNames::name_found, crate::proofs::OwnedNames::name_older, crate::proofs::OwnedNames::no_name))]
     pub fn thing(&self, name: Sym) -> Option<&Owned>
-        ensures { MatchOption result (look_for name.0 (env_of_names self.now) ≡ None) (λ x. look_for name.0 (env_of_names self.now) ≡ Some (thing_of x.now)) }
+        ensures { MatchOption result (look_for name.0 (env_of_names self.now) ≡ None)
+            (λ x. look_for name.0 (env_of_names self.now) ≡ Some (thing_of x.now)) }
     {
         let mut left = self.items.len();
         while left > 0 {

@@ -105,7 +105,8 @@ pub fn join_thing(x: &mut Owned, later: Owned) -> Result<(), AllocError>
 #[cycle(join)]
 fn join_fields(fields: &mut Fields, later: Fields) -> Result<(), AllocError>
     requires { AllJoin (things_of fields.old) (things_of later) }
-    ensures { OnOk result (things_of fields.new ≡ after_things (things_of fields.old) (things_of later)) }
+    ensures { OnOk result (things_of fields.new ≡ after_things (things_of fields.old)
+        (things_of later)) }
 {
     match (fields, later) {
         (Fields::End, Fields::End) => Ok(()),

@@ -192,7 +192,8 @@ pub fn quotient(kind: Kind, x: i64, y: i64) -> i64
 #[inline(always)]
 fn unsigned_quotient(x: u64, y: u64) -> i64
     requires { y ≢ 0 }
-    ensures value { of_word kind_names.U64 result ≡ wrapped kind_names.U64 (int_div (pos x) (pos y)) }
+    ensures value { of_word kind_names.U64 result ≡ wrapped kind_names.U64
+        (int_div (pos x) (pos y)) }
     ensures in_range { InRange kind_names.U64 (of_word kind_names.U64 result) }
 {
     (x / y).cast_signed()

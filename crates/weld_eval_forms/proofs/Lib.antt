@@ -1,9 +1,9 @@
 pub mod KeyTypes
-pub mod ManyShapes
-pub mod Results
+mod ManyShapes
+mod Results
 pub mod Rows
 pub mod Shapes
-pub mod Starting
-pub mod ThreeShapes
-pub mod Turns
+mod Starting
+mod ThreeShapes
+mod Turns
 pub mod TwoShapes

@@ -18,7 +18,8 @@ use weld_eval::values::strided_part;
 /// A leg that runs over a whole vector. It takes no memory.
 pub fn whole<'a>(v: Held<'a>) -> Held<'a>
     requires { IsVector (held_of v) }
-    ensures elements { and_then (as_value (held_of v.entry)) elements_of ≡ done (elements_in result) }
+    ensures elements { and_then (as_value (held_of v.entry)) elements_of
+        ≡ done (elements_in result) }
     ensures vector { IsVector (held_of result) }
 {
     v
@@ -39,7 +40,8 @@ pub fn strided<'a>(
     requires start { IsPlace (held_of start) }
     requires end { IsPlace (held_of end) }
     requires stride { IsPlace (held_of stride) }
-    ensures elements { Answers elements_in result (strided_elements (held_of v.entry) (held_of start.entry) (held_of end.entry) (held_of stride.entry)) }
+    ensures elements { Answers elements_in result (strided_elements (held_of v.entry)
+        (held_of start.entry) (held_of end.entry) (held_of stride.entry)) }
     ensures vector { IfOk result (λ x. IsVector (held_of x)) }
 {
     let column = strided_column(&v, &start, &end, &stride, alloc);
@@ -65,7 +67,8 @@ fn strided_column(
     requires start { IsPlace (held_of start.now) }
     requires end { IsPlace (held_of end.now) }
     requires stride { IsPlace (held_of stride.now) }
-    ensures { Answers view_column result (strided_elements (held_of v.now) (held_of start.now) (held_of end.now) (held_of stride.now)) }
+    ensures { Answers view_column result (strided_elements (held_of v.now) (held_of start.now)
+        (held_of end.now) (held_of stride.now)) }
 {
     strided_part(
         alloc,
@@ -136,7 +139,8 @@ fn element_in(alloc: Global, leg: &Held, number: usize) -> Result<Val, AllocErro
 pub fn row_at(alloc: Global, legs: &[Held], number: usize) -> Result<Val, AllocError>
     requires vectors { AreVectors legs.now }
     requires there { number < length_of (rows_in (leg_lists legs.now)) }
-    ensures { IfOk result (λ v. slice_get (rows_in (leg_lists legs.now)) number ≡ Some (view_val v)) }
+    ensures { IfOk result (λ v. slice_get (rows_in (leg_lists legs.now)) number
+        ≡ Some (view_val v)) }
 {
     if legs.len() == 1 {
         element_in(alloc, &legs[0], number)

@@ -19,7 +19,8 @@ use weld_tree::ManyForm;
 /// One thing more, which is copied where it is lent. After want of memory what was there is only good
 /// to be dropped.
 pub fn push_thing(things: &mut Vec<Owned>, x: Held, alloc: Global) -> Result<(), AllocError>
-    ensures { OnOk result (all_of things.new.items ≡ all_of things.old.items ++ held_of x.entry ∷ []) }
+    ensures { OnOk result (all_of things.new.items ≡ all_of things.old.items ++ held_of x.entry
+        ∷ []) }
 {
     let x = into_owned(x, alloc)?;
     things.push(x)?;
@@ -29,7 +30,8 @@ pub fn push_thing(things: &mut Vec<Owned>, x: Held, alloc: Global) -> Result<(),
 /// A vector or a struct of these things.
 pub fn many<'a>(form: ManyForm, things: Vec<Owned>, alloc: Global) -> Result<Held<'a>, Stop>
     requires { ManyTakes (view_many form) (pack_things (all_of things.items)) }
-    ensures { Answers held_of result (many_thing (view_many form) (pack_things (all_of things.items))) }
+    ensures { Answers held_of result (many_thing (view_many form)
+        (pack_things (all_of things.items))) }
 {
     match form {
         ManyForm::Vec => vector_of(things, alloc),
@@ -145,7 +147,8 @@ fn field_before(alloc: Global, x: Owned, rest: Fields) -> Result<Fields, AllocEr
 /// Appends what a row has merged to a builder. After want of memory it is only good to be dropped.
 pub fn append(builder: &mut Owned, merged: Held, alloc: Global) -> Result<(), Stop>
     requires { Join (thing_of builder.old) (held_of merged) }
-    ensures joined { OnOk result (thing_of builder.new ≡ after_thing (thing_of builder.old) (held_of merged.entry)) }
+    ensures joined { OnOk result (thing_of builder.new ≡ after_thing (thing_of builder.old)
+        (held_of merged.entry)) }
     ensures memory { OnFault result ⊥ }
 {
     let merged = match into_owned(merged, alloc) {

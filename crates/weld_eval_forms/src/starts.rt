@@ -28,7 +28,8 @@ use weld_tree::{BuildTy, Ty, TyForm};
 #[tactic(auto, using(crate::proofs::Starting::list_starts, crate::proofs::Starting::keyed_starts, crate::proofs::Starting::groups_starts, crate::proofs::Starting::total_plain, crate::proofs::Starting::total_number, crate::proofs::Starting::total_starts))]
 pub(crate) fn started<'a>(build: &BuildTy, x: Held<'a>, alloc: Global) -> Result<Held<'a>, Stop>
     requires { OneTakes (started_form (view_build build.now)) (held_of x) }
-    ensures { Answers held_of result (one_thing (started_form (view_build build.now)) (held_of x.entry)) }
+    ensures { Answers held_of result (one_thing (started_form (view_build build.now))
+        (held_of x.entry)) }
 {
     match build {
         BuildTy::Total(_, op) => match total_from(alloc, *op, value_of(&x)) {
@@ -67,7 +68,8 @@ fn totals_from(alloc: Global, op: MergeOp, fields: &Vals) -> Result<Built, Alloc
 #[tactic(auto, using(crate::proofs::Starting::cells_scalar, crate::proofs::Starting::cells_plain, crate::proofs::Starting::cells_integer, crate::proofs::Starting::cells_numbers, crate::proofs::Starting::cells_start))]
 fn started_cells<'a>(ty: &Ty, op: MergeOp, x: Held<'a>, alloc: Global) -> Result<Held<'a>, Stop>
     requires { OneTakes (started_form (cells ty.now op)) (held_of x) }
-    ensures { Answers held_of result (one_thing (started_form (cells ty.now op)) (held_of x.entry)) }
+    ensures { Answers held_of result (one_thing (started_form (cells ty.now op))
+        (held_of x.entry)) }
 {
     match cells_of(alloc, op, kind_of(ty), value_of(&x)) {
         Ok(built) => Ok(Held::Made(Owned::Built(built))),
@@ -79,7 +81,8 @@ fn started_cells<'a>(ty: &Ty, op: MergeOp, x: Held<'a>, alloc: Global) -> Result
 fn cells_of(alloc: Global, op: MergeOp, kind: Kind, v: &Val) -> Result<Built, AllocError>
     requires integer { IsInteger kind }
     requires numbers { HasValue (vec (scalar kind)) (view_val v.now) }
-    ensures { IfOk result (λ b. b ≡ cells_part op kind (numbers_in (elements_of_value (view_val v.now)))) }
+    ensures { IfOk result (λ b. b ≡ cells_part op kind (numbers_in
+        (elements_of_value (view_val v.now)))) }
 {
     match v {
         Val::List(column) => match cells_from(alloc, op, kind, column) {
@@ -113,7 +116,8 @@ fn cells_from(alloc: Global, op: MergeOp, kind: Kind, column: &Column) -> Result
 
 /// A number for the cell at an index, as it is merged.
 fn cell_item(alloc: Global, index: Num, number: Num) -> Result<Val, AllocError>
-    ensures { IfOk result (λ v. view_val v ≡ pair_value index.kind index.value number.kind number.value) }
+    ensures { IfOk result (λ v. view_val v ≡ pair_value index.kind index.value number.kind
+        number.value) }
 {
     let mut fields = Vals::new(alloc);
     fields.push(Val::Num(index))?;

@@ -27,7 +27,8 @@ pub fn three<'a>(
 ) -> Result<Held<'a>, Stop>
     requires takes { ThreeTakes (view_three form) (held_of x) (held_of y) (held_of z) }
     requires evaluated { AreAllEvaluated (view_three form) }
-    ensures { Answers held_of result (three_thing (view_three form) (held_of x.entry) (done (held_of y.entry)) (done (held_of z.entry))) }
+    ensures { Answers held_of result (three_thing (view_three form) (held_of x.entry)
+        (done (held_of y.entry)) (done (held_of z.entry))) }
 {
     match form {
         ThreeForm::Select => Ok(selected(x, y, z)),
@@ -40,7 +41,8 @@ pub fn three<'a>(
 #[tactic(auto, using(crate::proofs::ThreeShapes::condition_truth, crate::proofs::ThreeShapes::selects_second, crate::proofs::ThreeShapes::selects_third))]
 fn selected<'a>(x: Held<'a>, y: Held<'a>, z: Held<'a>) -> Held<'a>
     requires { ThreeTakes select (held_of x) (held_of y) (held_of z) }
-    ensures { three_thing select (held_of x.entry) (done (held_of y.entry)) (done (held_of z.entry)) ≡ done (held_of result) }
+    ensures { three_thing select (held_of x.entry) (done (held_of y.entry)) (done (held_of z.entry))
+        ≡ done (held_of result) }
 {
     let chosen = truth_of(value_of(&x));
     let_go(x);
@@ -57,7 +59,8 @@ fn selected<'a>(x: Held<'a>, y: Held<'a>, z: Held<'a>) -> Held<'a>
 #[tactic(auto, using(crate::proofs::ThreeShapes::vector_list, crate::proofs::ThreeShapes::start_place, crate::proofs::ThreeShapes::count_place))]
 fn sliced<'a>(x: Held<'a>, y: Held<'a>, z: Held<'a>, alloc: Global) -> Result<Held<'a>, Stop>
     requires { ThreeTakes slice (held_of x) (held_of y) (held_of z) }
-    ensures { Answers held_of result (three_thing slice (held_of x.entry) (done (held_of y.entry)) (done (held_of z.entry))) }
+    ensures { Answers held_of result (three_thing slice (held_of x.entry) (done (held_of y.entry))
+        (done (held_of z.entry))) }
 {
     let part = part_of(alloc, value_of(&x), value_of(&y), value_of(&z));
     let_go(x);

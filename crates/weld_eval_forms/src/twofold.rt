@@ -24,7 +24,8 @@ use weld_tree::TwoForm;
 pub fn two<'a>(form: TwoForm, x: Held<'a>, y: Held<'a>, alloc: Global) -> Result<Held<'a>, Stop>
     requires takes { TwoTakes (view_two form) (held_of x) (held_of y) }
     requires strict { IsStrict (view_two form) }
-    ensures { Answers held_of result (two_thing (view_two form) (held_of x.entry) (done (held_of y.entry))) }
+    ensures { Answers held_of result (two_thing (view_two form) (held_of x.entry)
+        (done (held_of y.entry))) }
 {
     match form {
         TwoForm::Binary(op) => operated_things(op, x, y),
@@ -39,7 +40,8 @@ pub fn two<'a>(form: TwoForm, x: Held<'a>, y: Held<'a>, alloc: Global) -> Result
 #[tactic(auto, using(crate::proofs::TwoShapes::left_plain, crate::proofs::TwoShapes::right_plain, crate::proofs::TwoShapes::operands))]
 fn operated_things<'a>(op: BinOp, x: Held<'a>, y: Held<'a>) -> Result<Held<'a>, Stop>
     requires { TwoTakes (binary op) (held_of x) (held_of y) }
-    ensures { Answers held_of result (two_thing (binary op) (held_of x.entry) (done (held_of y.entry))) }
+    ensures { Answers held_of result (two_thing (binary op) (held_of x.entry)
+        (done (held_of y.entry))) }
 {
     let answer = operated(op, value_of(&x), value_of(&y));
     let_go(x);
@@ -53,7 +55,8 @@ fn operated_things<'a>(op: BinOp, x: Held<'a>, y: Held<'a>) -> Result<Held<'a>, 
 /// An element of a vector or the value of a key: lent where the vector or the dictionary is.
 fn looked_up<'a>(x: Held<'a>, y: Held<'a>, alloc: Global) -> Result<Held<'a>, Stop>
     requires { TwoTakes look_up_form (held_of x) (held_of y) }
-    ensures { Answers held_of result (two_thing look_up_form (held_of x.entry) (done (held_of y.entry))) }
+    ensures { Answers held_of result (two_thing look_up_form (held_of x.entry)
+        (done (held_of y.entry))) }
 {
     match x {
         Held::Lent(v) => {
@@ -74,7 +77,8 @@ fn looked_up<'a>(x: Held<'a>, y: Held<'a>, alloc: Global) -> Result<Held<'a>, St
 #[tactic(auto, using(crate::proofs::TwoShapes::looks_up))]
 fn lent_element<'a>(v: &'a Val, y: &Held) -> Result<Held<'a>, Stop>
     requires { TwoTakes look_up_form (plain (view_val v.now)) (held_of y.now) }
-    ensures { Answers held_of result (two_thing look_up_form (plain (view_val v.now)) (done (held_of y.now))) }
+    ensures { Answers held_of result (two_thing look_up_form (plain (view_val v.now))
+        (done (held_of y.now))) }
 {
     match look_up(v, value_of(y)) {
         Ok(Element::Lent(w)) => Ok(Held::Lent(w)),
@@ -87,7 +91,8 @@ fn lent_element<'a>(v: &'a Val, y: &Held) -> Result<Held<'a>, Stop>
 #[tactic(auto, using(crate::proofs::TwoShapes::looked_plain, crate::proofs::TwoShapes::looks_up))]
 fn made_element<'a>(x: &Owned, y: &Held, alloc: Global) -> Result<Held<'a>, Stop>
     requires { TwoTakes look_up_form (thing_of x.now) (held_of y.now) }
-    ensures { Answers held_of result (two_thing look_up_form (thing_of x.now) (done (held_of y.now))) }
+    ensures { Answers held_of result (two_thing look_up_form (thing_of x.now)
+        (done (held_of y.now))) }
 {
     match x {
         Owned::Value(v) => match look_up(v, value_of(y)) {
@@ -116,7 +121,8 @@ fn made_of<'a, 'b>(element: Element<'b>, alloc: Global) -> Result<Held<'a>, Stop
 #[tactic(auto, using(crate::proofs::TwoShapes::keys_plain, crate::proofs::TwoShapes::key_plain, crate::proofs::TwoShapes::key_looked))]
 fn key_exists<'a>(x: Held<'a>, y: Held<'a>) -> Held<'a>
     requires { TwoTakes key_form (held_of x) (held_of y) }
-    ensures { two_thing key_form (held_of x.entry) (done (held_of y.entry)) ≡ done (held_of result) }
+    ensures { two_thing key_form (held_of x.entry) (done (held_of y.entry))
+        ≡ done (held_of result) }
 {
     let found = has_key(value_of(&x), value_of(&y));
     let_go(x);

@@ -1,7 +1,7 @@
-pub mod Applying
-pub mod Looping
-pub mod Moving
-pub mod Ranges
-pub mod RowsLeft
-pub mod Stepping
+mod Applying
+mod Looping
+mod Moving
+mod Ranges
+mod RowsLeft
+mod Stepping
 pub mod Tiling

@@ -21,7 +21,8 @@ use weld_tree::{ManyForm, OneForm, ThreeForm, TwoForm};
 /// Takes a step that works on the stack alone. After a stop the stack is only good to be dropped.
 pub(crate) fn apply(step: Step, stack: &mut Fields, alloc: Global) -> Result<(), Stop>
     requires { TakesStep (view_step step) (things_of stack.old) }
-    ensures { StackAnswer result (after_step (view_step step.entry) (things_of stack.old)) (things_of stack.new) }
+    ensures { StackAnswer result (after_step (view_step step.entry) (things_of stack.old))
+        (things_of stack.new) }
 {
     match step {
         Step::One(form) => apply_one(form, stack, alloc),
@@ -36,7 +37,8 @@ pub(crate) fn apply(step: Step, stack: &mut Fields, alloc: Global) -> Result<(),
 /// A form of one part, on the newest thing.
 fn apply_one(form: &OneForm, stack: &mut Fields, alloc: Global) -> Result<(), Stop>
     requires { TakesOne (view_one form.now) (things_of stack.old) }
-    ensures { StackAnswer result (one_stack (view_one form.now) (things_of stack.old)) (things_of stack.new) }
+    ensures { StackAnswer result (one_stack (view_one form.now) (things_of stack.old))
+        (things_of stack.new) }
 {
     let x = pop(stack);
     match one(form, Held::Made(x), alloc) {
@@ -48,7 +50,8 @@ fn apply_one(form: &OneForm, stack: &mut Fields, alloc: Global) -> Result<(), St
 /// A form of two parts, of which the newest thing is the second.
 fn apply_two(form: TwoForm, stack: &mut Fields, alloc: Global) -> Result<(), Stop>
     requires { TakesTwo (view_two form) (things_of stack.old) }
-    ensures { StackAnswer result (two_stack (view_two form) (things_of stack.old)) (things_of stack.new) }
+    ensures { StackAnswer result (two_stack (view_two form) (things_of stack.old))
+        (things_of stack.new) }
 {
     let y = pop(stack);
     let x = pop(stack);
@@ -61,7 +64,8 @@ fn apply_two(form: TwoForm, stack: &mut Fields, alloc: Global) -> Result<(), Sto
 /// A form of three parts, of which the newest thing is the third.
 fn apply_three(form: ThreeForm, stack: &mut Fields, alloc: Global) -> Result<(), Stop>
     requires { TakesThree (view_three form) (things_of stack.old) }
-    ensures { StackAnswer result (three_stack (view_three form) (things_of stack.old)) (things_of stack.new) }
+    ensures { StackAnswer result (three_stack (view_three form) (things_of stack.old))
+        (things_of stack.new) }
 {
     let z = pop(stack);
     let y = pop(stack);
@@ -76,7 +80,8 @@ fn apply_three(form: ThreeForm, stack: &mut Fields, alloc: Global) -> Result<(),
 /// A vector or a struct of so many of the newest things, the newest first.
 fn apply_many(form: ManyForm, count: usize, stack: &mut Fields, alloc: Global) -> Result<(), Stop>
     requires { TakesMany (view_many form) count (things_of stack.old) }
-    ensures { StackAnswer result (many_stack (view_many form) count (things_of stack.old)) (things_of stack.new) }
+    ensures { StackAnswer result (many_stack (view_many form) count (things_of stack.old))
+        (things_of stack.new) }
 {
     let mut things = Vec::new(alloc);
     for _place in 0..count {

@@ -47,7 +47,8 @@ impl<'a> Env<'a> {
         requires fit { ArgumentsFit plan.now.program.now.params inputs.now }
         ensures ready { IfOk result (λ env. IsReady plan.now env) }
         ensures inputs { IfOk result (λ env. env_inputs env ≡ inputs.now) }
-        ensures rows { IfOk result (λ env. (v : Value) → meaning plan.now.program.now inputs.now ≡ done v → rows_left plan.now env ≡ program_rows plan.now.program.now inputs.now) }
+        ensures rows { IfOk result (λ env. (v : Value) → meaning plan.now.program.now inputs.now
+            ≡ done v → rows_left plan.now env ≡ program_rows plan.now.program.now inputs.now) }
     {
         let _plan = plan;
         Ok(Env {
@@ -111,10 +112,12 @@ impl<'a> Env<'a> {
     pub fn begin(&self, plan: &Plan, at: LoopId, alloc: Global) -> Result<Joined, AllocError>
         requires { AtLoop plan.now self.now at }
         ensures whole { IfOk result (λ j. IsWhole j) }
-        ensures thing { IfOk result (λ j. joined_thing j ≡ (evaluation_of plan.now self.now).start) }
+        ensures thing { IfOk result (λ j. joined_thing j
+            ≡ (evaluation_of plan.now self.now).start) }
         ensures next { IfOk result (λ j. j.next ≡ 0) }
         ensures end { IfOk result (λ j. j.end ≡ 0) }
-        ensures evaluation { IfOk result (λ j. joined_evaluation j ≡ evaluation_of plan.now self.now) }
+        ensures evaluation { IfOk result (λ j. joined_evaluation j
+            ≡ evaluation_of plan.now self.now) }
     {
         let _at = at;
         match &self.stack {
@@ -143,7 +146,8 @@ impl<'a> Env<'a> {
         ensures ready { OnOk result (IsReady plan.now self.new) }
         ensures inputs { env_inputs self.new ≡ env_inputs self.old }
         ensures left { OnOk result (left_of plan.now self.new < left_of plan.now self.old) }
-        ensures rows { OnOk result (rows_left plan.now self.old ≡ rows_at self.old ∷ rows_left plan.now self.new) }
+        ensures rows { OnOk result (rows_left plan.now self.old
+            ≡ rows_at self.old ∷ rows_left plan.now self.new) }
     {
         let _at = at;
         let node = loop_at(plan, self.at);
@@ -176,7 +180,8 @@ fn joined_of(_plan: &Plan, _env: &Env, start: Owned) -> Joined
 #[tactic(auto, using(crate::proofs::Looping::next_there))]
 pub(crate) fn loop_at<'a>(plan: &Plan<'a>, at: usize) -> &'a Expr
     requires { IsLoopNext (drop at (view_steps plan.now.steps.items)) }
-    ensures { result.now ≡ loop_node plan.now.program.now.body (drop at (view_steps plan.now.steps.items)) }
+    ensures { result.now ≡ loop_node plan.now.program.now.body
+        (drop at (view_steps plan.now.steps.items)) }
 {
     match plan.steps[at] {
         Step::Loop(node, _) => node,

@@ -29,8 +29,10 @@ pub(crate) fn compute(
     names: &Names,
     alloc: Global,
 ) -> Result<Owned, Stop>
-    requires { IsFit e.now (env_of_names names.now ++ with_arguments program.now.params inputs.now) }
-    ensures { Answers thing_of result (eval_of e.now (env_of_names names.now ++ with_arguments program.now.params inputs.now)) }
+    requires { IsFit e.now (env_of_names names.now ++ with_arguments program.now.params
+        inputs.now) }
+    ensures { Answers thing_of result (eval_of e.now (env_of_names names.now
+        ++ with_arguments program.now.params inputs.now)) }
 {
     let base = parameters(program, inputs);
     let frame = within(names, &base);
@@ -50,8 +52,10 @@ pub(crate) fn take_turns(
     alloc: Global,
 ) -> Result<Owned, Stop>
     requires form { IsIterate e.now }
-    requires state { HoldsState e.now (env_of_names names.now ++ with_arguments program.now.params inputs.now) (view_val state) }
-    ensures { Answers thing_of result (turns_from e.now (env_of_names names.now ++ with_arguments program.now.params inputs.now) turn_limit (view_val state)) }
+    requires state { HoldsState e.now (env_of_names names.now
+        ++ with_arguments program.now.params inputs.now) (view_val state) }
+    ensures { Answers thing_of result (turns_from e.now (env_of_names names.now
+        ++ with_arguments program.now.params inputs.now) turn_limit (view_val state)) }
 {
     let base = parameters(program, inputs);
     let frame = within(names, &base);

@@ -46,9 +46,12 @@ fn gather<'a>(
     vectors: &mut Vec<Held<'a>>,
     alloc: Global,
 ) -> Result<(), Stop>
-    requires legs { LegsStand (pack_legs (map view_leg legs.now)) (env_of frame.now) (things_of stack.now) }
+    requires legs { LegsStand (pack_legs (map view_leg legs.now)) (env_of frame.now)
+        (things_of stack.now) }
     requires vectors { AreVectors vectors.old.items }
-    ensures lists { OnOk result (leg_lists vectors.new.items ≡ leg_lists vectors.old.items ++ lists_in (pack_legs (map view_leg legs.now)) (env_of frame.now) (things_of stack.now)) }
+    ensures lists { OnOk result (leg_lists vectors.new.items
+        ≡ leg_lists vectors.old.items ++ lists_in (pack_legs (map view_leg legs.now))
+        (env_of frame.now) (things_of stack.now)) }
     ensures vectors { OnOk result (AreVectors vectors.new.items) }
     ensures memory { OnFault result ⊥ }
 {
@@ -87,9 +90,12 @@ pub(crate) fn count(
     stack: &Fields,
     alloc: Global,
 ) -> Result<usize, Stop>
-    requires fit { IsFit node.now (env_of_names names.now ++ with_arguments program.now.params inputs.now) }
-    requires at { IsAtLoop node.now (env_of_names names.now ++ with_arguments program.now.params inputs.now) (things_of stack.now) }
-    ensures { CountAnswer result (loop_lists node.now (env_of_names names.now ++ with_arguments program.now.params inputs.now) (rest_of (things_of stack.now))) }
+    requires fit { IsFit node.now (env_of_names names.now
+        ++ with_arguments program.now.params inputs.now) }
+    requires at { IsAtLoop node.now (env_of_names names.now
+        ++ with_arguments program.now.params inputs.now) (things_of stack.now) }
+    ensures { CountAnswer result (loop_lists node.now (env_of_names names.now
+        ++ with_arguments program.now.params inputs.now) (rest_of (things_of stack.now))) }
 {
     let base = parameters(program, inputs);
     let frame = within(names, &base);
@@ -112,7 +118,8 @@ pub(crate) fn vectors_of<'a>(
 ) -> Result<Vec<Held<'a>>, Stop>
     requires fit { IsFit node.now (env_of frame.now) }
     requires pile { HasPile node.now (env_of frame.now) (things_of pile.now) }
-    ensures lists { IfOk result (λ vectors. leg_lists vectors.items ≡ loop_lists node.now (env_of frame.now) (things_of pile.now)) }
+    ensures lists { IfOk result (λ vectors. leg_lists vectors.items
+        ≡ loop_lists node.now (env_of frame.now) (things_of pile.now)) }
     ensures vectors { IfOk result (λ vectors. AreVectors vectors.items) }
     ensures memory { OnFault result ⊥ }
 {
@@ -181,7 +188,8 @@ pub(crate) fn drop_vectors(node: &Expr, stack: &mut Fields)
 /// The same leg by leg.
 fn drop_legs(legs: &[Leg], stack: &mut Fields)
     requires { AreThere (pack_legs (map view_leg legs.now)) (things_of stack.old) }
-    ensures { things_of stack.new ≡ below_legs (pack_legs (map view_leg legs.now)) (things_of stack.old) }
+    ensures { things_of stack.new ≡ below_legs (pack_legs (map view_leg legs.now))
+        (things_of stack.old) }
 {
     match legs.split_first() {
         None => {}

@@ -31,8 +31,11 @@ pub(crate) fn run_rows(
     alloc: Global,
 ) -> Result<(), Stop>
     requires vectors { AreVectors vectors.now }
-    requires holds { HoldsRange node.now (env_of frame.now) (leg_lists vectors.now) tile.lo tile.hi (thing_of builder.old) }
-    ensures { RangeAnswer result (record { node = node.now; names = env_of frame.now; lists = leg_lists vectors.now; start = thing_of builder.old }) tile.lo tile.hi (thing_of builder.old) (thing_of builder.new) }
+    requires holds { HoldsRange node.now (env_of frame.now) (leg_lists vectors.now) tile.lo tile.hi
+        (thing_of builder.old) }
+    ensures { RangeAnswer result (record { node = node.now; names = env_of frame.now; lists =
+        leg_lists vectors.now; start = thing_of builder.old }) tile.lo tile.hi
+        (thing_of builder.old) (thing_of builder.new) }
 {
     match make_room(node, tile, builder) {
         Ok(()) => run_in_room(node, frame, vectors, tile, builder, alloc),
@@ -50,8 +53,11 @@ fn run_in_room(
     alloc: Global,
 ) -> Result<(), Stop>
     requires vectors { AreVectors vectors.now }
-    requires holds { HoldsRange node.now (env_of frame.now) (leg_lists vectors.now) tile.lo tile.hi (thing_of builder.old) }
-    ensures { RangeAnswer result (record { node = node.now; names = env_of frame.now; lists = leg_lists vectors.now; start = thing_of builder.old }) tile.lo tile.hi (thing_of builder.old) (thing_of builder.new) }
+    requires holds { HoldsRange node.now (env_of frame.now) (leg_lists vectors.now) tile.lo tile.hi
+        (thing_of builder.old) }
+    ensures { RangeAnswer result (record { node = node.now; names = env_of frame.now; lists =
+        leg_lists vectors.now; start = thing_of builder.old }) tile.lo tile.hi
+        (thing_of builder.old) (thing_of builder.new) }
 {
     let end = no_legs();
     run_tile_rows(
@@ -80,8 +86,12 @@ fn run_tile_rows(
 ) -> Result<(), Stop>
     requires vectors { AreVectors vectors.now }
     requires left { left ≤ length vectors.now }
-    requires holds { HoldsRange node.now (env_of frame.now) (leg_lists (take left vectors.now) ++ lists_of legs.now) tile.lo tile.hi (thing_of builder.old) }
-    ensures { RangeAnswer result (record { node = node.now; names = env_of frame.now; lists = leg_lists (take left vectors.now) ++ lists_of legs.now; start = thing_of builder.old }) tile.lo tile.hi (thing_of builder.old) (thing_of builder.new) }
+    requires holds { HoldsRange node.now (env_of frame.now)
+        (leg_lists (take left vectors.now) ++ lists_of legs.now) tile.lo tile.hi
+        (thing_of builder.old) }
+    ensures { RangeAnswer result (record { node = node.now; names = env_of frame.now; lists =
+        leg_lists (take left vectors.now) ++ lists_of legs.now; start = thing_of builder.old })
+        tile.lo tile.hi (thing_of builder.old) (thing_of builder.new) }
 {
     if left == 0 {
         run_legs(node, frame, legs, tile, builder, alloc)
@@ -109,8 +119,11 @@ fn run_legs(
     builder: &mut Owned,
     alloc: Global,
 ) -> Result<(), Stop>
-    requires { HoldsRange node.now (env_of frame.now) (lists_of legs.now) tile.lo tile.hi (thing_of builder.old) }
-    ensures { RangeAnswer result (record { node = node.now; names = env_of frame.now; lists = lists_of legs.now; start = thing_of builder.old }) tile.lo tile.hi (thing_of builder.old) (thing_of builder.new) }
+    requires { HoldsRange node.now (env_of frame.now) (lists_of legs.now) tile.lo tile.hi
+        (thing_of builder.old) }
+    ensures { RangeAnswer result (record { node = node.now; names = env_of frame.now; lists =
+        lists_of legs.now; start = thing_of builder.old }) tile.lo tile.hi (thing_of builder.old)
+        (thing_of builder.new) }
 {
     let from = tile.lo as usize;
     let to = tile.hi as usize;

@@ -48,7 +48,8 @@ pub(crate) fn push(stack: &mut Fields, x: Owned, alloc: Global) -> Result<(), Al
 
 /// Puts a thing on the stack, which is copied where it is lent. Where memory is wanting, the stack is lost.
 pub(crate) fn put(stack: &mut Fields, x: Held, alloc: Global) -> Result<(), Stop>
-    ensures there { OnOk result (things_of stack.new ≡ more_things (held_of x.entry) (things_of stack.old)) }
+    ensures there { OnOk result (things_of stack.new ≡ more_things (held_of x.entry)
+        (things_of stack.old)) }
     ensures memory { OnFault result ⊥ }
 {
     let x = match into_owned(x, alloc) {

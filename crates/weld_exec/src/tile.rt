@@ -99,8 +99,11 @@ pub fn run_in(
     part: &mut Owned,
 ) -> Result<(), Stop>
     requires at { AtLoop plan.now env.now at }
-    requires holds { HoldsRange (evaluation_of plan.now env.now).node (evaluation_of plan.now env.now).names (evaluation_of plan.now env.now).lists tile.lo tile.hi (thing_of part.old) }
-    ensures { RangeAnswer result (evaluation_of plan.now env.now) tile.lo tile.hi (thing_of part.old) (thing_of part.new) }
+    requires holds { HoldsRange (evaluation_of plan.now env.now).node
+        (evaluation_of plan.now env.now).names (evaluation_of plan.now env.now).lists tile.lo
+        tile.hi (thing_of part.old) }
+    ensures { RangeAnswer result (evaluation_of plan.now env.now) tile.lo tile.hi
+        (thing_of part.old) (thing_of part.new) }
 {
     let _at = at;
     let node = loop_at(plan, env.at);
@@ -122,8 +125,12 @@ fn over_pile<'a>(
     alloc: Global,
 ) -> Result<(), Stop>
     requires pile { HasPile node.now (env_of frame.now) (things_of pile.now) }
-    requires holds { HoldsRange node.now (env_of frame.now) (loop_lists node.now (env_of frame.now) (things_of pile.now)) tile.lo tile.hi (thing_of part.old) }
-    ensures { RangeAnswer result (record { node = node.now; names = env_of frame.now; lists = loop_lists node.now (env_of frame.now) (things_of pile.now); start = thing_of part.old }) tile.lo tile.hi (thing_of part.old) (thing_of part.new) }
+    requires holds { HoldsRange node.now (env_of frame.now)
+        (loop_lists node.now (env_of frame.now) (things_of pile.now)) tile.lo tile.hi
+        (thing_of part.old) }
+    ensures { RangeAnswer result (record { node = node.now; names = env_of frame.now; lists =
+        loop_lists node.now (env_of frame.now) (things_of pile.now); start = thing_of part.old })
+        tile.lo tile.hi (thing_of part.old) (thing_of part.new) }
 {
     match vectors_of(node, pile, frame, alloc) {
         Ok(vectors) => run_rows(node, &*frame, &vectors, tile, part, alloc),

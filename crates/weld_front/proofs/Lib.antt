@@ -1,11 +1,11 @@
-pub mod EachAnswer
-pub mod Sinks
-pub mod AnswerLemmas
-pub mod OneAnswer
-pub mod Accepts
+mod EachAnswer
+mod Sinks
+mod AnswerLemmas
+mod OneAnswer
+mod Accepts
 mod Noted
-pub mod Asking
+mod Asking
 mod Counting
 mod ScriptLemmas
 mod FrontLemmas
-pub mod Counts
+mod Counts

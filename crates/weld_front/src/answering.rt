@@ -114,7 +114,8 @@ fn read_answer<R: Threads + Sync, S: Source, G: Gate>(
     gate: &G,
 ) -> Result<Answer, NoAnswer>
     requires { reads_a_job asked.options.command ≡ true }
-    ensures ok { IfOk result (λ answer. IfSome (S.left input.old) (λ bytes. Answers asked.options bytes answer.status answer.text)) }
+    ensures ok { IfOk result (λ answer. IfSome (S.left input.old)
+        (λ bytes. Answers asked.options bytes answer.status answer.text)) }
     ensures status { IfOk result (λ answer. IsOfJob answer.status) }
     ensures extent { OnOk result (Extent (S.left input.old) (S.left input.new)) }
     ensures read { result ≡ Err NoAnswer.Read → Rises (S.faults input.old) (S.faults input.new) }
@@ -162,10 +163,13 @@ pub fn find_answer<R: Threads + Sync, S: Source, G: Gate>(
     input: &mut S,
     gate: &G,
 ) -> Result<Answer, NoAnswer>
-    ensures ok { IfOk result (λ answer. IfSome (job_bytes asked.options (S.left input.old)) (λ bytes. Answers asked.options bytes answer.status answer.text)) }
+    ensures ok { IfOk result (λ answer. IfSome (job_bytes asked.options (S.left input.old))
+        (λ bytes. Answers asked.options bytes answer.status answer.text)) }
     ensures status { IfOk result (λ answer. IsOfJob answer.status) }
-    ensures extent { reads_a_job asked.options.command ≡ true → OnOk result (Extent (S.left input.old) (S.left input.new)) }
-    ensures unread { reads_a_job asked.options.command ≡ false → (S.left input.new ≡ S.left input.old) × (S.faults input.new ≡ S.faults input.old) }
+    ensures extent { reads_a_job asked.options.command ≡ true
+        → OnOk result (Extent (S.left input.old) (S.left input.new)) }
+    ensures unread { reads_a_job asked.options.command ≡ false
+        → (S.left input.new ≡ S.left input.old) × (S.faults input.new ≡ S.faults input.old) }
     ensures read { result ≡ Err NoAnswer.Read → Rises (S.faults input.old) (S.faults input.new) }
     ensures taken { Takes (S.left input.old) (S.left input.new) }
     ensures never_falls { S.faults input.old ≤ S.faults input.new }

@@ -33,32 +33,47 @@ pub fn weld_main<R: Threads + Sync, S: Source, K: Sink, G: Gate>(
     gate: &G,
 ) -> Status
     // The answer of the job, where the source tells its bytes: its status, and its text in the sink.
-    ensures done { result ≡ Status.Done → DeliversFor (map string_bytes words.now) (S.left input.old) (K.held output.old) (K.held output.new) Status.Done }
-    ensures fault { result ≡ Status.Fault → DeliversFor (map string_bytes words.now) (S.left input.old) (K.held output.old) (K.held output.new) Status.Fault }
-    ensures refused { result ≡ Status.Refused → DeliversFor (map string_bytes words.now) (S.left input.old) (K.held output.old) (K.held output.new) Status.Refused }
-    ensures unfit { result ≡ Status.Unfit → DeliversFor (map string_bytes words.now) (S.left input.old) (K.held output.old) (K.held output.new) Status.Unfit }
+    ensures done { result ≡ Status.Done → DeliversFor (map string_bytes words.now)
+        (S.left input.old) (K.held output.old) (K.held output.new) Status.Done }
+    ensures fault { result ≡ Status.Fault → DeliversFor (map string_bytes words.now)
+        (S.left input.old) (K.held output.old) (K.held output.new) Status.Fault }
+    ensures refused { result ≡ Status.Refused → DeliversFor (map string_bytes words.now)
+        (S.left input.old) (K.held output.old) (K.held output.new) Status.Refused }
+    ensures unfit { result ≡ Status.Unfit → DeliversFor (map string_bytes words.now)
+        (S.left input.old) (K.held output.old) (K.held output.new) Status.Unfit }
 
     // Where the words are in form and no call failed, the status is that of the job, or memory was wanting.
-    ensures complete { AreServed (map string_bytes words.now) → (Rises (S.faults input.old) (S.faults input.new) → ⊥)
-        → (Rises (K.faults output.old) (K.faults output.new) → ⊥) → CompletesFor (map string_bytes words.now) (S.left input.old) result }
+    ensures complete { AreServed (map string_bytes words.now)
+        → (Rises (S.faults input.old) (S.faults input.new) → ⊥)
+        → (Rises (K.faults output.old) (K.faults output.new) → ⊥)
+        → CompletesFor (map string_bytes words.now) (S.left input.old) result }
 
     // Words that aren't in form: the usage line is written. Nothing is read there, nor for `soak`.
-    ensures words { result ≡ Status.Words → Appends (K.held output.old) (K.held output.new) usage_text }
+    ensures words { result ≡ Status.Words → Appends (K.held output.old) (K.held output.new)
+        usage_text }
     ensures words_only { result ≡ Status.Words → AreServed (map string_bytes words.now) → ⊥ }
-    ensures words_always { (AreServed (map string_bytes words.now) → ⊥) → (result ≡ Status.Words) ⊎ ((result ≡ Status.Write) ⊎ (result ≡ Status.Memory)) }
-    ensures unread { (AskForAJob (map string_bytes words.now) → ⊥) → (S.left input.new ≡ S.left input.old) × (S.faults input.new ≡ S.faults input.old) }
+    ensures words_always { (AreServed (map string_bytes words.now) → ⊥)
+        → (result ≡ Status.Words) ⊎ ((result ≡ Status.Write) ⊎ (result ≡ Status.Memory)) }
+    ensures unread { (AskForAJob (map string_bytes words.now) → ⊥)
+        → (S.left input.new ≡ S.left input.old) × (S.faults input.new ≡ S.faults input.old) }
 
     // Failures have their cause in a count, and leave a front of the answer or nothing.
     ensures read { result ≡ Status.Read → Rises (S.faults input.old) (S.faults input.new) }
     ensures write { result ≡ Status.Write → Rises (K.faults output.old) (K.faults output.new) }
-    ensures write_front { result ≡ Status.Write → AreServed (map string_bytes words.now) → DeliversFrontFor (map string_bytes words.now) (S.left input.old) (K.held output.old) (K.held output.new) }
-    ensures usage_front { result ≡ Status.Write → (AreServed (map string_bytes words.now) → ⊥) → AppendsFront (K.held output.old) (K.held output.new) usage_text }
-    ensures silent { IsSilent result → (K.held output.new ≡ K.held output.old) × (K.settled output.new ≡ K.settled output.old) × (K.faults output.new ≡ K.faults output.old) }
+    ensures write_front { result ≡ Status.Write → AreServed (map string_bytes words.now)
+        → DeliversFrontFor (map string_bytes words.now) (S.left input.old) (K.held output.old)
+        (K.held output.new) }
+    ensures usage_front { result ≡ Status.Write → (AreServed (map string_bytes words.now) → ⊥)
+        → AppendsFront (K.held output.old) (K.held output.new) usage_text }
+    ensures silent { IsSilent result → (K.held output.new ≡ K.held output.old)
+        × (K.settled output.new ≡ K.settled output.old) × (K.faults output.new
+        ≡ K.faults output.old) }
 
     // What a call leaves.
     ensures unsettled { result ≡ Status.Write → K.settled output.new ≡ K.settled output.old }
     ensures settled { IsWritten result → IsSettled (K.held output.new) (K.settled output.new) }
-    ensures extent { AskForAJob (map string_bytes words.now) → IsFound result → Extent (S.left input.old) (S.left input.new) }
+    ensures extent { AskForAJob (map string_bytes words.now) → IsFound result
+        → Extent (S.left input.old) (S.left input.new) }
     ensures taken { Takes (S.left input.old) (S.left input.new) }
     ensures source_never_falls { S.faults input.old ≤ S.faults input.new }
     ensures sink_never_falls { K.faults output.old ≤ K.faults output.new }
@@ -79,9 +94,13 @@ pub fn weld_main<R: Threads + Sync, S: Source, K: Sink, G: Gate>(
 /// Writes the text of an answer, and answers its status, or Write where a write or the flush failed.
 fn conclude<K: Sink>(output: &mut K, status: Status, text: &[u8]) -> Status
     ensures status { (result ≡ status) ⊎ (result ≡ Status.Write) }
-    ensures written { (result ≡ Status.Write → ⊥) → Appends (K.held output.old) (K.held output.new) text.now × IsSettled (K.held output.new) (K.settled output.new) }
-    ensures write { status ≢ Status.Write → result ≡ Status.Write → Rises (K.faults output.old) (K.faults output.new) × AppendsFront (K.held output.old) (K.held output.new) text.now }
-    ensures unsettled { status ≢ Status.Write → result ≡ Status.Write → K.settled output.new ≡ K.settled output.old }
+    ensures written { (result ≡ Status.Write → ⊥) → Appends (K.held output.old) (K.held output.new)
+        text.now × IsSettled (K.held output.new) (K.settled output.new) }
+    ensures write { status ≢ Status.Write → result ≡ Status.Write
+        → Rises (K.faults output.old) (K.faults output.new)
+        × AppendsFront (K.held output.old) (K.held output.new) text.now }
+    ensures unsettled { status ≢ Status.Write → result ≡ Status.Write
+        → K.settled output.new ≡ K.settled output.old }
     ensures never_falls { K.faults output.old ≤ K.faults output.new }
 {
     match deliver(output, text) {

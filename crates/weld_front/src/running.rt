@@ -84,7 +84,8 @@ fn run_on<R: Threads + Sync, G: Gate>(
     requires typed { ProgramHas program ty.now }
     requires noted { ProgramIsNoted program }
     requires fit { ArgumentsFit program.params arguments }
-    ensures { IfOk result (λ answer. ProgramConcludes asked.options program ty.now arguments answer.status answer.text) }
+    ensures { IfOk result (λ answer. ProgramConcludes asked.options program ty.now arguments
+        answer.status answer.text) }
 {
     typed_programs_are_never_stuck();
     let loops = count_loops(program.program());
@@ -136,7 +137,8 @@ fn run_job<R: Threads + Sync, G: Gate>(
 ) -> Result<Answer, AllocError>
     requires typed { ProgramHas checked.program checked.ty }
     requires noted { ProgramIsNoted checked.program }
-    ensures { IfOk result (λ answer. ProgramAnswers asked.options checked.program checked.ty job answer.status answer.text) }
+    ensures { IfOk result (λ answer. ProgramAnswers asked.options checked.program checked.ty job
+        answer.status answer.text) }
 {
     let Checked { program, ty } = checked;
     match take_arguments(rt, alloc, &program, job, asked.options.workers) {

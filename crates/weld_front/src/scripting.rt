@@ -110,7 +110,8 @@ fn conclude_script<R: Threads + Sync, G: Gate>(
     gate: &G,
 ) -> Result<Answer, AllocError>
     requires { AreInputs (declared_of script.now.made) inputs }
-    ensures { IfOk result (λ answer. ScriptConcludes asked.options script.now inputs answer.status answer.text) }
+    ensures { IfOk result (λ answer. ScriptConcludes asked.options script.now inputs answer.status
+        answer.text) }
 {
     typed_programs_are_never_stuck();
     let Gathered {
@@ -164,7 +165,8 @@ fn answer_script<R: Threads + Sync, G: Gate>(
     asked: Asked,
     gate: &G,
 ) -> Result<Answer, AllocError>
-    ensures { IfOk result (λ answer. ScriptAnswers asked.options script.now job answer.status answer.text) }
+    ensures { IfOk result (λ answer. ScriptAnswers asked.options script.now job answer.status
+        answer.text) }
 {
     match take_inputs(rt, alloc, script, job, asked.options.workers) {
         Ok(inputs) => conclude_script(rt, alloc, script, inputs, asked, gate),

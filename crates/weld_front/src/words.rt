@@ -13,8 +13,10 @@ pub const USAGE: &[u8] =
 /// alone.
 #[tactic(auto, using(crate::proofs::Asking::workers_asked, crate::proofs::Asking::few_asked, crate::proofs::Asking::rows_asked, crate::proofs::Asking::seed_asked, crate::proofs::Asking::few_rows_asked))]
 pub fn read_asked(alloc: Global, words: &[String]) -> Result<Option<Asked>, AllocError>
-    ensures found { IfOk result (λ asked. IfSome asked (λ a. Asks (map string_bytes words.now) a.options)) }
-    ensures none { IfOk result (λ asked. IfNone asked (AreServed (map string_bytes words.now) → ⊥)) }
+    ensures found { IfOk result (λ asked. IfSome asked (λ a. Asks (map string_bytes words.now)
+        a.options)) }
+    ensures none { IfOk result (λ asked. IfNone asked (AreServed (map string_bytes words.now)
+        → ⊥)) }
 {
     match read_words(alloc, words) {
         Ok(options) => Ok(Some(Asked { options })),

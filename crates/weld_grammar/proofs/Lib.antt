@@ -1,8 +1,8 @@
-pub mod Table
+mod Table
 pub mod Opening
-pub mod Trees
-pub mod Made
-pub mod Kept
-pub mod Reached
-pub mod Unique
-pub mod Broken
+mod Trees
+mod Made
+mod Kept
+mod Reached
+mod Unique
+mod Broken

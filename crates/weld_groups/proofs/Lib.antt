@@ -1,2 +1,2 @@
-pub mod ListLemmas
-pub mod GroupsLemmas
+mod ListLemmas
+mod GroupsLemmas

@@ -123,7 +123,8 @@ impl GroupsPart {
     fn append_at_value(&mut self, key: Val, list: ListPart) -> Result<(), AllocError>
         requires key { IsKeptKey self.old.key (view_val key) }
         requires items { kind_of_items list ≡ self.old.items }
-        ensures ok { OnOk result (self.new.groups ≡ merge_key appended self.old.groups (view_val key) (items_of_list list)) }
+        ensures ok { OnOk result (self.new.groups ≡ merge_key appended self.old.groups
+            (view_val key) (items_of_list list)) }
         ensures key { self.new.key ≡ self.old.key }
         ensures items { self.new.items ≡ self.old.items }
     {
@@ -148,7 +149,8 @@ impl GroupsPart {
         requires kept { self.old.key ≡ Some key_kind }
         requires key { InRange key_kind key }
         requires item { IsKeptAs self.old.items (view_val item) }
-        ensures ok { OnOk result (self.new.groups ≡ merge_key appended self.old.groups (number key_kind key) (view_val item ∷ [])) }
+        ensures ok { OnOk result (self.new.groups ≡ merge_key appended self.old.groups
+            (number key_kind key) (view_val item ∷ [])) }
         ensures err { OnErr result (self.new.groups ≡ self.old.groups) }
         ensures key { self.new.key ≡ self.old.key }
         ensures items { self.new.items ≡ self.old.items }
@@ -161,7 +163,8 @@ impl GroupsPart {
     pub fn push_at_value(&mut self, key: Val, item: Val) -> Result<(), AllocError>
         requires key { IsKeptKey self.old.key (view_val key) }
         requires item { IsKeptAs self.old.items (view_val item) }
-        ensures ok { OnOk result (self.new.groups ≡ merge_key appended self.old.groups (view_val key) (view_val item ∷ [])) }
+        ensures ok { OnOk result (self.new.groups ≡ merge_key appended self.old.groups
+            (view_val key) (view_val item ∷ [])) }
         ensures err { OnErr result (self.new.groups ≡ self.old.groups) }
         ensures key { self.new.key ≡ self.old.key }
         ensures items { self.new.items ≡ self.old.items }
@@ -180,7 +183,8 @@ impl GroupsPart {
     pub fn append(&mut self, later: GroupsPart) -> Result<(), AllocError>
         requires key { self.old.key ≡ later.key }
         requires items { self.old.items ≡ later.items }
-        ensures ok { OnOk result (self.new.groups ≡ join_maps appended self.old.groups later.groups) }
+        ensures ok { OnOk result (self.new.groups ≡ join_maps appended self.old.groups
+            later.groups) }
         ensures key { self.new.key ≡ self.old.key }
         ensures items { self.new.items ≡ self.old.items }
     {
@@ -197,7 +201,8 @@ impl GroupsPart {
     pub fn into_pairs(self, alloc: Global) -> Result<Pairs, AllocError>
         requires kept { KeysAreKept self.key self.groups }
         requires one_type { HasOneKeyType self.groups }
-        ensures { IfOk result (λ pairs. pairs ≡ shown itself list_value (finite.entries self.groups)) }
+        ensures { IfOk result (λ pairs. pairs ≡ shown itself list_value
+            (finite.entries self.groups)) }
     {
         let GroupsPart {
             alloc: _,
@@ -223,7 +228,8 @@ fn number_in(
     requires kept { kind_of_keys map.old ≡ Some key_kind }
     requires lists { AreGroupsOf items map.old }
     requires item { IsKeptAs items (view_val item) }
-    ensures ok { OnOk result (groups_in map.new ≡ merge_key appended (groups_in map.old) (number key_kind key) (view_val item ∷ [])) }
+    ensures ok { OnOk result (groups_in map.new ≡ merge_key appended (groups_in map.old)
+        (number key_kind key) (view_val item ∷ [])) }
     ensures err { OnErr result (groups_in map.new ≡ groups_in map.old) }
     ensures lists { AreGroupsOf items map.new }
     ensures kept { kind_of_keys map.new ≡ kind_of_keys map.old }
@@ -249,7 +255,8 @@ fn value_in(
     requires lists { AreGroupsOf items map.old }
     requires key { IsKey (view_val key) }
     requires item { IsKeptAs items (view_val item) }
-    ensures ok { OnOk result (groups_in map.new ≡ merge_key appended (groups_in map.old) (view_val key) (view_val item ∷ [])) }
+    ensures ok { OnOk result (groups_in map.new ≡ merge_key appended (groups_in map.old)
+        (view_val key) (view_val item ∷ [])) }
     ensures err { OnErr result (groups_in map.new ≡ groups_in map.old) }
     ensures lists { AreGroupsOf items map.new }
     ensures kept { kind_of_keys map.new ≡ kind_of_keys map.old }
@@ -274,7 +281,8 @@ fn list_in_numbers(
     requires kept { kind_of_keys map.old ≡ Some key_kind }
     requires lists { AreGroupsOf items map.old }
     requires items { kind_of_items list ≡ items }
-    ensures ok { OnOk result (groups_in map.new ≡ merge_key appended (groups_in map.old) (number key_kind key) (items_of_list list)) }
+    ensures ok { OnOk result (groups_in map.new ≡ merge_key appended (groups_in map.old)
+        (number key_kind key) (items_of_list list)) }
     ensures lists { AreGroupsOf items map.new }
     ensures kept { kind_of_keys map.new ≡ kind_of_keys map.old }
 {
@@ -298,7 +306,8 @@ fn list_in_values(
     requires lists { AreGroupsOf items map.old }
     requires key { IsKey (view_val key) }
     requires items { kind_of_items list ≡ items }
-    ensures ok { OnOk result (groups_in map.new ≡ merge_key appended (groups_in map.old) (view_val key) (items_of_list list)) }
+    ensures ok { OnOk result (groups_in map.new ≡ merge_key appended (groups_in map.old)
+        (view_val key) (items_of_list list)) }
     ensures lists { AreGroupsOf items map.new }
     ensures kept { kind_of_keys map.new ≡ kind_of_keys map.old }
 {
@@ -320,7 +329,8 @@ fn all_in(
     requires kept { kind_of_keys map.old ≡ kind_of_keys later }
     requires lists { AreGroupsOf items map.old }
     requires later { AreGroupsOf items later }
-    ensures ok { OnOk result (groups_in map.new ≡ join_maps appended (groups_in map.old) (groups_in later)) }
+    ensures ok { OnOk result (groups_in map.new ≡ join_maps appended (groups_in map.old)
+        (groups_in later)) }
     ensures lists { AreGroupsOf items map.new }
     ensures kept { kind_of_keys map.new ≡ kind_of_keys map.old }
 {
@@ -344,7 +354,8 @@ fn add_map(part: &mut GroupsPart, alloc: Global, map: &KeyMap<ListPart>) -> Resu
     requires kept { KeysAreKept (kind_of_keys map.now) (groups_in map.now) }
     requires lists { CanKeepEach part.old.items (all_lists map.now) }
     requires key { CanKeep part.old.key (kind_of_keys map.now) }
-    ensures ok { OnOk result (part.new.groups ≡ join_maps appended part.old.groups (groups_in map.now)) }
+    ensures ok { OnOk result (part.new.groups ≡ join_maps appended part.old.groups
+        (groups_in map.now)) }
     ensures key { part.new.key ≡ part.old.key }
     ensures items { part.new.items ≡ part.old.items }
 {
@@ -361,10 +372,12 @@ fn add_sorted_numbers(
     key_kind: Kind,
     map: &IndexMap<i64, ListPart>,
 ) -> Result<(), AllocError>
-    requires kept { KeysAreKept (Some key_kind) (map_of (number key_kind) (lists_in map.now.entries)) }
+    requires kept { KeysAreKept (Some key_kind) (map_of (number key_kind)
+        (lists_in map.now.entries)) }
     requires lists { CanKeepEach part.old.items (values_of map.now.entries) }
     requires key { CanKeep part.old.key (Some key_kind) }
-    ensures ok { OnOk result (part.new.groups ≡ join_maps appended part.old.groups (map_of (number key_kind) (lists_in map.now.entries))) }
+    ensures ok { OnOk result (part.new.groups ≡ join_maps appended part.old.groups
+        (map_of (number key_kind) (lists_in map.now.entries))) }
     ensures key { part.new.key ≡ part.old.key }
     ensures items { part.new.items ≡ part.old.items }
 {
@@ -380,7 +393,8 @@ fn add_sorted_values(
 ) -> Result<(), AllocError>
     requires lists { CanKeepEach part.old.items (values_of map.now.entries) }
     requires key { part.old.key ≡ None }
-    ensures ok { OnOk result (part.new.groups ≡ join_maps appended part.old.groups (map_of itself (lists_in map.now.entries))) }
+    ensures ok { OnOk result (part.new.groups ≡ join_maps appended part.old.groups
+        (map_of itself (lists_in map.now.entries))) }
     ensures key { part.new.key ≡ part.old.key }
     ensures items { part.new.items ≡ part.old.items }
 {
@@ -398,7 +412,8 @@ fn add_numbers(
     requires keys { AllInRange key_kind (keys_of map.now.entries) }
     requires lists { CanKeepEach part.old.items (values_of map.now.entries) }
     requires key { CanKeep part.old.key (Some key_kind) }
-    ensures ok { OnOk result (part.new.groups ≡ merged_from appended part.old.groups (by_value (number key_kind) (lists_in map.now.entries))) }
+    ensures ok { OnOk result (part.new.groups ≡ merged_from appended part.old.groups
+        (by_value (number key_kind) (lists_in map.now.entries))) }
     ensures key { part.new.key ≡ part.old.key }
     ensures items { part.new.items ≡ part.old.items }
 {
@@ -420,7 +435,8 @@ fn add_values(
 ) -> Result<(), AllocError>
     requires lists { CanKeepEach part.old.items (values_of map.now.entries) }
     requires key { part.old.key ≡ None }
-    ensures ok { OnOk result (part.new.groups ≡ merged_from appended part.old.groups (by_value itself (lists_in map.now.entries))) }
+    ensures ok { OnOk result (part.new.groups ≡ merged_from appended part.old.groups
+        (by_value itself (lists_in map.now.entries))) }
     ensures key { part.new.key ≡ part.old.key }
     ensures items { part.new.items ≡ part.old.items }
 {
@@ -442,7 +458,8 @@ fn add_copy(
 ) -> Result<(), AllocError>
     requires list { CanKeep part.old.items (kind_of_items list.now) }
     requires key { part.old.key ≡ None }
-    ensures ok { OnOk result (part.new.groups ≡ merge_key appended part.old.groups key.now (items_of_list list.now)) }
+    ensures ok { OnOk result (part.new.groups ≡ merge_key appended part.old.groups key.now
+        (items_of_list list.now)) }
     ensures key { part.new.key ≡ part.old.key }
     ensures items { part.new.items ≡ part.old.items }
 {

@@ -22,7 +22,8 @@ pub fn kept_keys_stay()
 
 /// Keys that are kept as numbers of a kind are of one type.
 pub fn number_keys_have_one_type()
-    ensures { (kind : Kind) (m : ValueMap (List Value)) → KeysAreKept (Some kind) m → HasOneKeyType m }
+    ensures { (kind : Kind) (m : ValueMap (List Value)) → KeysAreKept (Some kind) m
+        → HasOneKeyType m }
 {}
 
 /// Keys of one type stay so: nothing is there at first, a merge adds the item's key at most, and a

@@ -39,7 +39,8 @@ pub(crate) fn push_at<K: Eq + Hash + Drop>(
 ) -> Result<(), AllocError>
     requires lists { AreListsOf kind (values_of map.old.entries) }
     requires item { IsKeptAs kind (view_val item) }
-    ensures ok { OnOk result (lists_in map.new.entries ≡ entry_with K.eq appended (lists_in map.old.entries) key (view_val item ∷ [])) }
+    ensures ok { OnOk result (lists_in map.new.entries ≡ entry_with K.eq appended
+        (lists_in map.old.entries) key (view_val item ∷ [])) }
     ensures err { OnErr result (lists_in map.new.entries ≡ lists_in map.old.entries) }
     ensures lists { AreListsOf kind (values_of map.new.entries) }
 {
@@ -63,7 +64,8 @@ pub(crate) fn append_at<K: Eq + Hash + Drop>(
 ) -> Result<(), AllocError>
     requires lists { AreListsOf kind (values_of map.old.entries) }
     requires later { kind_of_items later ≡ kind }
-    ensures ok { OnOk result (lists_in map.new.entries ≡ entry_with K.eq appended (lists_in map.old.entries) key (items_of_list later)) }
+    ensures ok { OnOk result (lists_in map.new.entries ≡ entry_with K.eq appended
+        (lists_in map.old.entries) key (items_of_list later)) }
     ensures err { OnErr result (lists_in map.new.entries ≡ lists_in map.old.entries) }
     ensures lists { AreListsOf kind (values_of map.new.entries) }
 {
@@ -88,7 +90,8 @@ fn append_each<K: Eq + Hash + Drop>(
 ) -> Result<(), AllocError>
     requires lists { AreListsOf kind (values_of map.old.entries) }
     requires more { AreListsOf kind (values_of more.entries) }
-    ensures ok { OnOk result (lists_in map.new.entries ≡ entries_with K.eq appended (lists_in map.old.entries) (lists_in more.entries)) }
+    ensures ok { OnOk result (lists_in map.new.entries ≡ entries_with K.eq appended
+        (lists_in map.old.entries) (lists_in more.entries)) }
     ensures lists { AreListsOf kind (values_of map.new.entries) }
 {
     for (key, list) in more {
@@ -106,7 +109,8 @@ pub(crate) fn append_all<K: Eq + Hash + Drop>(
 ) -> Result<(), AllocError>
     requires lists { AreListsOf kind (values_of map.old.entries) }
     requires later { AreListsOf kind (values_of later.entries) }
-    ensures ok { OnOk result (JoinsAs K.eq appended (lists_in map.old.entries) (lists_in later.entries) (lists_in map.new.entries)) }
+    ensures ok { OnOk result (JoinsAs K.eq appended (lists_in map.old.entries)
+        (lists_in later.entries) (lists_in map.new.entries)) }
     ensures lists { AreListsOf kind (values_of map.new.entries) }
 {
     if map.is_empty() {

@@ -28,7 +28,8 @@ fn number_pairs(
 ) -> Result<Pairs, AllocError>
     requires keys { AllInRange key_kind (keys_of map.entries) }
     requires sorted { IsStrictlySortedBy int_cmp (keys_of map.entries) }
-    ensures { IfOk result (λ pairs. pairs ≡ shown (number key_kind) list_value (lists_in map.entries)) }
+    ensures { IfOk result (λ pairs. pairs ≡ shown (number key_kind) list_value
+        (lists_in map.entries)) }
 {
     let mut items = Vec::with_capacity(alloc, map.len())?;
     for (key, list) in map {
@@ -64,7 +65,8 @@ pub(crate) fn kept_pairs(
     map: IndexMap<i64, ListPart>,
 ) -> Result<Pairs, AllocError>
     requires { KeysAreKept (Some key_kind) (map_of (number key_kind) (lists_in map.entries)) }
-    ensures { IfOk result (λ pairs. pairs ≡ shown itself list_value (finite.entries (map_of (number key_kind) (lists_in map.entries)))) }
+    ensures { IfOk result (λ pairs. pairs ≡ shown itself list_value
+        (finite.entries (map_of (number key_kind) (lists_in map.entries)))) }
 {
     let sorted = in_order(map)?;
     number_pairs(alloc, key_kind, sorted)
@@ -74,7 +76,8 @@ pub(crate) fn kept_pairs(
 pub(crate) fn plain_pairs(alloc: Global, map: IndexMap<Key, ListPart>) -> Result<Pairs, AllocError>
     requires kept { KeysAreKept None (map_of itself (lists_in map.entries)) }
     requires one_type { HasOneKeyType (map_of itself (lists_in map.entries)) }
-    ensures { IfOk result (λ pairs. pairs ≡ shown itself list_value (finite.entries (map_of itself (lists_in map.entries)))) }
+    ensures { IfOk result (λ pairs. pairs ≡ shown itself list_value
+        (finite.entries (map_of itself (lists_in map.entries)))) }
 {
     let sorted = in_order(map)?;
     value_pairs(alloc, sorted)

@@ -1,13 +1,13 @@
 pub mod Columns
-pub mod Legs
+mod Legs
 pub mod RowItems
 pub mod RowHolds
 pub mod TwiceRule
-pub mod Cases
-pub mod PickRule
-pub mod PickedCases
-pub mod PlaceLemmas
+mod Cases
+mod PickRule
+mod PickedCases
+mod PlaceLemmas
 pub mod RowLemmas
 pub mod Weights
-pub mod Single
-pub mod Dropped
+mod Single
+mod Dropped

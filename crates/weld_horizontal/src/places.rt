@@ -36,7 +36,8 @@ pub(crate) fn twice(legs: &[Leg]) -> Option<LegPlaces>
 
 /// The first place of a whole leg that is the same name as this one, if this one is a name.
 fn place_of(leg: &Leg, legs: &[Leg]) -> Option<usize>
-    ensures value { result ≡ place_of (leg_name (view_leg leg.now)) (pack_legs (map view_leg legs.now)) }
+    ensures value { result ≡ place_of (leg_name (view_leg leg.now))
+        (pack_legs (map view_leg legs.now)) }
     ensures within { IfSome result (λ n. n < length legs.now) }
 {
     match leg_name(leg) {

@@ -12,7 +12,8 @@ use weld_builders::laws::{keys_are_ordered_alike, values_are_ordered};
 /// second of both, its body with the row rebuilt for each use of the row.
 pub fn legs_stand_once()
     ensures { (a : At) (ls : LegTrees) (e : ExprTree) (b n x : Binder) (f : ExprTree) (p : Places) →
-        IsTwice ls p → IsTidy (loop a ls e b n x f) → Rewrites (once a ls e b n x f p) (loop a ls e b n x f) }
+        IsTwice ls p → IsTidy (loop a ls e b n x f) → Rewrites (once a ls e b n x f p)
+        (loop a ls e b n x f) }
 {
     values_are_ordered();
     keys_are_ordered_alike();

@@ -1,3 +1,3 @@
-pub mod Falling
-pub mod Once
-pub mod Sound
+mod Falling
+mod Once
+mod Sound

@@ -1,5 +1,5 @@
-pub mod ArgumentsBlocks
-pub mod ArgumentsOneAnswer
+mod ArgumentsBlocks
+mod ArgumentsOneAnswer
 mod Blocks
 mod Claims
 mod OneAnswer

@@ -33,8 +33,10 @@ fn read_input(
 ) -> Result<Val, DataStop>
     requires readable { IsReadable ty.now }
     requires some_worker { 0 < workers }
-    ensures value { IfOk result (λ v. Gives block.now.form block.now.content.now (Input ty.now) (view_val v)) }
-    ensures unfit { IfErr result (Tells (λ (n : ℕ) (code : _). (n ≡ number) × Fails block.now.form block.now.content.now (Input ty.now) code)) }
+    ensures value { IfOk result (λ v. Gives block.now.form block.now.content.now (Input ty.now)
+        (view_val v)) }
+    ensures unfit { IfErr result (Tells (λ (n : ℕ) (code : _). (n ≡ number)
+        × Fails block.now.form block.now.content.now (Input ty.now) code)) }
 {
     if block.form != BlockForm::Value {
         return Err(DataStop::Unfit(number, Code::Form));
@@ -89,8 +91,10 @@ fn read_columns(
     number: u64,
 ) -> Result<Val, DataStop>
     requires { IsTable names.now cells.now }
-    ensures value { IfOk result (λ v. Gives block.now.form block.now.content.now (Table names.now cells.now) (view_val v)) }
-    ensures unfit { IfErr result (Tells (λ (n : ℕ) (code : _). (n ≡ number) × Fails block.now.form block.now.content.now (Table names.now cells.now) code)) }
+    ensures value { IfOk result (λ v. Gives block.now.form block.now.content.now
+        (Table names.now cells.now) (view_val v)) }
+    ensures unfit { IfErr result (Tells (λ (n : ℕ) (code : _). (n ≡ number)
+        × Fails block.now.form block.now.content.now (Table names.now cells.now) code)) }
 {
     if block.form != BlockForm::Table {
         return Err(DataStop::Unfit(number, Code::Form));
@@ -115,8 +119,10 @@ pub(crate) fn read_block(
 ) -> Result<Val, DataStop>
     requires may { IsDeclared declared.now }
     requires some_worker { 0 < workers }
-    ensures value { IfOk result (λ v. Gives block.now.form block.now.content.now declared.now (view_val v)) }
-    ensures unfit { IfErr result (Tells (λ (n : ℕ) (code : _). (n ≡ number) × Fails block.now.form block.now.content.now declared.now code)) }
+    ensures value { IfOk result (λ v. Gives block.now.form block.now.content.now declared.now
+        (view_val v)) }
+    ensures unfit { IfErr result (Tells (λ (n : ℕ) (code : _). (n ≡ number)
+        × Fails block.now.form block.now.content.now declared.now code)) }
 {
     well_formed_types_are_readable();
     match declared {

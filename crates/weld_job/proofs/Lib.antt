@@ -1,2 +1,2 @@
-pub mod Cutting
-pub mod Whole
+mod Cutting
+mod Whole

@@ -50,7 +50,8 @@ pub(crate) fn form_of(header: &[u8]) -> BlockForm
 pub(crate) fn line_len(bytes: &[u8]) -> usize
     ensures within { result ≤ length bytes.now }
     ensures some { 0 < length bytes.now → 0 < result }
-    ensures first { 0 < length bytes.now → lines bytes.now ≡ take result bytes.now ∷ lines (drop result bytes.now) }
+    ensures first { 0 < length bytes.now → lines bytes.now
+        ≡ take result bytes.now ∷ lines (drop result bytes.now) }
 {
     match memchr(b'\n', bytes) {
         Some(end) => end + 1,
@@ -62,7 +63,8 @@ pub(crate) fn line_len(bytes: &[u8]) -> usize
 pub(crate) fn text_len(job: &[u8]) -> usize
     ensures within { result ≤ length job.now }
     ensures text { take result job.now ≡ text_of job.now }
-    ensures rest { lines (drop result job.now) ≡ drop (position_or_len is_separator (lines job.now)) (lines job.now) }
+    ensures rest { lines (drop result job.now) ≡ drop (position_or_len is_separator (lines job.now))
+        (lines job.now) }
 {
     let mut at = 0;
     while at < job.len() {
@@ -80,7 +82,8 @@ pub(crate) fn text_len(job: &[u8]) -> usize
 pub(crate) fn content_len(bytes: &[u8]) -> usize
     ensures within { result ≤ length bytes.now }
     ensures content { take result bytes.now ≡ concat (before_first is_header (lines bytes.now)) }
-    ensures rest { lines (drop result bytes.now) ≡ drop (position_or_len is_header (lines bytes.now)) (lines bytes.now) }
+    ensures rest { lines (drop result bytes.now) ≡ drop (position_or_len is_header
+        (lines bytes.now)) (lines bytes.now) }
     ensures header { result < length bytes.now → slice_index bytes.now result ≡ 37 }
 {
     let mut at = 0;

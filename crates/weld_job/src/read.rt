@@ -20,8 +20,10 @@ pub fn read_job<S: Source>(alloc: Global, input: &mut S) -> Result<Job, JobFault
 
     // When each refusal comes. Want of memory is free.
     ensures read { result ≡ Err JobFault.Read → Rises (S.faults input.old) (S.faults input.new) }
-    ensures too_long { result ≡ Err JobFault.TooLong → IfSome (S.left input.old) (λ bytes. job_limit < length bytes) }
-    ensures stops { result ≡ Err JobFault.TooLong → TakesJust (job_limit + 1) (S.left input.old) (S.left input.new) }
+    ensures too_long { result ≡ Err JobFault.TooLong → IfSome (S.left input.old)
+        (λ bytes. job_limit < length bytes) }
+    ensures stops { result ≡ Err JobFault.TooLong → TakesJust (job_limit + 1) (S.left input.old)
+        (S.left input.new) }
 
     // What stays of the source.
     ensures taken { Takes (S.left input.old) (S.left input.new) }
@@ -53,7 +55,8 @@ fn read_bytes<S: Source>(alloc: Global, input: &mut S) -> Result<Vec<u8>, JobFau
     ensures within { IfOk result (λ bytes. length bytes.items ≤ job_limit) }
     ensures end { OnOk result (IfSome (S.left input.old) (λ _. IsAtEnd (S.left input.new))) }
     ensures read { result ≡ Err JobFault.Read → Rises (S.faults input.old) (S.faults input.new) }
-    ensures stops { result ≡ Err JobFault.TooLong → TakesJust (job_limit + 1) (S.left input.old) (S.left input.new) }
+    ensures stops { result ≡ Err JobFault.TooLong → TakesJust (job_limit + 1) (S.left input.old)
+        (S.left input.new) }
     ensures taken { Takes (S.left input.old) (S.left input.new) }
     ensures never_falls { S.faults input.old ≤ S.faults input.new }
 {

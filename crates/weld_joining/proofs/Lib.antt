@@ -1,30 +1,30 @@
-pub mod Relabelled
-pub mod Relabelling
-pub mod Taking
-pub mod Seen
-pub mod Looking
-pub mod Runs
-pub mod Finishing
-pub mod Bodies
-pub mod Fields
-pub mod Numbers
-pub mod BesideHalves
-pub mod Placing
-pub mod Splitting
-pub mod Coming
-pub mod Renaming
-pub mod Counting
-pub mod BesideRule
-pub mod Lighter
-pub mod Exchanging
-pub mod Rising
-pub mod Cases
-pub mod Falling
-pub mod Legs
-pub mod Limits
-pub mod Recognised
-pub mod Sound
-pub mod TakenApart
-pub mod TakenOut
-pub mod Together
-pub mod Unused
+mod Relabelled
+mod Relabelling
+mod Taking
+mod Seen
+mod Looking
+mod Runs
+mod Finishing
+mod Bodies
+mod Fields
+mod Numbers
+mod BesideHalves
+mod Placing
+mod Splitting
+mod Coming
+mod Renaming
+mod Counting
+mod BesideRule
+mod Lighter
+mod Exchanging
+mod Rising
+mod Cases
+mod Falling
+mod Legs
+mod Limits
+mod Recognised
+mod Sound
+mod TakenApart
+mod TakenOut
+mod Together
+mod Unused

@@ -137,7 +137,8 @@ fn body_of_second(
     row: Sym,
     body: Box<Expr>,
 ) -> Result<Box<Expr>, AllocError>
-    ensures { IfOk result (λ b. b.value ≡ body_of_second place first.now number.0 row.0 body.value) }
+    ensures { IfOk result (λ b. b.value ≡ body_of_second place first.now number.0 row.0
+        body.value) }
 {
     let item = legs_item(alloc, &first.legs)?;
     let body = with_name(alloc, place, first.row.sym, item, row, body)?;
@@ -154,7 +155,8 @@ fn with_name(
     old: Sym,
     e: Box<Expr>,
 ) -> Result<Box<Expr>, AllocError>
-    ensures { IfOk result (λ b. b.value ≡ put old.0 (leaf (node_of place ty) (name_form name.0)) e.value) }
+    ensures { IfOk result (λ b. b.value ≡ put old.0 (leaf (node_of place ty) (name_form name.0))
+        e.value) }
 {
     let name = named(place, name, ty);
     put_at(alloc, e, old, &name)

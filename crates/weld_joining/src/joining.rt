@@ -44,7 +44,8 @@ fn from_first(
 ) -> Result<Expr, AllocError>
     requires followed { is_followed binder value.value rest.value ≡ true }
     requires comes { may_come_up rest.value ≡ true }
-    ensures { IfOk result (λ e. e ≡ joined_pair (let_in (at_of outer) binder value.value rest.value)) }
+    ensures { IfOk result (λ e. e ≡ joined_pair (let_in (at_of outer) binder value.value
+        rest.value)) }
 {
     let next = take_next(alloc, rest)?;
     from_lets(

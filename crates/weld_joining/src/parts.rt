@@ -208,7 +208,8 @@ pub(crate) fn result_let(
     e: Box<Expr>,
     body: Box<Expr>,
 ) -> Result<Box<Expr>, AllocError>
-    ensures { IfOk result (λ b. b.value ≡ result_let (at_of at) binder (result_at finish) e.value body.value) }
+    ensures { IfOk result (λ b. b.value ≡ result_let (at_of at) binder (result_at finish) e.value
+        body.value) }
 {
     let value = finish_at(alloc, finish, e)?;
     let rest = Expr {

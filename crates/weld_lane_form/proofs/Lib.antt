@@ -1,11 +1,11 @@
-pub mod AllLowered
-pub mod BodyMeans
-pub mod ExprsLowered
-pub mod Forms
-pub mod FormsLowered
-pub mod Growing
-pub mod LoweredMeans
-pub mod Marked
-pub mod Merging
-pub mod Places
-pub mod Placing
+mod AllLowered
+mod BodyMeans
+mod ExprsLowered
+mod Forms
+mod FormsLowered
+mod Growing
+mod LoweredMeans
+mod Marked
+mod Merging
+mod Places
+mod Placing

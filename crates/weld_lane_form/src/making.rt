@@ -68,7 +68,8 @@ pub fn lower(names: LoopNames, e: &Expr, alloc: Global) -> Result<Option<LaneBod
 
 /// Adds a step, and tells its place.
 fn add(making: &mut Making, step: LaneStep) -> Result<u32, AllocError>
-    ensures { IfOk result (λ place. added (begun making.old) step ≡ placed (begun making.new) place) }
+    ensures { IfOk result (λ place. added (begun making.old) step
+        ≡ placed (begun making.new) place) }
 {
     match u32::try_from(making.steps.len()) {
         Ok(place) => {
@@ -81,7 +82,8 @@ fn add(making: &mut Making, step: LaneStep) -> Result<u32, AllocError>
 
 /// The same as an option.
 fn add_some(making: &mut Making, step: LaneStep) -> Result<Option<u32>, AllocError>
-    ensures { IfOk result (λ found. IsPlaced (added (begun making.old) step) found (begun making.new)) }
+    ensures { IfOk result (λ found. IsPlaced (added (begun making.old) step) found
+        (begun making.new)) }
 {
     match add(making, step) {
         Ok(place) => Ok(Some(place)),
@@ -103,7 +105,8 @@ fn is_truth_at(making: &Making, place: u32) -> bool
 
 /// A number that is the same for all rows.
 fn make_uniform(making: &mut Making, name: Sym) -> Result<Option<u32>, AllocError>
-    ensures { IfOk result (λ found. IsPlaced (lower_uniform (begun making.old) name.0 (place_among (begun making.old).names name.0)) found (begun making.new)) }
+    ensures { IfOk result (λ found. IsPlaced (lower_uniform (begun making.old) name.0
+        (place_among (begun making.old).names name.0)) found (begun making.new)) }
 {
     match uniform_place(&making.uniforms, name) {
         Some(place) => match u32::try_from(place) {
@@ -122,7 +125,8 @@ fn make_uniform(making: &mut Making, name: Sym) -> Result<Option<u32>, AllocErro
 
 /// A name that no `let` of the body has.
 fn make_outside(making: &mut Making, names: LoopNames, name: Sym) -> Result<Option<u32>, AllocError>
-    ensures { IfOk result (λ found. IsPlaced (lower_outside (lane_names names) (begun making.old) name.0) found (begun making.new)) }
+    ensures { IfOk result (λ found. IsPlaced (lower_outside (lane_names names) (begun making.old)
+        name.0) found (begun making.new)) }
 {
     if name.0 == names.row.0 {
         if names.is_pair {
@@ -144,7 +148,8 @@ fn make_name(
     lets: &Lets,
     name: Sym,
 ) -> Result<Option<u32>, AllocError>
-    ensures { IfOk result (λ found. IsPlaced (lower_name (lane_names names) (begun making.old) name.0 (look_for name.0 (view_lets lets.now))) found (begun making.new)) }
+    ensures { IfOk result (λ found. IsPlaced (lower_name (lane_names names) (begun making.old)
+        name.0 (look_for name.0 (view_lets lets.now))) found (begun making.new)) }
 {
     match place_of(lets, name) {
         Some(place) => Ok(Some(place)),
@@ -159,7 +164,8 @@ fn make_leaf(
     lets: &Lets,
     leaf: &LeafForm,
 ) -> Result<Option<u32>, AllocError>
-    ensures { IfOk result (λ found. IsPlaced (lower_leaf (lane_names names) (view_lets lets.now) (begun making.old) (view_leaf leaf.now)) found (begun making.new)) }
+    ensures { IfOk result (λ found. IsPlaced (lower_leaf (lane_names names) (view_lets lets.now)
+        (begun making.old) (view_leaf leaf.now)) found (begun making.new)) }
 {
     match leaf {
         LeafForm::Int(kind, x) => {
@@ -182,7 +188,8 @@ fn make_cast(
     kind: Kind,
     part: &Expr,
 ) -> Result<Option<u32>, AllocError>
-    ensures { IfOk result (λ found. IsPlaced (lower_cast (lane_names names) kind (begun making.old) part.now) found (begun making.new)) }
+    ensures { IfOk result (λ found. IsPlaced (lower_cast (lane_names names) kind (begun making.old)
+        part.now) found (begun making.new)) }
 {
     match &part.form {
         Form::Leaf(LeafForm::Int(_, x)) => {
@@ -204,7 +211,8 @@ fn make_field(
     number: u32,
     part: &Expr,
 ) -> Result<Option<u32>, AllocError>
-    ensures { IfOk result (λ found. IsPlaced (lower_field (lane_names names) (view_lets lets.now) number (begun making.old) part.now) found (begun making.new)) }
+    ensures { IfOk result (λ found. IsPlaced (lower_field (lane_names names) (view_lets lets.now)
+        number (begun making.old) part.now) found (begun making.new)) }
 {
     if !names.is_pair || !is_name(part, names.row) || !is_free(lets, names.row) {
         return Ok(None);
@@ -220,7 +228,8 @@ fn make_field(
 
 /// The contrary of a truth value.
 fn make_not(making: &mut Making, place: u32) -> Result<Option<u32>, AllocError>
-    ensures { IfOk result (λ found. IsPlaced (lower_not (begun making.old) place) found (begun making.new)) }
+    ensures { IfOk result (λ found. IsPlaced (lower_not (begun making.old) place) found
+        (begun making.new)) }
 {
     if is_truth_at(&*making, place) {
         add_some(making, LaneStep::Not(place))
@@ -231,7 +240,8 @@ fn make_not(making: &mut Making, place: u32) -> Result<Option<u32>, AllocError>
 
 /// An operator between numbers.
 fn make_binary(making: &mut Making, op: BinOp, i: u32, j: u32) -> Result<Option<u32>, AllocError>
-    ensures { IfOk result (λ found. IsPlaced (lower_binary op i j (begun making.old)) found (begun making.new)) }
+    ensures { IfOk result (λ found. IsPlaced (lower_binary op i j (begun making.old)) found
+        (begun making.new)) }
 {
     if is_arithmetic(op) {
         add_some(making, LaneStep::Arith(op, i, j))
@@ -258,7 +268,8 @@ fn are_truths(making: &Making, i: u32, j: u32) -> bool
 
 /// A form of two parts whose steps have these places.
 fn join_two(making: &mut Making, form: TwoForm, i: u32, j: u32) -> Result<Option<u32>, AllocError>
-    ensures { IfOk result (λ found. IsPlaced (lower_two (view_two form) i j (begun making.old)) found (begun making.new)) }
+    ensures { IfOk result (λ found. IsPlaced (lower_two (view_two form) i j (begun making.old))
+        found (begun making.new)) }
 {
     match form {
         TwoForm::Binary(op) => {
@@ -289,7 +300,8 @@ fn join_two(making: &mut Making, form: TwoForm, i: u32, j: u32) -> Result<Option
 /// One of two truth values, as a third says.
 #[tactic(auto, using(crate::proofs::Placing::chosen_truth))]
 fn choose_truths(making: &mut Making, t: u32, i: u32, j: u32) -> Result<Option<u32>, AllocError>
-    ensures { IfOk result (λ found. IsPlaced (choose_truth t i j (begun making.old)) found (begun making.new)) }
+    ensures { IfOk result (λ found. IsPlaced (choose_truth t i j (begun making.old)) found
+        (begun making.new)) }
 {
     let both = add(making, LaneStep::And(t, i))?;
     let contrary = add(making, LaneStep::Not(t))?;
@@ -302,7 +314,8 @@ fn choose_truths(making: &mut Making, t: u32, i: u32, j: u32) -> Result<Option<u
 
 /// One of two values, whose steps have these places.
 fn make_select(making: &mut Making, t: u32, i: u32, j: u32) -> Result<Option<u32>, AllocError>
-    ensures { IfOk result (λ found. IsPlaced (lower_select t i j (begun making.old)) found (begun making.new)) }
+    ensures { IfOk result (λ found. IsPlaced (lower_select t i j (begun making.old)) found
+        (begun making.new)) }
 {
     if !is_truth_at(&*making, t) {
         Ok(None)
@@ -323,7 +336,8 @@ fn make(
     lets: &Lets,
     e: &Expr,
 ) -> Result<Option<u32>, AllocError>
-    ensures { IfOk result (λ found. IsPlaced (lower_expr (lane_names names) (view_lets lets.now) e.now (begun making.old)) found (begun making.new)) }
+    ensures { IfOk result (λ found. IsPlaced (lower_expr (lane_names names) (view_lets lets.now)
+        e.now (begun making.old)) found (begun making.new)) }
 {
     match &e.form {
         Form::Leaf(leaf) => make_leaf(making, names, lets, leaf),
@@ -345,7 +359,9 @@ fn make_one(
     form: &OneForm,
     part: &Expr,
 ) -> Result<Option<u32>, AllocError>
-    ensures { IfOk result (λ found. IsPlaced (lower_one (lane_names names) (view_lets lets.now) (view_one form.now) (begun making.old) part.now (lower_expr (lane_names names) (view_lets lets.now) part.now (begun making.old))) found (begun making.new)) }
+    ensures { IfOk result (λ found. IsPlaced (lower_one (lane_names names) (view_lets lets.now)
+        (view_one form.now) (begun making.old) part.now (lower_expr (lane_names names)
+        (view_lets lets.now) part.now (begun making.old))) found (begun making.new)) }
 {
     match form {
         OneForm::Not => make_contrary(making, names, lets, part),
@@ -364,7 +380,8 @@ fn make_contrary(
     lets: &Lets,
     part: &Expr,
 ) -> Result<Option<u32>, AllocError>
-    ensures { IfOk result (λ found. IsPlaced (behind (lower_expr (lane_names names) (view_lets lets.now) part.now (begun making.old)) lower_not) found (begun making.new)) }
+    ensures { IfOk result (λ found. IsPlaced (behind (lower_expr (lane_names names)
+        (view_lets lets.now) part.now (begun making.old)) lower_not) found (begun making.new)) }
 {
     match make(making, names, lets, part) {
         Ok(Some(place)) => make_not(making, place),
@@ -384,7 +401,10 @@ fn make_two(
     first: &Expr,
     second: &Expr,
 ) -> Result<Option<u32>, AllocError>
-    ensures { IfOk result (λ found. IsPlaced (behind (lower_expr (lane_names names) (view_lets lets.now) first.now (begun making.old)) (λ d i. behind (lower_expr (lane_names names) (view_lets lets.now) second.now d) (λ g j. lower_two (view_two form) i j g))) found (begun making.new)) }
+    ensures { IfOk result (λ found. IsPlaced (behind (lower_expr (lane_names names)
+        (view_lets lets.now) first.now (begun making.old))
+        (λ d i. behind (lower_expr (lane_names names) (view_lets lets.now) second.now d)
+        (λ g j. lower_two (view_two form) i j g))) found (begun making.new)) }
 {
     let i = match make(making, names, lets, first) {
         Ok(Some(i)) => i,
@@ -410,7 +430,11 @@ fn make_three(
     then: &Expr,
     otherwise: &Expr,
 ) -> Result<Option<u32>, AllocError>
-    ensures { IfOk result (λ found. IsPlaced (behind (lower_expr (lane_names names) (view_lets lets.now) test.now (begun making.old)) (λ d t. behind (lower_expr (lane_names names) (view_lets lets.now) then.now d) (λ g i. behind (lower_expr (lane_names names) (view_lets lets.now) otherwise.now g) (λ k j. lower_select t i j k)))) found (begun making.new)) }
+    ensures { IfOk result (λ found. IsPlaced (behind (lower_expr (lane_names names)
+        (view_lets lets.now) test.now (begun making.old))
+        (λ d t. behind (lower_expr (lane_names names) (view_lets lets.now) then.now d)
+        (λ g i. behind (lower_expr (lane_names names) (view_lets lets.now) otherwise.now g)
+        (λ k j. lower_select t i j k)))) found (begun making.new)) }
 {
     let t = match make(making, names, lets, test) {
         Ok(Some(t)) => t,
@@ -433,7 +457,8 @@ fn make_three(
 /// The number of a place as that of the last step.
 #[tactic(auto, using(crate::proofs::Placing::last_copied))]
 fn make_last(making: &mut Making, place: u32) -> Result<Option<u32>, AllocError>
-    ensures { IfOk result (λ found. IsPlaced (lower_last (begun making.old) place) found (begun making.new)) }
+    ensures { IfOk result (λ found. IsPlaced (lower_last (begun making.old) place) found
+        (begun making.new)) }
 {
     if is_truth_at(&*making, place) {
         return Ok(None);
@@ -458,7 +483,11 @@ fn make_merge(
     builder: &Expr,
     item: &Expr,
 ) -> Result<Option<u32>, AllocError>
-    ensures { IfOk result (λ found. IsPlaced (where_true (is_merge (view_two form) && (is_that_name builder.now names.own.0 && is_unlet (look_for names.own.0 (view_lets lets.now)))) (behind (lower_expr (lane_names names) (view_lets lets.now) item.now (begun making.old)) lower_last)) found (begun making.new)) }
+    ensures { IfOk result (λ found. IsPlaced (where_true
+        (is_merge (view_two form) && (is_that_name builder.now names.own.0 && is_unlet
+        (look_for names.own.0 (view_lets lets.now)))) (behind
+        (lower_expr (lane_names names) (view_lets lets.now) item.now (begun making.old))
+        lower_last)) found (begun making.new)) }
 {
     match form {
         TwoForm::Merge => {}
@@ -482,7 +511,8 @@ fn make_body(
     lets: &Lets,
     e: &Expr,
 ) -> Result<Option<u32>, AllocError>
-    ensures { IfOk result (λ found. IsPlaced (lower_body (lane_names names) (view_lets lets.now) e.now (begun making.old)) found (begun making.new)) }
+    ensures { IfOk result (λ found. IsPlaced (lower_body (lane_names names) (view_lets lets.now)
+        e.now (begun making.old)) found (begun making.new)) }
 {
     match &e.form {
         Form::Two(form, builder, item) => make_merge(making, names, lets, *form, builder, item),
@@ -502,7 +532,10 @@ fn make_let(
     value: &Expr,
     inner: &Expr,
 ) -> Result<Option<u32>, AllocError>
-    ensures { IfOk result (λ found. IsPlaced (behind (lower_expr (lane_names names) (view_lets lets.now) value.now (begun making.old)) (λ d i. lower_body (lane_names names) ((binder.now.sym.0, i) ∷ view_lets lets.now) inner.now d)) found (begun making.new)) }
+    ensures { IfOk result (λ found. IsPlaced (behind (lower_expr (lane_names names)
+        (view_lets lets.now) value.now (begun making.old))
+        (λ d i. lower_body (lane_names names) ((binder.now.sym.0, i) ∷ view_lets lets.now) inner.now
+        d)) found (begun making.new)) }
 {
     let place = match make(making, names, lets, value) {
         Ok(Some(place)) => place,

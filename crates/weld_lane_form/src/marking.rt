@@ -79,7 +79,8 @@ fn mark_two(
     marks: &mut Vec<Option<LaneBody>>,
     alloc: Global,
 ) -> Result<(), AllocError>
-    ensures { OnOk result (MarkOn marks.old.items marks.new.items (loops_in first.now ++ loops_in second.now)) }
+    ensures { OnOk result (MarkOn marks.old.items marks.new.items
+        (loops_in first.now ++ loops_in second.now)) }
 {
     match mark(first, marks, alloc) {
         Ok(()) => mark(second, marks, alloc),
@@ -96,7 +97,8 @@ fn mark_three(
     marks: &mut Vec<Option<LaneBody>>,
     alloc: Global,
 ) -> Result<(), AllocError>
-    ensures { OnOk result (MarkOn marks.old.items marks.new.items (loops_in first.now ++ (loops_in second.now ++ loops_in third.now))) }
+    ensures { OnOk result (MarkOn marks.old.items marks.new.items
+        (loops_in first.now ++ (loops_in second.now ++ loops_in third.now))) }
 {
     match mark(first, marks, alloc) {
         Ok(()) => mark_two(second, third, marks, alloc),
@@ -114,7 +116,8 @@ fn mark_within(
     marks: &mut Vec<Option<LaneBody>>,
     alloc: Global,
 ) -> Result<(), AllocError>
-    ensures { OnOk result (MarkOn marks.old.items marks.new.items (loops_in_legs (pack_legs legs.now) ++ (loops_in builder.now ++ loops_in body.now))) }
+    ensures { OnOk result (MarkOn marks.old.items marks.new.items
+        (loops_in_legs (pack_legs legs.now) ++ (loops_in builder.now ++ loops_in body.now))) }
 {
     match mark_legs(legs, marks, alloc) {
         Ok(()) => mark_two(builder, body, marks, alloc),
@@ -144,7 +147,8 @@ fn mark_all(
     marks: &mut Vec<Option<LaneBody>>,
     alloc: Global,
 ) -> Result<(), AllocError>
-    ensures { OnOk result (MarkOn marks.old.items marks.new.items (loops_among (pack_exprs parts.now))) }
+    ensures { OnOk result (MarkOn marks.old.items marks.new.items
+        (loops_among (pack_exprs parts.now))) }
 {
     for part in parts.as_slice() {
         match mark(part, marks, alloc) {
@@ -158,7 +162,8 @@ fn mark_all(
 #[cycle(mark)]
 #[tactic(auto, using(crate::proofs::Marked::marks_on))]
 fn mark_leg(leg: &Leg, marks: &mut Vec<Option<LaneBody>>, alloc: Global) -> Result<(), AllocError>
-    ensures { OnOk result (MarkOn marks.old.items marks.new.items (loops_in_leg (view_leg leg.now))) }
+    ensures { OnOk result (MarkOn marks.old.items marks.new.items
+        (loops_in_leg (view_leg leg.now))) }
 {
     match leg {
         Leg::Whole(e) => mark(e, marks, alloc),
@@ -176,7 +181,8 @@ fn mark_legs(
     marks: &mut Vec<Option<LaneBody>>,
     alloc: Global,
 ) -> Result<(), AllocError>
-    ensures { OnOk result (MarkOn marks.old.items marks.new.items (loops_in_legs (pack_legs legs.now))) }
+    ensures { OnOk result (MarkOn marks.old.items marks.new.items
+        (loops_in_legs (pack_legs legs.now))) }
 {
     for leg in legs.as_slice() {
         match mark_leg(leg, marks, alloc) {

@@ -1,6 +1,6 @@
-pub mod ColumnLemmas
-pub mod Meaning
-pub mod Merges
-pub mod NumberLists
-pub mod OutsideLemmas
-pub mod PieceLemmas
+mod ColumnLemmas
+mod Meaning
+mod Merges
+mod NumberLists
+mod OutsideLemmas
+mod PieceLemmas

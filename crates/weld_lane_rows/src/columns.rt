@@ -19,7 +19,8 @@ pub(crate) struct Columns<'a, L> {
 
 /// The columns of one or two legs of numbers of the kind, where they have the rows below a number. It takes no memory.
 pub(crate) fn columns_of<'a, L: Word>(legs: &'a Legs<'a>, to: usize) -> Option<Columns<'a, L>>
-    ensures { IfSome result (λ c. AreRows L.kind c.is_pair (lists_of legs.now) (map L.number c.first.now) (map L.number c.second.now) to) }
+    ensures { IfSome result (λ c. AreRows L.kind c.is_pair (lists_of legs.now)
+        (map L.number c.first.now) (map L.number c.second.now) to) }
 {
     let (column, rest) = match legs {
         Legs::And(column, rest) => (column, rest),
@@ -51,7 +52,8 @@ pub(crate) fn columns_of<'a, L: Word>(legs: &'a Legs<'a>, to: usize) -> Option<C
 
 /// The elements of a column, where they are numbers of the kind and there are so many at least.
 fn cells_of<'a, L: Word>(column: &'a Column, count: usize) -> Option<&'a [L]>
-    ensures { IfSome result (λ cells. AreCells L.number L.kind (view_column column.now) cells.now count) }
+    ensures { IfSome result (λ cells. AreCells L.number L.kind (view_column column.now) cells.now
+        count) }
 {
     match L::cells(column) {
         Some(cells) => {

@@ -30,7 +30,8 @@ pub(crate) fn numbers_outside<L: Lane>(
     alloc: Global,
 ) -> Result<Option<Vec<L>>, AllocError>
     requires { names.now.kind ≡ L.kind }
-    ensures { IfOk result (λ found. IfSome found (λ us. AreOutside names.now L.kind syms.now (map L.number us.items) (env_of frame.now))) }
+    ensures { IfOk result (λ found. IfSome found (λ us. AreOutside names.now L.kind syms.now
+        (map L.number us.items) (env_of frame.now))) }
 {
     let mut numbers = Vec::new(alloc);
     for place in 0..syms.len() {
@@ -54,7 +55,8 @@ fn name_at(syms: &[Sym], place: usize) -> Sym
 fn number_outside<L: Lane>(names: &LoopNames, name: Sym, frame: &Frame) -> Option<L>
     requires { names.now.kind ≡ L.kind }
     ensures outside { IfSome result (λ x. IsOutside names.now name.0) }
-    ensures number { IfSome result (λ x. look_for name.0 (env_of frame.now) ≡ Some (plain (number L.kind (L.number x)))) }
+    ensures number { IfSome result (λ x. look_for name.0 (env_of frame.now)
+        ≡ Some (plain (number L.kind (L.number x)))) }
 {
     if !is_outside(names, name) {
         return None;
@@ -100,7 +102,8 @@ pub(crate) fn is_same(kind: Kind, other: Kind) -> bool
 
 /// The number that a name stands for, where it stands for one. It takes no memory.
 fn number_named(frame: &Frame, name: Sym) -> Option<Short>
-    ensures { IfSome result (λ n. look_for name.0 (env_of frame.now) ≡ Some (plain (view_short n))) }
+    ensures { IfSome result (λ n. look_for name.0 (env_of frame.now)
+        ≡ Some (plain (view_short n))) }
 {
     match frame {
         Frame::Arguments(params, values) => argument(params, values, name),
@@ -159,7 +162,8 @@ fn number_in_thing(x: &Owned) -> Option<Short>
 /// The number that the argument of a parameter is, where it is one.
 #[tactic(auto, using(weld_eval::proofs::Arguments::found_there, weld_eval::proofs::Arguments::not_there, weld_eval::proofs::Arguments::ended))]
 fn argument(params: &Binders, values: &Vals, name: Sym) -> Option<Short>
-    ensures { IfSome result (λ n. look_for name.0 (with_arguments params.now values.now) ≡ Some (plain (view_short n))) }
+    ensures { IfSome result (λ n. look_for name.0 (with_arguments params.now values.now)
+        ≡ Some (plain (view_short n))) }
 {
     let binders = params.as_slice();
     for i in 0..binders.len().min(values.len()) {

@@ -43,12 +43,16 @@ pub(crate) fn run_pieces<L: Word>(
     builder: &mut Owned,
     alloc: Global,
 ) -> Result<(), AllocError>
-    requires holds { HoldsRange node.now (env_of frame.now) (lists_of legs.now) from to (thing_of builder.old) }
+    requires holds { HoldsRange node.now (env_of frame.now) (lists_of legs.now) from to
+        (thing_of builder.old) }
     requires kind { lanes.now.program.now.kind ≡ L.kind }
     requires first { to ≤ length lanes.now.first.now }
     requires second { to ≤ length lanes.now.second.now }
-    requires merges { MergesRows node.now (env_of frame.now) (lists_of legs.now) L.kind (answer_at L.number L.kind lanes.now.program.now lanes.now.uniforms.now lanes.now.first.now lanes.now.second.now) to }
-    ensures { OnOk result (range_over node.now (env_of frame.now) (lists_of legs.now) from to (thing_of builder.old) ≡ done (thing_of builder.new)) }
+    requires merges { MergesRows node.now (env_of frame.now) (lists_of legs.now) L.kind
+        (answer_at L.number L.kind lanes.now.program.now lanes.now.uniforms.now lanes.now.first.now
+        lanes.now.second.now) to }
+    ensures { OnOk result (range_over node.now (env_of frame.now) (lists_of legs.now) from to
+        (thing_of builder.old) ≡ done (thing_of builder.new)) }
 {
     let size = (to - from).min(PIECE);
     let mut scratch = Scratch::new(lanes.program, alloc)?;
@@ -82,15 +86,19 @@ fn run_in_room<L: Word>(
     to: usize,
     builder: &mut Owned,
 ) -> Result<(), AllocError>
-    requires holds { HoldsRange node.now (env_of frame.now) (lists_of legs.now) from to (thing_of builder.old) }
+    requires holds { HoldsRange node.now (env_of frame.now) (lists_of legs.now) from to
+        (thing_of builder.old) }
     requires kind { lanes.now.program.now.kind ≡ L.kind }
     requires first { to ≤ length lanes.now.first.now }
     requires second { to ≤ length lanes.now.second.now }
-    requires merges { MergesRows node.now (env_of frame.now) (lists_of legs.now) L.kind (answer_at L.number L.kind lanes.now.program.now lanes.now.uniforms.now lanes.now.first.now lanes.now.second.now) to }
+    requires merges { MergesRows node.now (env_of frame.now) (lists_of legs.now) L.kind
+        (answer_at L.number L.kind lanes.now.program.now lanes.now.uniforms.now lanes.now.first.now
+        lanes.now.second.now) to }
     requires room { room_of (length lanes.now.program.now.steps.items) ≤ scratch.old }
     requires answers { min (to - from) 4096 ≤ length answers.old }
     requires words { min (to - from) 4096 ≤ length words.old }
-    ensures { OnOk result (range_over node.now (env_of frame.now) (lists_of legs.now) from to (thing_of builder.old) ≡ done (thing_of builder.new)) }
+    ensures { OnOk result (range_over node.now (env_of frame.now) (lists_of legs.now) from to
+        (thing_of builder.old) ≡ done (thing_of builder.new)) }
 {
     let mut reached = from;
     'pieces: while reached < to {
@@ -130,7 +138,8 @@ fn piece_numbers<'a, L: Word>(
     requires words { to - from ≤ length words.old }
     ensures room { scratch.new ≡ scratch.old }
     ensures long { length result.now ≡ to - from }
-    ensures are { AreFrom (answer_at L.number L.kind lanes.now.program.now lanes.now.uniforms.now lanes.now.first.now lanes.now.second.now) from (to - from) result.now }
+    ensures are { AreFrom (answer_at L.number L.kind lanes.now.program.now lanes.now.uniforms.now
+        lanes.now.first.now lanes.now.second.now) from (to - from) result.now }
 {
     let out = &mut answers[..to - from];
     piece_answers(lanes, scratch, out, from, to);
@@ -152,7 +161,8 @@ fn piece_answers<L: Word>(
     requires room { room_of (length lanes.now.program.now.steps.items) ≤ scratch.old }
     requires out { length out.old ≡ to - from }
     ensures room { scratch.new ≡ scratch.old }
-    ensures are { AreFrom (answer_at L.number L.kind lanes.now.program.now lanes.now.uniforms.now lanes.now.first.now lanes.now.second.now) from (to - from) (map L.number out.new) }
+    ensures are { AreFrom (answer_at L.number L.kind lanes.now.program.now lanes.now.uniforms.now
+        lanes.now.first.now lanes.now.second.now) from (to - from) (map L.number out.new) }
 {
     let first = &lanes.first[from..to];
     let second = &lanes.second[from..to];
@@ -170,12 +180,17 @@ fn merge_piece<L: Word>(
     to: usize,
     builder: &mut Owned,
 ) -> Result<(), AllocError>
-    requires holds { HoldsRange node.now (env_of frame.now) (lists_of legs.now) from to (thing_of builder.old) }
+    requires holds { HoldsRange node.now (env_of frame.now) (lists_of legs.now) from to
+        (thing_of builder.old) }
     requires some { from < to }
-    requires merges { MergesRows node.now (env_of frame.now) (lists_of legs.now) L.kind (answer_at L.number L.kind lanes.now.program.now lanes.now.uniforms.now lanes.now.first.now lanes.now.second.now) to }
+    requires merges { MergesRows node.now (env_of frame.now) (lists_of legs.now) L.kind
+        (answer_at L.number L.kind lanes.now.program.now lanes.now.uniforms.now lanes.now.first.now
+        lanes.now.second.now) to }
     requires long { length numbers.now ≡ to - from }
-    requires are { AreFrom (answer_at L.number L.kind lanes.now.program.now lanes.now.uniforms.now lanes.now.first.now lanes.now.second.now) from (to - from) numbers.now }
-    ensures { OnOk result (range_over node.now (env_of frame.now) (lists_of legs.now) from to (thing_of builder.old) ≡ done (thing_of builder.new)) }
+    requires are { AreFrom (answer_at L.number L.kind lanes.now.program.now lanes.now.uniforms.now
+        lanes.now.first.now lanes.now.second.now) from (to - from) numbers.now }
+    ensures { OnOk result (range_over node.now (env_of frame.now) (lists_of legs.now) from to
+        (thing_of builder.old) ≡ done (thing_of builder.new)) }
 {
     let _node = node;
     let _frame = frame;

@@ -37,8 +37,11 @@ pub fn run_lanes(
     builder: &mut Owned,
     alloc: Global,
 ) -> Result<bool, AllocError>
-    requires rows { HoldsRange node.now (env_of frame.now) (lists_of legs.now) from to (thing_of builder.old) }
-    ensures { LanesAnswer result (record { node = node.now; names = env_of frame.now; lists = lists_of legs.now; start = thing_of builder.old }) from to (thing_of builder.old) (thing_of builder.new) }
+    requires rows { HoldsRange node.now (env_of frame.now) (lists_of legs.now) from to
+        (thing_of builder.old) }
+    ensures { LanesAnswer result (record { node = node.now; names = env_of frame.now; lists =
+        lists_of legs.now; start = thing_of builder.old }) from to (thing_of builder.old)
+        (thing_of builder.new) }
 {
     if to - from < FEW {
         return Ok(false);
@@ -68,8 +71,11 @@ fn run_kind<L: Word>(
     builder: &mut Owned,
     alloc: Global,
 ) -> Result<bool, AllocError>
-    requires rows { HoldsRange node.now (env_of frame.now) (lists_of legs.now) from to (thing_of builder.old) }
-    ensures { LanesAnswer result (record { node = node.now; names = env_of frame.now; lists = lists_of legs.now; start = thing_of builder.old }) from to (thing_of builder.old) (thing_of builder.new) }
+    requires rows { HoldsRange node.now (env_of frame.now) (lists_of legs.now) from to
+        (thing_of builder.old) }
+    ensures { LanesAnswer result (record { node = node.now; names = env_of frame.now; lists =
+        lists_of legs.now; start = thing_of builder.old }) from to (thing_of builder.old)
+        (thing_of builder.new) }
 {
     let columns = match columns_of::<L>(legs, to) {
         Some(columns) => columns,
@@ -105,11 +111,15 @@ fn run_columns<L: Word>(
     builder: &mut Owned,
     alloc: Global,
 ) -> Result<bool, AllocError>
-    requires rows { HoldsRange node.now (env_of frame.now) (lists_of legs.now) from to (thing_of builder.old) }
+    requires rows { HoldsRange node.now (env_of frame.now) (lists_of legs.now) from to
+        (thing_of builder.old) }
     requires named { IsLoopOf node.now names.now body.now }
     requires kind { names.now.kind ≡ L.kind }
-    requires columns { AreRows L.kind names.now.is_pair (lists_of legs.now) (map L.number columns.now.first.now) (map L.number columns.now.second.now) to }
-    ensures { LanesAnswer result (record { node = node.now; names = env_of frame.now; lists = lists_of legs.now; start = thing_of builder.old }) from to (thing_of builder.old) (thing_of builder.new) }
+    requires columns { AreRows L.kind names.now.is_pair (lists_of legs.now)
+        (map L.number columns.now.first.now) (map L.number columns.now.second.now) to }
+    ensures { LanesAnswer result (record { node = node.now; names = env_of frame.now; lists =
+        lists_of legs.now; start = thing_of builder.old }) from to (thing_of builder.old)
+        (thing_of builder.new) }
 {
     let made = match lower(*names, body, alloc)? {
         Some(made) => made,

@@ -28,7 +28,8 @@ pub trait Word: Narrow {
 
     /// The elements of a column, where they are numbers of the kind. It takes no memory.
     fn cells<'a>(column: &'a Column) -> Option<&'a [Self]>
-        ensures { IfSome result (λ cells. view_column column.now ≡ map (λ x. value_of Self.kind (Self.number x)) cells.now) };
+        ensures { IfSome result (λ cells. view_column column.now
+            ≡ map (λ x. value_of Self.kind (Self.number x)) cells.now) };
 
     /// Numbers in words, which are written into the room where they aren't words themselves. It takes no memory.
     fn words<'a>(numbers: &'a [Self], room: &'a mut [i64]) -> &'a [i64]

@@ -1,4 +1,4 @@
 pub mod Meaning
 pub mod Parts
-pub mod Places
+mod Places
 pub mod Running

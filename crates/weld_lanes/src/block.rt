@@ -20,7 +20,8 @@ use weld_data::BinOp;
 pub(crate) fn part<'a, L: Lane>(column: &'a [L], from: usize, count: usize) -> &'a [L]
     requires { from + count ≤ length column.now }
     ensures long { length result.now ≡ count }
-    ensures each { ArePart (λ j. at (map L.number column.now) (from + j)) (map L.number result.now) count }
+    ensures each { ArePart (λ j. at (map L.number column.now) (from + j)) (map L.number result.now)
+        count }
 {
     &column[from..from + count]
 }
@@ -45,7 +46,9 @@ pub(crate) struct Rows<'a, L> {
 pub(crate) fn operand<'a, L: Lane>(rows: &Rows<'a, L>, step: usize) -> &'a [L]
     requires { step < rows.now.answered }
     ensures long { length result.now ≡ length rows.now.first.now }
-    ensures each { ArePart (block_at rows.now.steps.now (map L.number rows.now.first.now) (map L.number rows.now.second.now) (map L.number rows.now.room.now) step) (map L.number result.now) (length rows.now.first.now) }
+    ensures each { ArePart (block_at rows.now.steps.now (map L.number rows.now.first.now)
+        (map L.number rows.now.second.now) (map L.number rows.now.room.now) step)
+        (map L.number result.now) (length rows.now.first.now) }
 {
     match rows.steps[step] {
         LaneStep::A => rows.first,
@@ -59,9 +62,14 @@ pub(crate) fn operand<'a, L: Lane>(rows: &Rows<'a, L>, step: usize) -> &'a [L]
 fn binary<L: Lane, W: Work<L>>(rows: &Rows<L>, work: &W, i: u32, j: u32, out: &mut [L])
     requires first { i < rows.now.answered }
     requires second { j < rows.now.answered }
-    requires answered { AreAnswered L.kind rows.now.steps.now (map L.number rows.now.uniforms.now) (map L.number rows.now.first.now) (map L.number rows.now.second.now) (map L.number rows.now.room.now) rows.now.answered (length rows.now.first.now) }
+    requires answered { AreAnswered L.kind rows.now.steps.now (map L.number rows.now.uniforms.now)
+        (map L.number rows.now.first.now) (map L.number rows.now.second.now)
+        (map L.number rows.now.room.now) rows.now.answered (length rows.now.first.now) }
     requires long { length out.old ≡ length rows.now.first.now }
-    ensures { ArePart (λ r. let rs = answers_at L.kind rows.now.steps.now (map L.number rows.now.uniforms.now) (map L.number rows.now.first.now) (map L.number rows.now.second.now) r in W.gives (at rs i) (at rs j)) (map L.number out.new) (length rows.now.first.now) }
+    ensures { ArePart (λ r. let rs = answers_at L.kind rows.now.steps.now
+        (map L.number rows.now.uniforms.now) (map L.number rows.now.first.now)
+        (map L.number rows.now.second.now) r in W.gives (at rs i) (at rs j)) (map L.number out.new)
+        (length rows.now.first.now) }
 {
     each_two(
         work,
@@ -76,9 +84,13 @@ fn arithmetic<L: Lane>(rows: &Rows<L>, op: BinOp, i: u32, j: u32, out: &mut [L])
     requires op { IsTrue (is_arithmetic op) }
     requires first { i < rows.now.answered }
     requires second { j < rows.now.answered }
-    requires answered { AreAnswered L.kind rows.now.steps.now (map L.number rows.now.uniforms.now) (map L.number rows.now.first.now) (map L.number rows.now.second.now) (map L.number rows.now.room.now) rows.now.answered (length rows.now.first.now) }
+    requires answered { AreAnswered L.kind rows.now.steps.now (map L.number rows.now.uniforms.now)
+        (map L.number rows.now.first.now) (map L.number rows.now.second.now)
+        (map L.number rows.now.room.now) rows.now.answered (length rows.now.first.now) }
     requires long { length out.old ≡ length rows.now.first.now }
-    ensures { IsAnswered L.kind rows.now.steps.now (map L.number rows.now.uniforms.now) (map L.number rows.now.first.now) (map L.number rows.now.second.now) (step_names.Arith op i j) (map L.number out.new) (length rows.now.first.now) }
+    ensures { IsAnswered L.kind rows.now.steps.now (map L.number rows.now.uniforms.now)
+        (map L.number rows.now.first.now) (map L.number rows.now.second.now)
+        (step_names.Arith op i j) (map L.number out.new) (length rows.now.first.now) }
 {
     match op {
         BinOp::Add => binary(rows, &Sum, i, j, out),
@@ -93,9 +105,13 @@ fn compared<L: Lane>(rows: &Rows<L>, op: BinOp, i: u32, j: u32, out: &mut [L])
     requires op { IsTrue (is_comparison op) }
     requires first { i < rows.now.answered }
     requires second { j < rows.now.answered }
-    requires answered { AreAnswered L.kind rows.now.steps.now (map L.number rows.now.uniforms.now) (map L.number rows.now.first.now) (map L.number rows.now.second.now) (map L.number rows.now.room.now) rows.now.answered (length rows.now.first.now) }
+    requires answered { AreAnswered L.kind rows.now.steps.now (map L.number rows.now.uniforms.now)
+        (map L.number rows.now.first.now) (map L.number rows.now.second.now)
+        (map L.number rows.now.room.now) rows.now.answered (length rows.now.first.now) }
     requires long { length out.old ≡ length rows.now.first.now }
-    ensures { IsAnswered L.kind rows.now.steps.now (map L.number rows.now.uniforms.now) (map L.number rows.now.first.now) (map L.number rows.now.second.now) (step_names.Compare op i j) (map L.number out.new) (length rows.now.first.now) }
+    ensures { IsAnswered L.kind rows.now.steps.now (map L.number rows.now.uniforms.now)
+        (map L.number rows.now.first.now) (map L.number rows.now.second.now)
+        (step_names.Compare op i j) (map L.number out.new) (length rows.now.first.now) }
 {
     match op {
         BinOp::Eq => binary(rows, &Equal, i, j, out),
@@ -112,9 +128,13 @@ fn compared<L: Lane>(rows: &Rows<L>, op: BinOp, i: u32, j: u32, out: &mut [L])
 #[tactic(auto, using(crate::proofs::Running::not_answers))]
 fn negated<L: Lane>(rows: &Rows<L>, i: u32, out: &mut [L])
     requires first { i < rows.now.answered }
-    requires answered { AreAnswered L.kind rows.now.steps.now (map L.number rows.now.uniforms.now) (map L.number rows.now.first.now) (map L.number rows.now.second.now) (map L.number rows.now.room.now) rows.now.answered (length rows.now.first.now) }
+    requires answered { AreAnswered L.kind rows.now.steps.now (map L.number rows.now.uniforms.now)
+        (map L.number rows.now.first.now) (map L.number rows.now.second.now)
+        (map L.number rows.now.room.now) rows.now.answered (length rows.now.first.now) }
     requires long { length out.old ≡ length rows.now.first.now }
-    ensures { IsAnswered L.kind rows.now.steps.now (map L.number rows.now.uniforms.now) (map L.number rows.now.first.now) (map L.number rows.now.second.now) (step_names.Not i) (map L.number out.new) (length rows.now.first.now) }
+    ensures { IsAnswered L.kind rows.now.steps.now (map L.number rows.now.uniforms.now)
+        (map L.number rows.now.first.now) (map L.number rows.now.second.now) (step_names.Not i)
+        (map L.number out.new) (length rows.now.first.now) }
 {
     each_not(out, operand(rows, i as usize));
 }
@@ -125,9 +145,13 @@ fn selected<L: Lane>(rows: &Rows<L>, truths: u32, i: u32, j: u32, out: &mut [L])
     requires truths { truths < rows.now.answered }
     requires first { i < rows.now.answered }
     requires second { j < rows.now.answered }
-    requires answered { AreAnswered L.kind rows.now.steps.now (map L.number rows.now.uniforms.now) (map L.number rows.now.first.now) (map L.number rows.now.second.now) (map L.number rows.now.room.now) rows.now.answered (length rows.now.first.now) }
+    requires answered { AreAnswered L.kind rows.now.steps.now (map L.number rows.now.uniforms.now)
+        (map L.number rows.now.first.now) (map L.number rows.now.second.now)
+        (map L.number rows.now.room.now) rows.now.answered (length rows.now.first.now) }
     requires long { length out.old ≡ length rows.now.first.now }
-    ensures { IsAnswered L.kind rows.now.steps.now (map L.number rows.now.uniforms.now) (map L.number rows.now.first.now) (map L.number rows.now.second.now) (step_names.Select truths i j) (map L.number out.new) (length rows.now.first.now) }
+    ensures { IsAnswered L.kind rows.now.steps.now (map L.number rows.now.uniforms.now)
+        (map L.number rows.now.first.now) (map L.number rows.now.second.now)
+        (step_names.Select truths i j) (map L.number out.new) (length rows.now.first.now) }
 {
     each_choice(
         out,
@@ -153,9 +177,13 @@ fn uniform<L: Lane>(uniforms: &[L], place: u32) -> L
 #[inline(never)]
 pub(crate) fn answer_step<L: Lane>(rows: &Rows<L>, step: LaneStep, out: &mut [L])
     requires formed { IsTrue (is_formed L.kind rows.now.answered step) }
-    requires answered { AreAnswered L.kind rows.now.steps.now (map L.number rows.now.uniforms.now) (map L.number rows.now.first.now) (map L.number rows.now.second.now) (map L.number rows.now.room.now) rows.now.answered (length rows.now.first.now) }
+    requires answered { AreAnswered L.kind rows.now.steps.now (map L.number rows.now.uniforms.now)
+        (map L.number rows.now.first.now) (map L.number rows.now.second.now)
+        (map L.number rows.now.room.now) rows.now.answered (length rows.now.first.now) }
     requires long { length out.old ≡ length rows.now.first.now }
-    ensures { IsAnswered L.kind rows.now.steps.now (map L.number rows.now.uniforms.now) (map L.number rows.now.first.now) (map L.number rows.now.second.now) step (map L.number out.new) (length rows.now.first.now) }
+    ensures { IsAnswered L.kind rows.now.steps.now (map L.number rows.now.uniforms.now)
+        (map L.number rows.now.first.now) (map L.number rows.now.second.now) step
+        (map L.number out.new) (length rows.now.first.now) }
 {
     match step {
         LaneStep::A | LaneStep::B => {}

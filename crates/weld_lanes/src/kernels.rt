@@ -28,8 +28,12 @@ fn answer_next<L: Lane>(
     requires small { length first.now ≤ 512 }
     requires there { place < length program.now.steps.items }
     requires long { room_of (length program.now.steps.items) ≤ length room.old }
-    requires answered { AreAnswered L.kind program.now.steps.items (map L.number uniforms.now) (map L.number first.now) (map L.number second.now) (map L.number room.old) place (length first.now) }
-    ensures { AreAnswered L.kind program.now.steps.items (map L.number uniforms.now) (map L.number first.now) (map L.number second.now) (map L.number room.new) (place + 1) (length first.now) }
+    requires answered { AreAnswered L.kind program.now.steps.items (map L.number uniforms.now)
+        (map L.number first.now) (map L.number second.now) (map L.number room.old) place
+        (length first.now) }
+    ensures { AreAnswered L.kind program.now.steps.items (map L.number uniforms.now)
+        (map L.number first.now) (map L.number second.now) (map L.number room.new) (place + 1)
+        (length first.now) }
 {
     let steps = program.steps.as_slice();
     let (before, rest) = room.split_at_mut(place * BLOCK);
@@ -47,9 +51,13 @@ fn answer_next<L: Lane>(
 /// The answers of the next step into the first places of the room that is left.
 fn answer_into<L: Lane>(rows: &Rows<L>, step: LaneStep, rest: &mut [L])
     requires formed { IsTrue (is_formed L.kind rows.now.answered step) }
-    requires answered { AreAnswered L.kind rows.now.steps.now (map L.number rows.now.uniforms.now) (map L.number rows.now.first.now) (map L.number rows.now.second.now) (map L.number rows.now.room.now) rows.now.answered (length rows.now.first.now) }
+    requires answered { AreAnswered L.kind rows.now.steps.now (map L.number rows.now.uniforms.now)
+        (map L.number rows.now.first.now) (map L.number rows.now.second.now)
+        (map L.number rows.now.room.now) rows.now.answered (length rows.now.first.now) }
     requires long { length rows.now.first.now ≤ length rest.old }
-    ensures { IsAnswered L.kind rows.now.steps.now (map L.number rows.now.uniforms.now) (map L.number rows.now.first.now) (map L.number rows.now.second.now) step (map L.number rest.new) (length rows.now.first.now) }
+    ensures { IsAnswered L.kind rows.now.steps.now (map L.number rows.now.uniforms.now)
+        (map L.number rows.now.first.now) (map L.number rows.now.second.now) step
+        (map L.number rest.new) (length rows.now.first.now) }
 {
     answer_step(rows, step, &mut rest[..rows.first.len()]);
 }
@@ -66,7 +74,9 @@ fn answer_all<L: Lane>(
     requires same { length second.now ≡ length first.now }
     requires small { length first.now ≤ 512 }
     requires long { room_of (length program.now.steps.items) ≤ length room.old }
-    ensures { AreAnswered L.kind program.now.steps.items (map L.number uniforms.now) (map L.number first.now) (map L.number second.now) (map L.number room.new) (length program.now.steps.items) (length first.now) }
+    ensures { AreAnswered L.kind program.now.steps.items (map L.number uniforms.now)
+        (map L.number first.now) (map L.number second.now) (map L.number room.new)
+        (length program.now.steps.items) (length first.now) }
 {
     for place in 0..program.steps.len() {
         answer_next(program, uniforms, first, second, place, room);
@@ -86,7 +96,9 @@ fn block_answers<'a, L: Lane>(
     requires small { length first.now ≤ 512 }
     requires long { room_of (length program.now.steps.items) ≤ length room.old }
     ensures long { length result.now ≡ length first.now }
-    ensures each { ArePart (λ j. row_answer L.kind program.now.steps.items (map L.number uniforms.now) (at (map L.number first.now) j) (at (map L.number second.now) j)) (map L.number result.now) (length first.now) }
+    ensures each { ArePart (λ j. row_answer L.kind program.now.steps.items
+        (map L.number uniforms.now) (at (map L.number first.now) j)
+        (at (map L.number second.now) j)) (map L.number result.now) (length first.now) }
 {
     answer_all(program, uniforms, first, second, room);
     let steps = program.steps.as_slice();
@@ -116,7 +128,8 @@ pub fn map_lanes<L: Lane>(
     requires room { room_of (length program.now.steps.items) ≤ scratch.old }
     requires second { length second.now ≡ length first.now }
     requires out { length out.old ≡ length first.now }
-    ensures answers { map L.number out.new ≡ lane_meaning L.kind program.now.steps.items (map L.number uniforms.now) (map L.number first.now) (map L.number second.now) }
+    ensures answers { map L.number out.new ≡ lane_meaning L.kind program.now.steps.items
+        (map L.number uniforms.now) (map L.number first.now) (map L.number second.now) }
     ensures room { scratch.new ≡ scratch.old }
 {
     map_all(program, &mut scratch.items, first, second, uniforms, out);
@@ -135,7 +148,8 @@ fn map_all<L: Lane>(
     requires room { room_of (length program.now.steps.items) ≤ length room.old }
     requires second { length second.now ≡ length first.now }
     requires out { length out.old ≡ length first.now }
-    ensures { map L.number out.new ≡ lane_meaning L.kind program.now.steps.items (map L.number uniforms.now) (map L.number first.now) (map L.number second.now) }
+    ensures { map L.number out.new ≡ lane_meaning L.kind program.now.steps.items
+        (map L.number uniforms.now) (map L.number first.now) (map L.number second.now) }
 {
     let mut from = 0;
     while from < first.len() {
@@ -168,7 +182,9 @@ fn map_block<L: Lane>(
     requires small { length first.now ≤ 512 }
     requires long { room_of (length program.now.steps.items) ≤ length room.old }
     requires out { length out.old ≡ length first.now }
-    ensures { ArePart (λ j. row_answer L.kind program.now.steps.items (map L.number uniforms.now) (at (map L.number first.now) j) (at (map L.number second.now) j)) (map L.number out.new) (length first.now) }
+    ensures { ArePart (λ j. row_answer L.kind program.now.steps.items (map L.number uniforms.now)
+        (at (map L.number first.now) j) (at (map L.number second.now) j)) (map L.number out.new)
+        (length first.now) }
 {
     let answers = block_answers(program, uniforms, first, second, room);
     each_copy(out, answers);
@@ -188,7 +204,9 @@ pub fn fold_lanes<L: Lane>(
     requires kind { program.now.kind ≡ L.kind }
     requires room { room_of (length program.now.steps.items) ≤ scratch.old }
     requires second { length second.now ≡ length first.now }
-    ensures answer { L.number result ≡ fold (λ x y. combination op L.kind x y) (L.number start) (lane_meaning L.kind program.now.steps.items (map L.number uniforms.now) (map L.number first.now) (map L.number second.now)) }
+    ensures answer { L.number result ≡ fold (λ x y. combination op L.kind x y) (L.number start)
+        (lane_meaning L.kind program.now.steps.items (map L.number uniforms.now)
+        (map L.number first.now) (map L.number second.now)) }
     ensures room { scratch.new ≡ scratch.old }
 {
     fold_rows(
@@ -215,7 +233,9 @@ fn fold_rows<L: Lane>(
     requires kind { program.now.kind ≡ L.kind }
     requires room { room_of (length program.now.steps.items) ≤ length room.old }
     requires second { length second.now ≡ length first.now }
-    ensures { L.number result ≡ fold (λ x y. combination op L.kind x y) (L.number start) (lane_meaning L.kind program.now.steps.items (map L.number uniforms.now) (map L.number first.now) (map L.number second.now)) }
+    ensures { L.number result ≡ fold (λ x y. combination op L.kind x y) (L.number start)
+        (lane_meaning L.kind program.now.steps.items (map L.number uniforms.now)
+        (map L.number first.now) (map L.number second.now)) }
 {
     let mut total = start;
     let mut from = 0;
@@ -244,7 +264,9 @@ fn fold_block<L: Lane>(
     requires same { length second.now ≡ length first.now }
     requires small { length first.now ≤ 512 }
     requires long { room_of (length program.now.steps.items) ≤ length room.old }
-    ensures { L.number result ≡ fold (λ x y. combination op L.kind x y) (L.number start) (lane_meaning L.kind program.now.steps.items (map L.number uniforms.now) (map L.number first.now) (map L.number second.now)) }
+    ensures { L.number result ≡ fold (λ x y. combination op L.kind x y) (L.number start)
+        (lane_meaning L.kind program.now.steps.items (map L.number uniforms.now)
+        (map L.number first.now) (map L.number second.now)) }
 {
     let answers = block_answers(program, uniforms, first, second, room);
     combined(op, start, answers)
@@ -252,7 +274,8 @@ fn fold_block<L: Lane>(
 
 /// Numbers combined one after another with what is there: the operator is looked at once.
 fn combined<L: Lane>(op: MergeOp, start: L, numbers: &[L]) -> L
-    ensures { L.number result ≡ fold (λ x y. combination op L.kind x y) (L.number start) (map L.number numbers.now) }
+    ensures { L.number result ≡ fold (λ x y. combination op L.kind x y) (L.number start)
+        (map L.number numbers.now) }
 {
     match op {
         MergeOp::Add => fold_all(&Sum, start, numbers),

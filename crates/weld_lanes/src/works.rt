@@ -169,7 +169,8 @@ impl<L: Lane> Work<L> for Either {
 pub(crate) fn each_two<L: Lane, W: Work<L>>(work: &W, out: &mut [L], x: &[L], y: &[L])
     requires first { length x.now ≡ length out.old }
     requires second { length y.now ≡ length out.old }
-    ensures { AreTwo W.gives (map L.number x.now) (map L.number y.now) (map L.number out.new) (length out.old) }
+    ensures { AreTwo W.gives (map L.number x.now) (map L.number y.now) (map L.number out.new)
+        (length out.old) }
 {
     for place in 0..out.len() {
         out[place] = work.of(x[place], y[place]);
@@ -179,7 +180,8 @@ pub(crate) fn each_two<L: Lane, W: Work<L>>(work: &W, out: &mut [L], x: &[L], y:
 /// Whether the number at each place doesn't stand for true.
 pub(crate) fn each_not<L: Lane>(out: &mut [L], x: &[L])
     requires { length x.now ≡ length out.old }
-    ensures { AreOne (λ n. truth (not (is_true n))) (map L.number x.now) (map L.number out.new) (length out.old) }
+    ensures { AreOne (λ n. truth (not (is_true n))) (map L.number x.now) (map L.number out.new)
+        (length out.old) }
 {
     for place in 0..out.len() {
         out[place] = L::of_truth(!x[place].is_true());
@@ -199,7 +201,8 @@ pub(crate) fn each_choice<L: Lane>(out: &mut [L], truths: &[L], x: &[L], y: &[L]
     requires truths { length truths.now ≡ length out.old }
     requires first { length x.now ≡ length out.old }
     requires second { length y.now ≡ length out.old }
-    ensures { AreThree (map L.number truths.now) (map L.number x.now) (map L.number y.now) (map L.number out.new) (length out.old) }
+    ensures { AreThree (map L.number truths.now) (map L.number x.now) (map L.number y.now)
+        (map L.number out.new) (length out.old) }
 {
     for place in 0..out.len() {
         out[place] = chosen(truths[place], x[place], y[place]);

@@ -1,8 +1,8 @@
-pub mod Graphs
-pub mod Additions
-pub mod Marking
-pub mod Numbering
-pub mod Placing
-pub mod Chaining
-pub mod Whole
-pub mod Picking
+mod Graphs
+mod Additions
+mod Marking
+mod Numbering
+mod Placing
+mod Chaining
+mod Whole
+mod Picking

@@ -36,9 +36,11 @@ impl Graph {
         requires room { length self.old < 4294967295 }
         requires few { length deps.now ≤ 4294967295 }
         ensures id { IfOk result (λ id. id.0 ≡ length self.old) }
-        ensures added { OnOk result ((t : TypeTree) × ProgramHas f.program t × (self.new ≡ self.old ++ call t (view_ids deps.now) f.program ∷ [])) }
+        ensures added { OnOk result ((t : TypeTree) × ProgramHas f.program t
+            × (self.new ≡ self.old ++ call t (view_ids deps.now) f.program ∷ [])) }
         ensures fits { OnOk result (MayBeAdded self.old (view_ids deps.now) f.program.params) }
-        ensures refused { IfErr result (λ fault. FaultSays fault self.old (view_ids deps.now) f.program.params) }
+        ensures refused { IfErr result (λ fault. FaultSays fault self.old (view_ids deps.now)
+            f.program.params) }
         ensures unchanged { OnErr result (self.new ≡ self.old) }
     {
         match self.check_call(alloc, deps, &f.program) {
@@ -60,7 +62,8 @@ impl Graph {
     ) -> Result<(), LazyFault>
         requires few { length deps.now ≤ 4294967295 }
         ensures fits { OnOk result (MayBeAdded self.now (view_ids deps.now) program.now.params) }
-        ensures refused { IfErr result (λ fault. FaultSays fault self.now (view_ids deps.now) program.now.params) }
+        ensures refused { IfErr result (λ fault. FaultSays fault self.now (view_ids deps.now)
+            program.now.params) }
     {
         if let Some(id) = self.first_unknown(deps) {
             return Err(LazyFault::Unknown(id));
@@ -100,7 +103,8 @@ impl Graph {
         requires few { length deps.now ≤ 4294967295 }
         requires noted { ParamsFit params.now }
         ensures fits { OnOk result (DepsFit (type_at self.now) (view_ids deps.now) params.now) }
-        ensures refused { IfErr result (λ fault. MismatchSays fault self.now (view_ids deps.now) params.now) }
+        ensures refused { IfErr result (λ fault. MismatchSays fault self.now (view_ids deps.now)
+            params.now) }
     {
         for place in 0..deps.len() {
             let Some(expected) = &params[place].note else {
@@ -126,7 +130,8 @@ impl Graph {
         requires room { length self.old < 4294967295 }
         requires fits { MayBeAdded self.old (view_ids deps.now) program.params }
         ensures id { IfOk result (λ id. id.0 ≡ length self.old) }
-        ensures added { OnOk result ((t : TypeTree) × ProgramHas program t × (self.new ≡ self.old ++ call t (view_ids deps.now) program ∷ [])) }
+        ensures added { OnOk result ((t : TypeTree) × ProgramHas program t
+            × (self.new ≡ self.old ++ call t (view_ids deps.now) program ∷ [])) }
         ensures unchanged { OnErr result (self.new ≡ self.old) }
     {
         let ty = answer_type(alloc, &program)?;
@@ -159,7 +164,8 @@ fn mismatch(alloc: Global, place: u32, expected: &Ty, found: &Ty) -> LazyFault
 
 /// How many names a call of the program adds: its own, and those of the program's binders.
 fn names_of_call(alloc: Global, program: &Accepted) -> Result<u64, AllocError>
-    ensures value { IfOk result (λ count. count ≡ 1 + (length program.now.params + length (bound program.now.body))) }
+    ensures value { IfOk result (λ count. count ≡ 1 + (length program.now.params + length
+        (bound program.now.body))) }
     ensures few { IfOk result (λ count. count ≤ 4294967295) }
     ensures program { IsProgram program.now.params program.now.body }
     ensures accepted { IsAccepted program.now }

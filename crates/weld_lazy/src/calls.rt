@@ -74,7 +74,8 @@ impl Lets {
 /// The numbers that a call's binders become, one after another from the base on.
 fn number_binders(alloc: Global, binders: &Syms, base: u32) -> Result<Numbering, AllocError>
     requires { base + length binders.now ≤ 4294967295 }
-    ensures { IfOk result (λ renaming. (s : ℕ) → look_for s renaming ≡ binder_number base binders.now s) }
+    ensures { IfOk result (λ renaming. (s : ℕ) → look_for s renaming
+        ≡ binder_number base binders.now s) }
 {
     let mut renaming = Numbering::new(alloc);
     let mut place = binders.len();
@@ -93,7 +94,9 @@ fn number_params(
     numbers: &Numbering,
 ) -> Result<(), AllocError>
     requires { length params.now ≡ length deps.now }
-    ensures { OnOk result ((s : ℕ) → look_for s renaming.new ≡ param_number params.now (map (number_in numbers.now) deps.now) s (look_for s renaming.old)) }
+    ensures { OnOk result ((s : ℕ) → look_for s renaming.new
+        ≡ param_number params.now (map (number_in numbers.now) deps.now) s
+        (look_for s renaming.old)) }
 {
     let mut place = params.len();
     while place > 0 {
@@ -115,7 +118,8 @@ pub(crate) fn place_body(
     requires count { length program.now.params ≡ length deps.now }
     requires binders { binders.now ≡ bound program.now.body }
     requires room { base + length binders.now ≤ 4294967295 }
-    ensures { IfOk result (λ body. body.value ≡ placed_body base (map (number_in numbers.now) deps.now) program.now) }
+    ensures { IfOk result (λ body. body.value ≡ placed_body base
+        (map (number_in numbers.now) deps.now) program.now) }
 {
     let program = program.program();
     let mut renaming = number_binders(alloc, binders, base)?;

@@ -36,9 +36,13 @@ impl Chain {
     ) -> Result<(), AllocError>
         requires count { length program.now.params ≡ length deps.now }
         requires room { self.old.next + suc (length (bound program.now.body)) < 4294967295 }
-        ensures lets { OnOk result (self.new.lets ≡ self.old.lets ++ (self.old.next, placed_body (suc self.old.next) (map (number_in self.old.numbers) deps.now) program.now) ∷ []) }
-        ensures next { OnOk result (self.new.next ≡ suc self.old.next + length (bound program.now.body)) }
-        ensures numbers { OnOk result ((k : ℕ) → number_in self.new.numbers k ≡ with_one id.0 self.old.next (number_in self.old.numbers) k) }
+        ensures lets { OnOk result (self.new.lets ≡ self.old.lets
+            ++ (self.old.next, placed_body (suc self.old.next)
+            (map (number_in self.old.numbers) deps.now) program.now) ∷ []) }
+        ensures next { OnOk result (self.new.next ≡ suc self.old.next + length
+            (bound program.now.body)) }
+        ensures numbers { OnOk result ((k : ℕ) → number_in self.new.numbers k
+            ≡ with_one id.0 self.old.next (number_in self.old.numbers) k) }
     {
         let binders = binders_of(alloc, &program.program().body)?;
         let number = self.next;
@@ -58,11 +62,15 @@ impl Chain {
         marks: &Marks,
     ) -> Result<(), AllocError>
         requires count { HasCount (view_object object.now) }
-        requires room { self.old.next + binders_at (marks_of marks.now) id.0 (view_object object.now) < 4294967295 }
+        requires room { self.old.next + binders_at (marks_of marks.now) id.0
+            (view_object object.now) < 4294967295 }
         ensures passed { OnOk result ((shown : List ℕ) (os : List PlainObject)
-            → chained self.new.lets (lets (marks_of marks.now) (suc id.0) self.new.next (number_in self.new.numbers) shown os)
-            ≡ chained self.old.lets (lets (marks_of marks.now) id.0 self.old.next (number_in self.old.numbers) shown (view_object object.now ∷ os))) }
-        ensures next { OnOk result (self.new.next ≡ self.old.next + binders_at (marks_of marks.now) id.0 (view_object object.now)) }
+            → chained self.new.lets (lets (marks_of marks.now) (suc id.0) self.new.next
+            (number_in self.new.numbers) shown os)
+            ≡ chained self.old.lets (lets (marks_of marks.now) id.0 self.old.next
+            (number_in self.old.numbers) shown (view_object object.now ∷ os))) }
+        ensures next { OnOk result (self.new.next ≡ self.old.next + binders_at (marks_of marks.now)
+            id.0 (view_object object.now)) }
     {
         match object {
             Object::Given(_, _) => Ok(()),
@@ -87,10 +95,12 @@ pub(crate) fn chain_calls(
 ) -> Result<Chain, AllocError>
     requires fits { length objects.now ≤ 4294967295 }
     requires counts { HaveCounts (map view_object objects.now) }
-    requires room { first + binders_from (marks_of marks.now) 0 (map view_object objects.now) < 4294967295 }
+    requires room { first + binders_from (marks_of marks.now) 0 (map view_object objects.now)
+        < 4294967295 }
     ensures { IfOk result (λ chain. (shown : List ℕ)
         → chained chain.lets (shown_struct (number_in chain.numbers) shown)
-        ≡ lets (marks_of marks.now) 0 first (number_in numbers) shown (map view_object objects.now)) }
+        ≡ lets (marks_of marks.now) 0 first (number_in numbers) shown
+        (map view_object objects.now)) }
 {
     let mut chain = Chain {
         numbers,

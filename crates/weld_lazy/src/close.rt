@@ -31,7 +31,8 @@ fn placeless(alloc: Global, form: Form) -> Result<Box<Expr>, AllocError>
 
 /// A `let` around a body.
 fn wrapped(alloc: Global, part: LetPart, body: Box<Expr>) -> Result<Box<Expr>, AllocError>
-    ensures { IfOk result (λ e. e.value ≡ let_in blank_at (plain_binder part.number None) part.body.value body.value) }
+    ensures { IfOk result (λ e. e.value ≡ let_in blank_at (plain_binder part.number None)
+        part.body.value body.value) }
 {
     let LetPart {
         number,

@@ -37,7 +37,8 @@ fn pick(
 ) -> Result<usize, AllocError>
     requires { place ≤ length ids.now }
     ensures picked { IfOk result (λ next. (os : List PlainObject)
-        → values.old ++ picked id (view_object object ∷ os) (drop place ids.now) ≡ values.new ++ picked (suc id) os (drop next ids.now)) }
+        → values.old ++ picked id (view_object object ∷ os) (drop place ids.now)
+        ≡ values.new ++ picked (suc id) os (drop next ids.now)) }
     ensures within { IfOk result (λ next. next ≤ length ids.now) }
 {
     match object {

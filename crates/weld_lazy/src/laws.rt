@@ -8,5 +8,6 @@ ghost use Rattle.weld_lazy.specs.Inputs.{picked};
 /// the objects.
 #[tactic(auto, using(crate::proofs::Picking::picked_inputs))]
 pub fn inputs_are_given_up()
-    ensures { (keep : ℕ → Bool) (os : List Object) → picked 0 os (kept_values keep 0 os) ≡ inputs_of keep 0 os }
+    ensures { (keep : ℕ → Bool) (os : List Object) → picked 0 os (kept_values keep 0 os)
+        ≡ inputs_of keep 0 os }
 {}

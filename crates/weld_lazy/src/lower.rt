@@ -36,7 +36,8 @@ impl Graph {
     pub fn lower(&self, alloc: Global, shown: &[ObjectId]) -> Result<Lowered, LazyFault>
         requires some { 0 < length shown.now }
         requires few { names_of self.now < 4294967295 }
-        ensures lowered { IfOk result (λ l. IsLowered l.program l.inputs self.now (view_ids shown.now)) }
+        ensures lowered { IfOk result (λ l. IsLowered l.program l.inputs self.now
+            (view_ids shown.now)) }
         ensures unknown { IfErr result (λ fault. LowerSays fault self.now (view_ids shown.now)) }
     {
         if let Some(id) = self.first_unknown(shown) {

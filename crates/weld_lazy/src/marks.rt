@@ -47,7 +47,8 @@ impl Marks {
 
     /// Marks the object too.
     fn mark(&mut self, id: ObjectId) -> Result<(), AllocError>
-        ensures { OnOk result ((k : ℕ) → marks_of self.new k ≡ ((k == id.0) || marks_of self.old k)) }
+        ensures { OnOk result ((k : ℕ) → marks_of self.new k
+            ≡ ((k == id.0) || marks_of self.old k)) }
     {
         self.marked.insert(id.0, true)?;
         Ok(())
@@ -55,7 +56,8 @@ impl Marks {
 
     /// Marks these objects too.
     fn mark_all(&mut self, ids: &Ids) -> Result<(), AllocError>
-        ensures { OnOk result ((k : ℕ) → marks_of self.new k ≡ (is_one_of ids.now k || marks_of self.old k)) }
+        ensures { OnOk result ((k : ℕ) → marks_of self.new k
+            ≡ (is_one_of ids.now k || marks_of self.old k)) }
     {
         let mut place = ids.len();
         while place > 0 {
@@ -68,7 +70,8 @@ impl Marks {
 
 /// Where the object is a call that is marked, marks those that it is made on too.
 fn mark_used(marks: &mut Marks, id: ObjectId, object: &Object) -> Result<(), AllocError>
-    ensures { OnOk result ((k : ℕ) → marks_of marks.new k ≡ with_used id.0 (view_object object.now) (marks_of marks.old) k) }
+    ensures { OnOk result ((k : ℕ) → marks_of marks.new k
+        ≡ with_used id.0 (view_object object.now) (marks_of marks.old) k) }
 {
     match object {
         Object::Given(_, _) => Ok(()),
@@ -86,7 +89,8 @@ fn mark_used(marks: &mut Marks, id: ObjectId, object: &Object) -> Result<(), All
 /// are made on objects before them.
 pub(crate) fn reach(alloc: Global, objects: &[Object], shown: &Ids) -> Result<Marks, AllocError>
     requires { length objects.now ≤ 4294967295 }
-    ensures { IfOk result (λ marks. (k : ℕ) → marks_of marks k ≡ reached_from 0 (map view_object objects.now) (is_one_of shown.now) k) }
+    ensures { IfOk result (λ marks. (k : ℕ) → marks_of marks k
+        ≡ reached_from 0 (map view_object objects.now) (is_one_of shown.now) k) }
 {
     let mut marks = Marks::new(alloc);
     marks.mark_all(shown)?;

@@ -39,9 +39,11 @@ impl Numbered {
     /// The next parameter is for the value of that id.
     fn push(&mut self, alloc: Global, id: ObjectId, ty: &Ty) -> Result<(), AllocError>
         requires { length self.old.inputs < 4294967295 }
-        ensures params { OnOk result (self.new.params ≡ self.old.params ++ new_binder (length self.old.inputs) (Some ty.now) ∷ []) }
+        ensures params { OnOk result (self.new.params ≡ self.old.params
+            ++ new_binder (length self.old.inputs) (Some ty.now) ∷ []) }
         ensures inputs { OnOk result (self.new.inputs ≡ self.old.inputs ++ id.0 ∷ []) }
-        ensures numbers { OnOk result ((k : ℕ) → number_in self.new.numbers k ≡ with_one id.0 (length self.old.inputs) (number_in self.old.numbers) k) }
+        ensures numbers { OnOk result ((k : ℕ) → number_in self.new.numbers k
+            ≡ with_one id.0 (length self.old.inputs) (number_in self.old.numbers) k) }
     {
         let number = self.inputs.len() as u32;
         let ty = ty.copy(alloc)?;
@@ -60,8 +62,10 @@ impl Numbered {
     ) -> Result<(), AllocError>
         requires { length self.old.inputs < 4294967295 }
         ensures passed { OnOk result ((os : List PlainObject)
-            → numbered (marks_of marks.now) id.0 (view_object object.now ∷ os) (number_in self.old.numbers) self.old.params self.old.inputs
-            ≡ numbered (marks_of marks.now) (suc id.0) os (number_in self.new.numbers) self.new.params self.new.inputs) }
+            → numbered (marks_of marks.now) id.0 (view_object object.now ∷ os)
+            (number_in self.old.numbers) self.old.params self.old.inputs
+            ≡ numbered (marks_of marks.now) (suc id.0) os (number_in self.new.numbers)
+            self.new.params self.new.inputs) }
         ensures count { OnOk result (length self.new.inputs ≤ length self.old.inputs + 1) }
     {
         match object {
@@ -84,7 +88,8 @@ pub(crate) fn number_values(
     marks: &Marks,
 ) -> Result<Numbered, AllocError>
     requires { length objects.now ≤ 4294967295 }
-    ensures { IfOk result (λ values. numbered (marks_of marks.now) 0 (map view_object objects.now) (λ id. id) [] []
+    ensures { IfOk result (λ values. numbered (marks_of marks.now) 0 (map view_object objects.now)
+        (λ id. id) [] []
         ≡ (number_in values.numbers, (values.params, values.inputs))) }
 {
     let mut values = Numbered {

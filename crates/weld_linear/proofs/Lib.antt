@@ -1,8 +1,8 @@
-pub mod Once
+mod Once
 pub mod Arms
-pub mod Cases
+mod Cases
 pub mod Left
-pub mod Marks
+mod Marks
 pub mod Names
-pub mod Lists
-pub mod Fields
+mod Lists
+mod Fields

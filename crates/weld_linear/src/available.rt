@@ -126,7 +126,8 @@ impl Available {
 
     /// Takes the builders of the name at and below the path away, where the name has this origin.
     pub fn take(&mut self, name: Sym, path: &[usize], source: &Source)
-        ensures { self.new ≡ after_taking (λ s q. stands_below name.0 path.now source.now (s, q)) self.old }
+        ensures { self.new ≡ after_taking (λ s q. stands_below name.0 path.now source.now (s, q))
+            self.old }
     {
         self.items
             .retain(|builder| !stands_below(name, path, source, builder));
@@ -161,7 +162,8 @@ fn same_builders(builders: &[Builder], others: &[Builder]) -> bool
 
 /// Whether the two are one builder.
 fn same_builder(builder: &Builder, other: &Builder) -> bool
-    ensures { result ≡ ((builder.now.name.0 == other.now.name.0) && same_path builder.now.path other.now.path) }
+    ensures { result ≡ ((builder.now.name.0 == other.now.name.0) && same_path builder.now.path
+        other.now.path) }
 {
     builder.name.0 == other.name.0 && same_path(builder.path.as_slice(), other.path.as_slice())
 }

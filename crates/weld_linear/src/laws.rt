@@ -19,7 +19,8 @@ use weld_meaning::laws::the_walk_is_linear_use;
 /// builder. So it is in an accepted program. An expression that is linear uses a builder that it takes
 /// once on each of its control paths, and no other builder on any.
 pub fn each_builder_is_used_once()
-    ensures expression { (e : ExprTree) (g : Named Origin) (s : ℕ) (q : Path) (n : ℕ) → Keeps e g → Splits e g → ExprUses e g s q n
+    ensures expression { (e : ExprTree) (g : Named Origin) (s : ℕ) (q : Path) (n : ℕ) → Keeps e g
+        → Splits e g → ExprUses e g s q n
         → n ≡ times (takes e g s q) }
     ensures program { (p : ProgramTree) → linear_refusal p ≡ None → EachOnce p.body [] }
     ensures accepted { (p : ProgramTree) → IsAccepted p → EachOnce p.body [] }
@@ -32,5 +33,6 @@ pub fn each_builder_is_used_once()
 /// whatever origins the builders before the `if` are labelled; a builder that an arm makes is an origin
 /// of its own, which the other arm can't answer.
 pub fn arms_agree_whatever_stood_before()
-    ensures { (e f : ExprTree) (g : Named Origin) → ArmsAgree e f g ↔ ((h : Named Origin) → Labels g h → ArmsShare e f h) }
+    ensures { (e f : ExprTree) (g : Named Origin) → ArmsAgree e f g ↔
+        ((h : Named Origin) → Labels g h → ArmsShare e f h) }
 {}

@@ -1,7 +1,7 @@
 pub mod Outcomes
-pub mod Joining
+mod Joining
 pub mod Before
-pub mod Law
+mod Law
 pub mod Good
 pub mod ValuesGood
 pub mod WellFormed
@@ -10,13 +10,13 @@ pub mod NeverStuck
 pub mod OriginTypes
 pub mod Shapes
 pub mod LoopLaw
-pub mod LoopsThere
-pub mod Programs
+mod LoopsThere
+mod Programs
 pub mod Names
-pub mod WalkTests
+mod WalkTests
 pub mod Walk
 pub mod OneType
-pub mod Cases
+mod Cases
 pub mod Putting
-pub mod Tracing
+mod Tracing
 pub mod FreeNames

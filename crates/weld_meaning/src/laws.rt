@@ -30,7 +30,8 @@ use weld_builders::laws::{
 /// The type of an expression is well formed where those of its names are, and so is that of a
 /// program.
 pub fn types_are_well_formed()
-    ensures expression { (e : ExprTree) (g : Types) (t : TypeTree) → HasType e g t → AreFormed g → IsWellFormed t }
+    ensures expression { (e : ExprTree) (g : Types) (t : TypeTree) → HasType e g t → AreFormed g
+        → IsWellFormed t }
     ensures program { (p : ProgramTree) (t : TypeTree) → ProgramHas p t → IsWellFormed t }
 {}
 
@@ -49,7 +50,8 @@ pub fn the_walk_is_linear_use()
 /// gives a thing of the type. So a program on arguments of its types faults or gives a value of its
 /// type.
 pub fn typed_programs_are_never_stuck()
-    ensures expression { (e : ExprTree) (g : Types) (t : TypeTree) (env : Env) → HasType e g t → AreFormed g
+    ensures expression { (e : ExprTree) (g : Types) (t : TypeTree) (env : Env) → HasType e g t
+        → AreFormed g
         → EnvFits g env → GivesOrFaults (λ (x : Thing). HasThing x t) (eval e env) }
     ensures program { (p : ProgramTree) (t : TypeTree) (arguments : List Value) → ProgramHas p t
         → ArgumentsFit p.params arguments → GivesOrFaults (HasValue t) (meaning p arguments) }
@@ -60,17 +62,23 @@ pub fn typed_programs_are_never_stuck()
 
 /// What an expression comes to depends on the names that occur free in it, and on no others.
 pub fn evaluation_depends_on_free_names()
-    ensures { (e : ExprTree) (env other : Env) → AgreeOn (IsFree e) env other → eval e env ≡ eval e other }
+    ensures { (e : ExprTree) (env other : Env) → AgreeOn (IsFree e) env other
+        → eval e env ≡ eval e other }
 {}
 
 /// So do its types, where its builders come from, the rules on these, what it takes, and that each
 /// builder is taken once.
 pub fn rules_depend_on_free_names()
-    ensures types { (e : ExprTree) (g other : Types) (t : TypeTree) → AgreeOn (IsFree e) g other → HasType e g t → HasType e other t }
-    ensures origins { (e : ExprTree) (g other : Named Origin) → AgreeOn (IsFree e) g other → origin e g ≡ origin e other }
-    ensures keeps { (e : ExprTree) (g other : Named Origin) → AgreeOn (IsFree e) g other → Keeps e g → Keeps e other }
-    ensures taken { (e : ExprTree) (g other : Named Origin) → AgreeOn (IsFree e) g other → takes e g ≡ takes e other }
-    ensures splits { (e : ExprTree) (g other : Named Origin) → AgreeOn (IsFree e) g other → Splits e g → Splits e other }
+    ensures types { (e : ExprTree) (g other : Types) (t : TypeTree) → AgreeOn (IsFree e) g other
+        → HasType e g t → HasType e other t }
+    ensures origins { (e : ExprTree) (g other : Named Origin) → AgreeOn (IsFree e) g other
+        → origin e g ≡ origin e other }
+    ensures keeps { (e : ExprTree) (g other : Named Origin) → AgreeOn (IsFree e) g other → Keeps e g
+        → Keeps e other }
+    ensures taken { (e : ExprTree) (g other : Named Origin) → AgreeOn (IsFree e) g other
+        → takes e g ≡ takes e other }
+    ensures splits { (e : ExprTree) (g other : Named Origin) → AgreeOn (IsFree e) g other
+        → Splits e g → Splits e other }
 {}
 
 /// Where an expression comes to a thing, putting it in a name's place means what the name bound to
@@ -83,14 +91,16 @@ pub fn what_is_put_in_stands_for_the_name()
 /// Places, noted types and the numbers of binders don't count: programs that are the same up to
 /// these have one meaning.
 pub fn meaning_looks_past_spelling()
-    ensures { (p q : ProgramTree) (arguments : List Value) → AreSame p q → length arguments ≡ length p.params
+    ensures { (p q : ProgramTree) (arguments : List Value) → AreSame p q
+        → length arguments ≡ length p.params
         → meaning p arguments ≡ meaning q arguments }
 {}
 
 /// Of outcomes that aren't stuck the answers say all: what answers the same, or both nothing, is one
 /// outcome.
 pub fn answers_say_all()
-    ensures { (t u : TypeTree) (o p : Outcome Value) → GivesOrFaults (HasValue t) o → GivesOrFaults (HasValue u) p
+    ensures { (t u : TypeTree) (o p : Outcome Value) → GivesOrFaults (HasValue t) o
+        → GivesOrFaults (HasValue u) p
         → answer_of o ≡ answer_of p → o ≡ p }
 {}
 
@@ -104,8 +114,10 @@ pub fn loops_go_row_by_row()
 /// builders of its type it is these joined with the action of its rows, and the action over rows and
 /// more rows is the join of both; each side faults exactly where the other does.
 pub fn loops_join_in_order()
-    ensures found { (p : ProgramTree) (k : ℕ) → IsAccepted p → k < loops p.body → (l : Site) × IsLoopOf p k l }
-    ensures law { (p : ProgramTree) (k : ℕ) (l : Site) → IsAccepted p → IsLoopOf p k l → LawOfLoop l }
+    ensures found { (p : ProgramTree) (k : ℕ) → IsAccepted p → k < loops p.body
+        → (l : Site) × IsLoopOf p k l }
+    ensures law { (p : ProgramTree) (k : ℕ) (l : Site) → IsAccepted p → IsLoopOf p k l
+        → LawOfLoop l }
 {
     merge_into_a_join();
     values_are_ordered();

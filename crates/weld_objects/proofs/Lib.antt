@@ -1,24 +1,24 @@
-pub mod Numbers
-pub mod Meanings
-pub mod Types
+mod Numbers
+mod Meanings
+mod Types
 pub mod Trees
-pub mod Origins
-pub mod Taken
-pub mod Refusals
-pub mod Looked
-pub mod Changing
-pub mod BoundParts
-pub mod Answers
-pub mod Scopes
+mod Origins
+mod Taken
+mod Refusals
+mod Looked
+mod Changing
+mod BoundParts
+mod Answers
+mod Scopes
 pub mod Lists
-pub mod Placing
+mod Placing
 pub mod State
-pub mod Rest
-pub mod Means
+mod Rest
+mod Means
 pub mod Rules
 pub mod Counts
-pub mod Start
-pub mod ReachedLaws
+mod Start
+mod ReachedLaws
 pub mod Growing
 pub mod Sound
-pub mod Lowering
+mod Lowering

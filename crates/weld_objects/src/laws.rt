@@ -18,7 +18,8 @@ use weld_meaning::laws::typed_programs_are_never_stuck;
 
 /// Objects that keep their rules keep them with one more behind them that does.
 pub fn objects_grow()
-    ensures { (os : List Object) (o : Object) → AreObjects os → IsObject (type_at os) o → AreObjects (os ++ o ∷ []) }
+    ensures { (os : List Object) (o : Object) → AreObjects os → IsObject (type_at os) o
+        → AreObjects (os ++ o ∷ []) }
 {}
 
 /// An object comes to a value of its type, or faults.
@@ -31,7 +32,8 @@ pub fn objects_are_never_stuck()
 
 /// A call that may be added isn't refused, and one that is refused is so for one reason alone.
 pub fn a_call_has_one_answer()
-    ensures added { (os : List Object) (ids : List ℕ) (p : ProgramTree) (f : CallFault) → IsAccepted p
+    ensures added { (os : List Object) (ids : List ℕ) (p : ProgramTree) (f : CallFault)
+        → IsAccepted p
         → MayBeAdded os ids p.params → IsRefused os ids p.params f → ⊥ }
     ensures refused { (os : List Object) (ids : List ℕ) (p : ProgramTree) (f g : CallFault)
         → IsRefused os ids p.params f → IsRefused os ids p.params g → f ≡ g }
@@ -49,13 +51,15 @@ pub fn marks_are_exact()
 /// programs of the calls that are reached have together.
 pub fn objects_make_one_program()
     ensures program { (os : List Object) (shown : List ℕ) → MayBeLowered os shown
-        → IsProgram (lowered (reached os shown) os shown).params (lowered (reached os shown) os shown).body }
+        → IsProgram (lowered (reached os shown) os shown).params
+        (lowered (reached os shown) os shown).body }
     ensures accepted { (os : List Object) (shown : List ℕ) → MayBeLowered os shown
         → IsAccepted (lowered (reached os shown) os shown) }
     ensures typed { (os : List Object) (shown : List ℕ) → MayBeLowered os shown
         → ProgramHas (lowered (reached os shown) os shown) (shown_type os shown) }
     ensures arguments { (os : List Object) (shown : List ℕ) → MayBeLowered os shown
-        → ArgumentsFit (lowered (reached os shown) os shown).params (inputs_of (reached os shown) 0 os) }
+        → ArgumentsFit (lowered (reached os shown) os shown).params
+        (inputs_of (reached os shown) 0 os) }
     ensures loops { (os : List Object) (shown : List ℕ)
         → loops (lowered (reached os shown) os shown).body ≡ kept_loops (reached os shown) 0 os }
 {}
@@ -68,7 +72,8 @@ pub fn one_program_means_the_objects()
         ≡ shown_answer (reached os shown) os shown }
     ensures fault { (os : List Object) (shown : List ℕ) (id : ℕ) → MayBeLowered os shown
         → IsReached os shown id → denote os id ≡ fault
-        → meaning (lowered (reached os shown) os shown) (inputs_of (reached os shown) 0 os) ≡ fault }
+        → meaning (lowered (reached os shown) os shown) (inputs_of (reached os shown) 0 os)
+        ≡ fault }
     ensures value { (os : List Object) (shown : List ℕ) → MayBeLowered os shown
         → ((id : ℕ) → IsReached os shown id → (v : Value) × (denote os id ≡ done v))
         → (vs : List Value) × (all_done (map (denote os) shown) ≡ done vs)

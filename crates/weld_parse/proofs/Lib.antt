@@ -1,3 +1,3 @@
-pub mod Order
-pub mod Answering
-pub mod OneAnswer
+mod Order
+mod Answering
+mod OneAnswer

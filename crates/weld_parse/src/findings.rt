@@ -35,7 +35,8 @@ pub(crate) fn found_in(tokens: &[Token], read: &Read) -> Findings
     ensures too_deep { result.too_deep ≡ depth.first_deep_node read.now.body.value }
     ensures too_many_lets { result.too_many_lets ≡ lets.has_too_many_lets read.now.body.value }
     ensures too_large_type { result.too_large_type ≡ lists.first_type_too_large tokens.now }
-    ensures too_many_parameters { result.too_many_parameters ≡ lists.first_parameter_too_many tokens.now }
+    ensures too_many_parameters { result.too_many_parameters
+        ≡ lists.first_parameter_too_many tokens.now }
     ensures too_many_fields { result.too_many_fields ≡ lists.first_field_too_many tokens.now }
     ensures misnamed { result.misnamed ≡ read.now.misnamed }
 {

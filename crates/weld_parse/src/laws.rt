@@ -11,7 +11,8 @@ use weld_tokens::laws::{one_reading, some_reading};
 
 /// A text is a program, or a rule refuses it first.
 pub fn parsed_or_refused()
-    ensures { (text : List ℕ) → ((p : ProgramTree) × Parses text p) ⊎ ((refusal : Refusal) × IsRefused text refusal) }
+    ensures { (text : List ℕ) → ((p : ProgramTree) × Parses text p)
+        ⊎ ((refusal : Refusal) × IsRefused text refusal) }
 {
     some_reading();
     derived_or_broken();
@@ -21,8 +22,10 @@ pub fn parsed_or_refused()
 /// A text is one program at most, one rule refuses it first at most, and never both.
 pub fn one_answer()
     ensures program { (text : List ℕ) (p q : ProgramTree) → Parses text p → Parses text q → p ≡ q }
-    ensures refusal { (text : List ℕ) (a b : Refusal) → IsRefused text a → IsRefused text b → a ≡ b }
-    ensures not_both { (text : List ℕ) (p : ProgramTree) (a : Refusal) → Parses text p → IsRefused text a → ⊥ }
+    ensures refusal { (text : List ℕ) (a b : Refusal) → IsRefused text a → IsRefused text b
+        → a ≡ b }
+    ensures not_both { (text : List ℕ) (p : ProgramTree) (a : Refusal) → Parses text p
+        → IsRefused text a → ⊥ }
 {
     one_reading();
     one_break();

@@ -28,7 +28,8 @@ pub enum Unread {
 pub fn read_program(alloc: Global, tokens: &[Token]) -> Result<Read, Unread>
     requires classes { AreOfTheirClasses tokens.now }
     requires few { length tokens.now < 4294967296 }
-    ensures read { IfOk result (λ read. IsRead tokens.now read.params read.body.value read.misnamed) }
+    ensures read { IfOk result (λ read. IsRead tokens.now read.params read.body.value
+        read.misnamed) }
     ensures ranged { IfOk result (λ _. first_out_of_range tokens.now ≡ None) }
     ensures unread { IfErr result (λ why. WhyUnread tokens.now why) }
 {

@@ -25,7 +25,8 @@ use weld_tree::{Code, Program, Refusal};
 /// the limits). Only want of memory may come in place of that.
 pub fn parse(alloc: Global, text: &[u8]) -> Result<Program, Refusal>
     ensures program { IfOk result (λ program. Parses text.now program) }
-    ensures refused { IfErr result (λ refusal. refusal ≢ Refusal.Memory → IsRefused text.now refusal) }
+    ensures refused { IfErr result (λ refusal. refusal ≢ Refusal.Memory
+        → IsRefused text.now refusal) }
 {
     if has_too_many_bytes(text) {
         return Err(Refusal::Size(Code::M2));
@@ -41,7 +42,8 @@ fn parse_tokens(alloc: Global, text: &[u8], tokens: &[Token]) -> Result<Program,
     requires fits { limits.has_too_many_bytes text.now ≡ false }
     requires tokens_of { AreTokens text.now tokens.now }
     ensures program { IfOk result (λ program. Parses text.now program) }
-    ensures refused { IfErr result (λ refusal. refusal ≢ Refusal.Memory → IsRefused text.now refusal) }
+    ensures refused { IfErr result (λ refusal. refusal ≢ Refusal.Memory
+        → IsRefused text.now refusal) }
 {
     derived_or_broken();
     programs_are_derived();

@@ -1,3 +1,3 @@
-pub mod Bodies
-pub mod Existing
-pub mod Unnoting
+mod Bodies
+mod Existing
+mod Unnoting

@@ -86,7 +86,8 @@ pub fn each_program_has_a_normal_form()
 
 /// Each accepted program whose types keep their sizes can be optimised, whether a text spells it or not.
 pub fn each_accepted_program_can_be_optimised()
-    ensures { (p : ProgramTree) (t : TypeTree) → IsProgram p.params p.body → IsAccepted p → program_type p ≡ found t → CanBeOptimised p }
+    ensures { (p : ProgramTree) (t : TypeTree) → IsProgram p.params p.body → IsAccepted p
+        → program_type p ≡ found t → CanBeOptimised p }
 {
     all_rules_may_be_tried();
     bodies_are_rewritten();

@@ -1,9 +1,9 @@
 pub mod CellLemmas
-pub mod FieldLemmas
-pub mod HashLemmas
+mod FieldLemmas
+mod HashLemmas
 pub mod KeptKeys
 pub mod KeyedLemmas
-pub mod ListLemmas
+mod ListLemmas
 pub mod MapLemmas
 pub mod PairLemmas
-pub mod TotalLemmas
+mod TotalLemmas

@@ -99,7 +99,8 @@ impl CellsPart {
         requires { InRange self.old.kind x }
         ensures op { self.new.op ≡ self.old.op }
         ensures kind { self.new.kind ≡ self.old.kind }
-        ensures cells { CellAnswer result (merge_cell self.old.op self.old.kind self.old.cells index x) self.old.cells self.new.cells }
+        ensures cells { CellAnswer result (merge_cell self.old.op self.old.kind self.old.cells index
+            x) self.old.cells self.new.cells }
     {
         self.merge_wide(index, i128::from(x))
     }
@@ -111,7 +112,8 @@ impl CellsPart {
         requires { InRange self.old.kind x }
         ensures op { self.new.op ≡ self.old.op }
         ensures kind { self.new.kind ≡ self.old.kind }
-        ensures cells { CellAnswer result (merge_cell self.old.op self.old.kind self.old.cells index x) self.old.cells self.new.cells }
+        ensures cells { CellAnswer result (merge_cell self.old.op self.old.kind self.old.cells index
+            x) self.old.cells self.new.cells }
     {
         match place_of(index, self.cells.len()) {
             None => Err(Stop::Fault),
@@ -129,7 +131,8 @@ impl CellsPart {
         requires count { length self.old.cells ≡ length later.now.cells }
         ensures op { self.new.op ≡ self.old.op }
         ensures kind { self.new.kind ≡ self.old.kind }
-        ensures cells { self.new.cells ≡ join_cells self.old.op self.old.kind self.old.cells later.now.cells }
+        ensures cells { self.new.cells ≡ join_cells self.old.op self.old.kind self.old.cells
+            later.now.cells }
         ensures count { length self.new.cells ≡ length self.old.cells }
     {
         add_cells(self.op, self.kind, &mut self.cells, &later.cells);
@@ -183,7 +186,8 @@ impl CellsPart {
 /// The numbers that words stand for as a list.
 fn list_of(alloc: Global, kind: Kind, words: &[i64]) -> Result<ListPart, AllocError>
     requires { AllInRange kind (map (word kind) words.now) }
-    ensures { IfOk result (λ list. items_of_list list ≡ map (number kind) (map (word kind) words.now)) }
+    ensures { IfOk result (λ list. items_of_list list ≡ map (number kind)
+        (map (word kind) words.now)) }
 {
     let mut list = ListPart::empty(alloc, Some(kind));
     for x in words {
@@ -195,7 +199,8 @@ fn list_of(alloc: Global, kind: Kind, words: &[i64]) -> Result<ListPart, AllocEr
 /// The place that an index names among so many cells.
 #[inline(always)]
 fn place_of(index: i64, count: usize) -> Option<usize>
-    ensures { MatchOption result (IsOutside index count) (λ place. (index ≡ pos place) × (place < count)) }
+    ensures { MatchOption result (IsOutside index count)
+        (λ place. (index ≡ pos place) × (place < count)) }
 {
     if index < 0 || index as u64 >= count as u64 {
         return None;
@@ -209,7 +214,8 @@ fn add_cells(op: MergeOp, kind: Kind, cells: &mut [i64], later: &[i64])
     requires cells { AllInRange kind (map (word kind) cells.old) }
     requires later { AllInRange kind (map (word kind) later.now) }
     requires count { length cells.old ≡ length later.now }
-    ensures cells { map (word kind) cells.new ≡ join_cells op kind (map (word kind) cells.old) (map (word kind) later.now) }
+    ensures cells { map (word kind) cells.new ≡ join_cells op kind (map (word kind) cells.old)
+        (map (word kind) later.now) }
     ensures in_range { AllInRange kind (map (word kind) cells.new) }
 {
     for i in 0..cells.len() {

@@ -11,7 +11,8 @@ use weld_data::{Num, Val};
 /// The two fields of a struct. It takes no memory.
 pub fn two_fields(item: Val) -> (Val, Val)
     requires { IsOfTwoFields (view_val item) }
-    ensures { view_val item ≡ struct (and_value (view_val result.0) (and_value (view_val result.1) no_values)) }
+    ensures { view_val item ≡ struct (and_value (view_val result.0)
+        (and_value (view_val result.1) no_values)) }
 {
     match item {
         Val::Struct(fields) => {

@@ -9,7 +9,8 @@ pub(crate) fn append_item<T: Drop>(items: &mut Vec<T>, item: T) -> Result<(), Al
     ensures len { OnOk result (vec_len items.new ≡ vec_len items.old + 1) }
     ensures err { OnErr result (items.new.items ≡ items.old.items) }
     ensures room { vec_len items.old < vec_capacity items.old → IsOk result }
-    ensures in_place { vec_len items.old < vec_capacity items.old → vec_capacity items.new ≡ vec_capacity items.old }
+    ensures in_place { vec_len items.old < vec_capacity items.old
+        → vec_capacity items.new ≡ vec_capacity items.old }
 {
     if items.len() < items.capacity() {
         items.push_reserved(item);

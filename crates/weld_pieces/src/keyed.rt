@@ -121,7 +121,8 @@ impl KeyedPart {
         requires kept { self.old.key ≡ Some key_kind }
         requires key { InRange key_kind key }
         requires in_range { InRange self.old.kind x }
-        ensures ok { OnOk result (self.new.numbers ≡ merge_key (combined self.old.op self.old.kind) self.old.numbers (number key_kind key) x) }
+        ensures ok { OnOk result (self.new.numbers ≡ merge_key (combined self.old.op self.old.kind)
+            self.old.numbers (number key_kind key) x) }
         ensures err { OnErr result (self.new.numbers ≡ self.old.numbers) }
         ensures key { self.new.key ≡ self.old.key }
         ensures op { self.new.op ≡ self.old.op }
@@ -135,7 +136,8 @@ impl KeyedPart {
         requires kept { self.old.key ≡ None }
         requires key { IsKey (view_val key) }
         requires in_range { InRange self.old.kind x }
-        ensures ok { OnOk result (self.new.numbers ≡ merge_key (combined self.old.op self.old.kind) self.old.numbers (view_val key) x) }
+        ensures ok { OnOk result (self.new.numbers ≡ merge_key (combined self.old.op self.old.kind)
+            self.old.numbers (view_val key) x) }
         ensures err { OnErr result (self.new.numbers ≡ self.old.numbers) }
         ensures key { self.new.key ≡ self.old.key }
         ensures op { self.new.op ≡ self.old.op }
@@ -148,7 +150,8 @@ impl KeyedPart {
     pub fn merge_at_value(&mut self, key: Val, x: i128) -> Result<(), AllocError>
         requires key { IsKeptKey self.old.key (view_val key) }
         requires in_range { InRange self.old.kind x }
-        ensures ok { OnOk result (self.new.numbers ≡ merge_key (combined self.old.op self.old.kind) self.old.numbers (view_val key) x) }
+        ensures ok { OnOk result (self.new.numbers ≡ merge_key (combined self.old.op self.old.kind)
+            self.old.numbers (view_val key) x) }
         ensures err { OnErr result (self.new.numbers ≡ self.old.numbers) }
         ensures key { self.new.key ≡ self.old.key }
         ensures op { self.new.op ≡ self.old.op }
@@ -168,7 +171,8 @@ impl KeyedPart {
     pub fn into_pairs(self, alloc: Global) -> Result<Pairs, AllocError>
         requires kept { KeysAreKept self.key self.numbers }
         requires one_type { HasOneKeyType self.numbers }
-        ensures { IfOk result (λ pairs. pairs ≡ shown itself (number self.kind) (finite.entries self.numbers)) }
+        ensures { IfOk result (λ pairs. pairs ≡ shown itself (number self.kind)
+            (finite.entries self.numbers)) }
     {
         let KeyedPart { op: _, kind, map } = self;
         match map {
@@ -182,7 +186,8 @@ impl KeyedPart {
     pub fn append(&mut self, later: KeyedPart) -> Result<(), AllocError>
         requires key { self.old.key ≡ later.key }
         requires kind { self.old.kind ≡ later.kind }
-        ensures ok { OnOk result (self.new.numbers ≡ join_maps (combined self.old.op self.old.kind) self.old.numbers later.numbers) }
+        ensures ok { OnOk result (self.new.numbers ≡ join_maps (combined self.old.op self.old.kind)
+            self.old.numbers later.numbers) }
         ensures key { self.new.key ≡ self.old.key }
         ensures op { self.new.op ≡ self.old.op }
         ensures kind { self.new.kind ≡ self.old.kind }
@@ -209,7 +214,8 @@ fn number_in(
     requires kept { kind_of_keys map.old ≡ Some key_kind }
     requires keyed { IsKeyed kind map.old }
     requires in_range { InRange kind x }
-    ensures ok { OnOk result (numbers_in map.new ≡ merge_key (combined op kind) (numbers_in map.old) (number key_kind key) x) }
+    ensures ok { OnOk result (numbers_in map.new ≡ merge_key (combined op kind) (numbers_in map.old)
+        (number key_kind key) x) }
     ensures err { OnErr result (numbers_in map.new ≡ numbers_in map.old) }
     ensures keyed { IsKeyed kind map.new }
     ensures kept { kind_of_keys map.new ≡ kind_of_keys map.old }
@@ -235,7 +241,8 @@ fn value_in(
     requires keyed { IsKeyed kind map.old }
     requires key { IsKey (view_val key) }
     requires in_range { InRange kind x }
-    ensures ok { OnOk result (numbers_in map.new ≡ merge_key (combined op kind) (numbers_in map.old) (view_val key) x) }
+    ensures ok { OnOk result (numbers_in map.new ≡ merge_key (combined op kind) (numbers_in map.old)
+        (view_val key) x) }
     ensures err { OnErr result (numbers_in map.new ≡ numbers_in map.old) }
     ensures keyed { IsKeyed kind map.new }
     ensures kept { kind_of_keys map.new ≡ kind_of_keys map.old }
@@ -259,7 +266,8 @@ fn all_in(
     requires kept { kind_of_keys map.old ≡ kind_of_keys later }
     requires keyed { IsKeyed kind map.old }
     requires later { IsKeyed kind later }
-    ensures ok { OnOk result (numbers_in map.new ≡ join_maps (combined op kind) (numbers_in map.old) (numbers_in later)) }
+    ensures ok { OnOk result (numbers_in map.new ≡ join_maps (combined op kind) (numbers_in map.old)
+        (numbers_in later)) }
     ensures keyed { IsKeyed kind map.new }
     ensures kept { kind_of_keys map.new ≡ kind_of_keys map.old }
 {
@@ -283,7 +291,8 @@ fn add_map(part: &mut KeyedPart, alloc: Global, map: &KeyMap<i128>) -> Result<()
     requires kept { KeysAreKept (kind_of_keys map.now) (numbers_in map.now) }
     requires keyed { IsKeyed part.old.kind map.now }
     requires key { CanKeep part.old.key (kind_of_keys map.now) }
-    ensures ok { OnOk result (part.new.numbers ≡ join_maps (combined part.old.op part.old.kind) part.old.numbers (numbers_in map.now)) }
+    ensures ok { OnOk result (part.new.numbers ≡ join_maps (combined part.old.op part.old.kind)
+        part.old.numbers (numbers_in map.now)) }
     ensures key { part.new.key ≡ part.old.key }
     ensures op { part.new.op ≡ part.old.op }
     ensures kind { part.new.kind ≡ part.old.kind }
@@ -303,7 +312,8 @@ fn add_sorted_numbers(
     requires kept { KeysAreKept (Some key_kind) (map_of (number key_kind) map.now.entries) }
     requires values { AllInRange part.old.kind (values_of map.now.entries) }
     requires key { CanKeep part.old.key (Some key_kind) }
-    ensures ok { OnOk result (part.new.numbers ≡ join_maps (combined part.old.op part.old.kind) part.old.numbers (map_of (number key_kind) map.now.entries)) }
+    ensures ok { OnOk result (part.new.numbers ≡ join_maps (combined part.old.op part.old.kind)
+        part.old.numbers (map_of (number key_kind) map.now.entries)) }
     ensures key { part.new.key ≡ part.old.key }
     ensures op { part.new.op ≡ part.old.op }
     ensures kind { part.new.kind ≡ part.old.kind }
@@ -320,7 +330,8 @@ fn add_sorted_values(
 ) -> Result<(), AllocError>
     requires values { AllInRange part.old.kind (values_of map.now.entries) }
     requires key { part.old.key ≡ None }
-    ensures ok { OnOk result (part.new.numbers ≡ join_maps (combined part.old.op part.old.kind) part.old.numbers (map_of itself map.now.entries)) }
+    ensures ok { OnOk result (part.new.numbers ≡ join_maps (combined part.old.op part.old.kind)
+        part.old.numbers (map_of itself map.now.entries)) }
     ensures key { part.new.key ≡ part.old.key }
     ensures op { part.new.op ≡ part.old.op }
     ensures kind { part.new.kind ≡ part.old.kind }
@@ -338,7 +349,8 @@ fn add_numbers(
     requires keys { AllInRange key_kind (keys_of map.now.entries) }
     requires values { AllInRange part.old.kind (values_of map.now.entries) }
     requires key { CanKeep part.old.key (Some key_kind) }
-    ensures ok { OnOk result (part.new.numbers ≡ merged_from (combined part.old.op part.old.kind) part.old.numbers (by_value (number key_kind) map.now.entries)) }
+    ensures ok { OnOk result (part.new.numbers ≡ merged_from (combined part.old.op part.old.kind)
+        part.old.numbers (by_value (number key_kind) map.now.entries)) }
     ensures key { part.new.key ≡ part.old.key }
     ensures op { part.new.op ≡ part.old.op }
     ensures kind { part.new.kind ≡ part.old.kind }
@@ -360,7 +372,8 @@ fn add_values(
 ) -> Result<(), AllocError>
     requires values { AllInRange part.old.kind (values_of map.now.entries) }
     requires key { part.old.key ≡ None }
-    ensures ok { OnOk result (part.new.numbers ≡ merged_from (combined part.old.op part.old.kind) part.old.numbers (by_value itself map.now.entries)) }
+    ensures ok { OnOk result (part.new.numbers ≡ merged_from (combined part.old.op part.old.kind)
+        part.old.numbers (by_value itself map.now.entries)) }
     ensures key { part.new.key ≡ part.old.key }
     ensures op { part.new.op ≡ part.old.op }
     ensures kind { part.new.kind ≡ part.old.kind }

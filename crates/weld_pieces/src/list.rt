@@ -95,11 +95,13 @@ impl ListPart {
     pub fn push_number(&mut self, kind: Kind, x: i64) -> Result<(), AllocError>
         requires kind { kind_of_items self.old ≡ Some kind }
         requires in_range { InRange kind x }
-        ensures ok { OnOk result (items_of_list self.new ≡ items_of_list self.old ++ number kind x ∷ []) }
+        ensures ok { OnOk result (items_of_list self.new
+            ≡ items_of_list self.old ++ number kind x ∷ []) }
         ensures err { OnErr result (items_of_list self.new ≡ items_of_list self.old) }
         ensures kind { kind_of_items self.new ≡ kind_of_items self.old }
         ensures room { 0 < spare_of_list self.old → IsOk result }
-        ensures lower { 0 < spare_of_list self.old → spare_of_list self.new + 1 ≡ spare_of_list self.old }
+        ensures lower { 0 < spare_of_list self.old → spare_of_list self.new + 1
+            ≡ spare_of_list self.old }
     {
         match self {
             ListPart::Bool(items) => append_item(items, x == 1),
@@ -119,11 +121,13 @@ impl ListPart {
     pub fn push_wide(&mut self, kind: Kind, x: i128) -> Result<(), AllocError>
         requires kind { kind_of_items self.old ≡ Some kind }
         requires in_range { InRange kind x }
-        ensures ok { OnOk result (items_of_list self.new ≡ items_of_list self.old ++ number kind x ∷ []) }
+        ensures ok { OnOk result (items_of_list self.new
+            ≡ items_of_list self.old ++ number kind x ∷ []) }
         ensures err { OnErr result (items_of_list self.new ≡ items_of_list self.old) }
         ensures kind { kind_of_items self.new ≡ kind_of_items self.old }
         ensures room { 0 < spare_of_list self.old → IsOk result }
-        ensures lower { 0 < spare_of_list self.old → spare_of_list self.new + 1 ≡ spare_of_list self.old }
+        ensures lower { 0 < spare_of_list self.old → spare_of_list self.new + 1
+            ≡ spare_of_list self.old }
     {
         match self {
             ListPart::Bool(items) => append_item(items, x == 1),
@@ -145,7 +149,8 @@ impl ListPart {
         requires kind { kind_of_items self.old ≡ Some kind }
         requires narrow { IsNarrow kind }
         requires in_range { AllInRange kind items.now }
-        ensures ok { OnOk result (items_of_list self.new ≡ items_of_list self.old ++ map (number kind) items.now) }
+        ensures ok { OnOk result (items_of_list self.new
+            ≡ items_of_list self.old ++ map (number kind) items.now) }
         ensures kind { kind_of_items self.new ≡ kind_of_items self.old }
     {
         match self {
@@ -165,11 +170,13 @@ impl ListPart {
     /// and want of memory are as for a number.
     pub fn push(&mut self, item: Val) -> Result<(), AllocError>
         requires { IsKeptAs (kind_of_items self.old) (view_val item) }
-        ensures ok { OnOk result (items_of_list self.new ≡ items_of_list self.old ++ view_val item ∷ []) }
+        ensures ok { OnOk result (items_of_list self.new
+            ≡ items_of_list self.old ++ view_val item ∷ []) }
         ensures err { OnErr result (items_of_list self.new ≡ items_of_list self.old) }
         ensures kind { kind_of_items self.new ≡ kind_of_items self.old }
         ensures room { 0 < spare_of_list self.old → IsOk result }
-        ensures lower { 0 < spare_of_list self.old → spare_of_list self.new + 1 ≡ spare_of_list self.old }
+        ensures lower { 0 < spare_of_list self.old → spare_of_list self.new + 1
+            ≡ spare_of_list self.old }
     {
         match self {
             ListPart::Nest(items) => append_item(items, item),
@@ -185,7 +192,8 @@ impl ListPart {
     /// was, and the later one is dropped.
     pub fn append(&mut self, later: ListPart) -> Result<(), AllocError>
         requires { kind_of_items self.old ≡ kind_of_items later }
-        ensures ok { OnOk result (items_of_list self.new ≡ items_of_list self.old ++ items_of_list later) }
+        ensures ok { OnOk result (items_of_list self.new
+            ≡ items_of_list self.old ++ items_of_list later) }
         ensures err { OnErr result (items_of_list self.new ≡ items_of_list self.old) }
         ensures kind { kind_of_items self.new ≡ kind_of_items self.old }
     {

@@ -28,7 +28,8 @@ pub(crate) fn merge_at<K: Eq + Hash + Drop>(
     requires integer { IsInteger kind }
     requires values { AllInRange kind (values_of map.old.entries) }
     requires number { InRange kind x }
-    ensures ok { OnOk result (map.new.entries ≡ entry_with K.eq (combined op kind) map.old.entries key x) }
+    ensures ok { OnOk result (map.new.entries ≡ entry_with K.eq (combined op kind) map.old.entries
+        key x) }
     ensures err { OnErr result (map.new.entries ≡ map.old.entries) }
     ensures values { AllInRange kind (values_of map.new.entries) }
 {
@@ -59,7 +60,8 @@ fn merge_each<K: Eq + Hash + Drop>(
     requires integer { IsInteger kind }
     requires values { AllInRange kind (values_of map.old.entries) }
     requires more { AllInRange kind (values_of more.entries) }
-    ensures ok { OnOk result (map.new.entries ≡ entries_with K.eq (combined op kind) map.old.entries more.entries) }
+    ensures ok { OnOk result (map.new.entries ≡ entries_with K.eq (combined op kind) map.old.entries
+        more.entries) }
     ensures values { AllInRange kind (values_of map.new.entries) }
     ensures distinct { IsDistinct K.eq (keys_of more.entries) }
 {
@@ -79,7 +81,8 @@ pub(crate) fn merge_all<K: Eq + Hash + Drop>(
     requires integer { IsInteger kind }
     requires values { AllInRange kind (values_of map.old.entries) }
     requires later { AllInRange kind (values_of later.entries) }
-    ensures ok { OnOk result (JoinsAs K.eq (combined op kind) map.old.entries later.entries map.new.entries) }
+    ensures ok { OnOk result (JoinsAs K.eq (combined op kind) map.old.entries later.entries
+        map.new.entries) }
     ensures values { AllInRange kind (values_of map.new.entries) }
 {
     if map.len() < later.len() {

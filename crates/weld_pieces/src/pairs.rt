@@ -67,7 +67,8 @@ pub(crate) fn kept_pairs(
 ) -> Result<Pairs, AllocError>
     requires keys { KeysAreKept (Some key_kind) (map_of (number key_kind) map.entries) }
     requires values { AllInRange kind (values_of map.entries) }
-    ensures { IfOk result (λ pairs. pairs ≡ shown itself (number kind) (finite.entries (map_of (number key_kind) map.entries))) }
+    ensures { IfOk result (λ pairs. pairs ≡ shown itself (number kind)
+        (finite.entries (map_of (number key_kind) map.entries))) }
 {
     let sorted = in_order(map)?;
     number_pairs(alloc, key_kind, kind, sorted)
@@ -82,7 +83,8 @@ pub(crate) fn plain_pairs(
     requires kept { KeysAreKept None (map_of itself map.entries) }
     requires one_type { HasOneKeyType (map_of itself map.entries) }
     requires values { AllInRange kind (values_of map.entries) }
-    ensures { IfOk result (λ pairs. pairs ≡ shown itself (number kind) (finite.entries (map_of itself map.entries))) }
+    ensures { IfOk result (λ pairs. pairs ≡ shown itself (number kind)
+        (finite.entries (map_of itself map.entries))) }
 {
     let sorted = in_order(map)?;
     value_pairs(alloc, kind, sorted)

@@ -50,7 +50,8 @@ pub trait Part: Sized {
     /// afterwards.
     fn merge(&mut self, item: Self::Item) -> Result<(), Stop>
         requires { Takes (kept self.old) (as_item item) }
-        ensures merged { Merged result (merge_item (builder self.old) (as_item item)) (builder self.old) (builder self.new) }
+        ensures merged { Merged result (merge_item (builder self.old) (as_item item))
+            (builder self.old) (builder self.new) }
         ensures kept { kept self.new ≡ kept self.old }
         ensures room { 0 < spare self.old → NotMemory result }
         ensures lower { 0 < spare self.old → spare self.new + 1 ≡ spare self.old };
@@ -59,7 +60,8 @@ pub trait Part: Sized {
     /// without a copy of what it has. After want of memory it is only good to be dropped.
     fn join(&mut self, later: Self) -> Result<(), AllocError>
         requires { kept self.old ≡ kept later }
-        ensures joined { OnOk result (builder self.new ≡ after_builder (builder self.old) (builder later)) }
+        ensures joined { OnOk result (builder self.new ≡ after_builder (builder self.old)
+            (builder later)) }
         ensures kept { OnOk result (kept self.new ≡ kept self.old) };
 
     /// The builder's result.

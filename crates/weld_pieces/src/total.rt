@@ -86,7 +86,8 @@ impl TotalPart {
         requires in_range { AllInRange self.old.kind items.now }
         ensures op { self.new.op ≡ self.old.op }
         ensures kind { self.new.kind ≡ self.old.kind }
-        ensures value { self.new.value ≡ combined_all self.old.op self.old.kind self.old.value items.now }
+        ensures value { self.new.value ≡ combined_all self.old.op self.old.kind self.old.value
+            items.now }
     {
         let before = narrow(self.kind, self.value);
         self.value = i128::from(combine_all(self.op, self.kind, before, items));
@@ -97,7 +98,8 @@ impl TotalPart {
         requires kind { self.old.kind ≡ later.now.kind }
         ensures op { self.new.op ≡ self.old.op }
         ensures kind { self.new.kind ≡ self.old.kind }
-        ensures value { self.new.value ≡ combination self.old.op self.old.kind self.old.value later.now.value }
+        ensures value { self.new.value ≡ combination self.old.op self.old.kind self.old.value
+            later.now.value }
     {
         self.value = combine_wide(self.op, self.kind, self.value, later.value);
     }

@@ -46,7 +46,8 @@ impl TotalsPart {
     /// Totals of the same operator and kinds that have nothing merged.
     pub fn bare(&self, alloc: Global) -> Result<TotalsPart, AllocError>
         ensures op { IfOk result (λ t. t.op ≡ self.now.op) }
-        ensures totals { IfOk result (λ t. t.totals ≡ neutral_totals self.now.op (kinds_of self.now.totals)) }
+        ensures totals { IfOk result (λ t. t.totals ≡ neutral_totals self.now.op
+            (kinds_of self.now.totals)) }
     {
         Ok(TotalsPart {
             op: self.op,
@@ -68,7 +69,8 @@ impl TotalsPart {
     pub fn merge_numbers(&mut self, items: &[Num])
         requires { kinds_of self.old.totals ≡ kinds_of (totals_in items.now) }
         ensures op { self.new.op ≡ self.old.op }
-        ensures totals { self.new.totals ≡ join_totals self.old.op self.old.totals (totals_in items.now) }
+        ensures totals { self.new.totals ≡ join_totals self.old.op self.old.totals
+            (totals_in items.now) }
     {
         add_numbers(self.op, &mut self.totals, items);
     }
@@ -77,7 +79,8 @@ impl TotalsPart {
     pub fn append(&mut self, later: &TotalsPart)
         requires { kinds_of self.old.totals ≡ kinds_of later.now.totals }
         ensures op { self.new.op ≡ self.old.op }
-        ensures totals { self.new.totals ≡ join_totals self.old.op self.old.totals later.now.totals }
+        ensures totals { self.new.totals ≡ join_totals self.old.op self.old.totals
+            later.now.totals }
     {
         add_numbers(self.op, &mut self.totals, &later.totals);
     }
@@ -108,7 +111,8 @@ fn combined(op: MergeOp, x: Num, y: Num) -> Num
 fn add_numbers(op: MergeOp, totals: &mut [Num], later: &[Num])
     requires integers { AreIntegers (kinds_of (totals_in totals.old)) }
     requires kinds { kinds_of (totals_in totals.old) ≡ kinds_of (totals_in later.now) }
-    ensures totals { totals_in totals.new ≡ join_totals op (totals_in totals.old) (totals_in later.now) }
+    ensures totals { totals_in totals.new ≡ join_totals op (totals_in totals.old)
+        (totals_in later.now) }
     ensures integers { AreIntegers (kinds_of (totals_in totals.new)) }
 {
     for i in 0..totals.len() {
@@ -131,7 +135,8 @@ pub fn neutral_number(op: MergeOp, kind: Kind) -> Num
 /// The neutral number of the kind of each.
 fn neutral_numbers(alloc: Global, op: MergeOp, totals: &[Num]) -> Result<Vec<Num>, AllocError>
     requires { AreIntegers (kinds_of (totals_in totals.now)) }
-    ensures totals { IfOk result (λ ns. totals_in ns.items ≡ neutral_totals op (kinds_of (totals_in totals.now))) }
+    ensures totals { IfOk result (λ ns. totals_in ns.items
+        ≡ neutral_totals op (kinds_of (totals_in totals.now))) }
     ensures integers { IfOk result (λ ns. AreIntegers (kinds_of (totals_in ns.items))) }
 {
     let mut numbers = Vec::with_capacity(alloc, totals.len())?;

@@ -107,7 +107,8 @@ impl Kept for u32 {
 pub(crate) fn append_words<T: Kept>(own: &mut Vec<T>, words: &[i64]) -> Result<(), AllocError>
     requires narrow { IsNarrow T.kind }
     requires in_range { AllInRange T.kind words.now }
-    ensures { OnOk result (map T.value own.new.items ≡ map T.value own.old.items ++ map (number T.kind) words.now) }
+    ensures { OnOk result (map T.value own.new.items ≡ map T.value own.old.items
+        ++ map (number T.kind) words.now) }
 {
     let start = own.len();
     let Some(len) = start.checked_add(words.len()) else {

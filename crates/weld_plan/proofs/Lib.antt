@@ -1,6 +1,6 @@
 mod Cases
 pub mod Counting
 pub mod Emitting
-pub mod Leading
-pub mod Paths
+mod Leading
+mod Paths
 pub mod Programs

@@ -15,7 +15,8 @@ use weld_tree::{Expr, Form, Leg, Sym, ThreeForm, TwoForm};
 
 /// One step more.
 fn push<'a>(steps: &mut Vec<Step<'a>>, step: Step<'a>) -> Result<(), AllocError>
-    ensures { OnOk result (view_steps steps.new.items ≡ view_steps steps.old.items ++ view_step step.entry ∷ []) }
+    ensures { OnOk result (view_steps steps.new.items ≡ view_steps steps.old.items
+        ++ view_step step.entry ∷ []) }
 {
     steps.push(step)?;
     Ok(())
@@ -27,7 +28,8 @@ fn push_over<'a>(
     jump: Step<'a>,
     over: &[Step<'a>],
 ) -> Result<(), AllocError>
-    ensures { OnOk result (view_steps steps.new.items ≡ view_steps steps.old.items ++ view_step jump.entry ∷ view_steps over.now) }
+    ensures { OnOk result (view_steps steps.new.items ≡ view_steps steps.old.items
+        ++ view_step jump.entry ∷ view_steps over.now) }
 {
     steps.push(jump)?;
     steps.extend_from_slice(over)?;
@@ -64,7 +66,8 @@ pub(crate) fn add<'a>(
     alloc: Global,
 ) -> Result<(), AllocError>
     requires { base + loops e.now < 2 ^ 32 }
-    ensures { OnOk result (view_steps steps.new.items ≡ view_steps steps.old.items ++ steps_of e.now base) }
+    ensures { OnOk result (view_steps steps.new.items ≡ view_steps steps.old.items
+        ++ steps_of e.now base) }
 {
     if e.loops() == 0 {
         return push(steps, Step::Compute(e));
@@ -108,7 +111,9 @@ fn add_two<'a>(
     alloc: Global,
 ) -> Result<(), AllocError>
     requires { base + (loops first.now + loops second.now) < 2 ^ 32 }
-    ensures { OnOk result (view_steps steps.new.items ≡ view_steps steps.old.items ++ two_steps (view_two form) (steps_of first.now base) (steps_of second.now (base + loops first.now))) }
+    ensures { OnOk result (view_steps steps.new.items ≡ view_steps steps.old.items
+        ++ two_steps (view_two form) (steps_of first.now base)
+        (steps_of second.now (base + loops first.now))) }
 {
     add(first, base, steps, alloc)?;
     match form {
@@ -136,7 +141,10 @@ fn add_three<'a>(
     alloc: Global,
 ) -> Result<(), AllocError>
     requires { base + (loops first.now + loops second.now + loops third.now) < 2 ^ 32 }
-    ensures { OnOk result (view_steps steps.new.items ≡ view_steps steps.old.items ++ three_steps (view_three form) (steps_of first.now base) (steps_of second.now (base + loops first.now)) (steps_of third.now (base + loops first.now + loops second.now))) }
+    ensures { OnOk result (view_steps steps.new.items ≡ view_steps steps.old.items
+        ++ three_steps (view_three form) (steps_of first.now base)
+        (steps_of second.now (base + loops first.now)) (steps_of third.now
+        (base + loops first.now + loops second.now))) }
 {
     add(first, base, steps, alloc)?;
     let middle = past(first, base);
@@ -160,7 +168,8 @@ fn add_arms<'a>(
     alloc: Global,
 ) -> Result<(), AllocError>
     requires { base + (loops then.now + loops otherwise.now) < 2 ^ 32 }
-    ensures { OnOk result (view_steps steps.new.items ≡ view_steps steps.old.items ++ arms_steps (steps_of then.now base) (steps_of otherwise.now (base + loops then.now))) }
+    ensures { OnOk result (view_steps steps.new.items ≡ view_steps steps.old.items
+        ++ arms_steps (steps_of then.now base) (steps_of otherwise.now (base + loops then.now))) }
 {
     let mut first = Vec::new(alloc);
     add(then, base, &mut first, alloc)?;
@@ -181,7 +190,9 @@ fn add_let<'a>(
     alloc: Global,
 ) -> Result<(), AllocError>
     requires { base + (loops value.now + loops body.now) < 2 ^ 32 }
-    ensures { OnOk result (view_steps steps.new.items ≡ view_steps steps.old.items ++ (steps_of value.now base ++ bind name.0 ∷ (steps_of body.now (base + loops value.now) ++ unbind ∷ []))) }
+    ensures { OnOk result (view_steps steps.new.items ≡ view_steps steps.old.items
+        ++ (steps_of value.now base ++ bind name.0 ∷ (steps_of body.now (base + loops value.now)
+        ++ unbind ∷ []))) }
 {
     add(value, base, steps, alloc)?;
     push(steps, Step::Bind(name))?;
@@ -198,7 +209,8 @@ fn add_all<'a>(
     alloc: Global,
 ) -> Result<(), AllocError>
     requires { base + loops_in (pack_exprs parts.now) < 2 ^ 32 }
-    ensures { OnOk result (view_steps steps.new.items ≡ view_steps steps.old.items ++ all_steps (pack_exprs parts.now) base) }
+    ensures { OnOk result (view_steps steps.new.items ≡ view_steps steps.old.items
+        ++ all_steps (pack_exprs parts.now) base) }
 {
     match parts.split_first() {
         None => Ok(()),
@@ -218,8 +230,10 @@ fn add_legs<'a>(
     alloc: Global,
 ) -> Result<u32, AllocError>
     requires { base + loops_in_legs (pack_legs (map view_leg legs.now)) < 2 ^ 32 }
-    ensures steps { OnOk result (view_steps steps.new.items ≡ view_steps steps.old.items ++ legs_steps (pack_legs (map view_leg legs.now)) base) }
-    ensures after { IfOk result (λ after. after ≡ base + loops_in_legs (pack_legs (map view_leg legs.now))) }
+    ensures steps { OnOk result (view_steps steps.new.items
+        ≡ view_steps steps.old.items ++ legs_steps (pack_legs (map view_leg legs.now)) base) }
+    ensures after { IfOk result (λ after. after ≡ base + loops_in_legs
+        (pack_legs (map view_leg legs.now))) }
 {
     match legs.split_first() {
         None => Ok(base),
@@ -240,7 +254,8 @@ fn add_leg<'a>(
     alloc: Global,
 ) -> Result<(), AllocError>
     requires { base + loops_in_leg (view_leg leg.now) < 2 ^ 32 }
-    ensures { OnOk result (view_steps steps.new.items ≡ view_steps steps.old.items ++ leg_steps (view_leg leg.now) base) }
+    ensures { OnOk result (view_steps steps.new.items ≡ view_steps steps.old.items
+        ++ leg_steps (view_leg leg.now) base) }
 {
     match leg {
         Leg::Whole(e) => {

@@ -23,7 +23,8 @@ pub trait Sink {
         requires { 0 < length from.now }
         ensures some { IfOk result (λ count. 0 < count) }
         ensures fits { IfOk result (λ count. count ≤ length from.now) }
-        ensures bytes { IfOk result (λ count. Appends (held self.old) (held self.new) (take count from.now)) }
+        ensures bytes { IfOk result (λ count. Appends (held self.old) (held self.new)
+            (take count from.now)) }
         ensures unchanged { OnErr result (Keeps (held self.old) (held self.new)) }
         ensures settled_stays { settled self.new ≡ settled self.old }
         ensures cause { OnErr result (Rises (faults self.old) (faults self.new)) }

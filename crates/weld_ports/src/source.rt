@@ -19,7 +19,8 @@ pub trait Source {
     fn read(&mut self, into: &mut [u8]) -> Result<usize, ReadFailed>
         requires { 0 < length into.old }
         ensures fits { IfOk result (λ count. count ≤ length into.new) }
-        ensures bytes { IfOk result (λ count. Consumes (left self.old) (left self.new) (take count into.new)) }
+        ensures bytes { IfOk result (λ count. Consumes (left self.old) (left self.new)
+            (take count into.new)) }
         ensures end { result ≡ Ok 0 → IsAtEnd (left self.old) }
         ensures unchanged { OnErr result (Keeps (left self.old) (left self.new)) }
         ensures cause { OnErr result (Rises (faults self.old) (faults self.new)) }

@@ -1,10 +1,10 @@
-pub mod Neutrals
-pub mod Same
-pub mod Merging
-pub mod GuardRule
-pub mod Cases
-pub mod Arms
-pub mod ChainLemmas
-pub mod Falling
-pub mod Fields
-pub mod Items
+mod Neutrals
+mod Same
+mod Merging
+mod GuardRule
+mod Cases
+mod Arms
+mod ChainLemmas
+mod Falling
+mod Fields
+mod Items

@@ -87,7 +87,8 @@ fn choose(
     op: MergeOp,
 ) -> Result<(), AllocError>
     requires { IsMergerType item.now }
-    ensures { IfOk result (λ _. value.new.value ≡ chosen_value place condition.old.value wanted value.old.value
+    ensures { IfOk result (λ _. value.new.value ≡ chosen_value place condition.old.value wanted
+        value.old.value
         (Some (record { item = item.now; op = op }))) }
 {
     let condition = mem::replace(condition, spare(alloc, place)?);

@@ -1,23 +1,23 @@
-pub mod Fields
+mod Fields
 mod TypesCases
-pub mod Longest
-pub mod Lexemes
-pub mod Symbols
-pub mod Strings
-pub mod Reading
-pub mod Sound
+mod Longest
+mod Lexemes
+mod Symbols
+mod Strings
+mod Reading
+mod Sound
 mod Checked
-pub mod Scenes
-pub mod ReadsBackTypes
-pub mod Levels
-pub mod Forms
-pub mod Builders
-pub mod Binding
-pub mod Exprs
-pub mod Programs
+mod Scenes
+mod ReadsBackTypes
+mod Levels
+mod Forms
+mod Builders
+mod Binding
+mod Exprs
+mod Programs
 mod Words
-pub mod Spelled
+mod Spelled
 mod SpelledPrograms
-pub mod Steps
+mod Steps
 mod Trees
 mod Cases

@@ -25,7 +25,8 @@ fn write_items(bytes: &[u8], out: &mut Text) -> Result<(), AllocError>
 
 /// Appends a string.
 fn write_chars(bytes: &[u8], out: &mut Text) -> Result<(), AllocError>
-    ensures { OnOk result (out.new ≡ out.old ++ (codes "\"" ++ items_text bytes.now ++ codes "\"")) }
+    ensures { OnOk result (out.new ≡ out.old ++ (codes "\"" ++ items_text bytes.now
+        ++ codes "\"")) }
 {
     out.push(b'"')?;
     write_items(bytes, out)?;

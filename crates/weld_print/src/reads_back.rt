@@ -17,7 +17,8 @@ use weld_tree::laws::distance_tells_binders_apart;
 #[tactic(auto, using(crate::proofs::ReadsBackTypes::type_reads_back, crate::proofs::Spelled::spelled_reads_back))]
 pub fn printed_types_read_back()
     ensures made { (t : TypeTree) → HasNoEmptyStruct t → TextSpellsType (type_text t) t }
-    ensures spelled { (text : List ℕ) (t : TypeTree) → TextSpellsType text t → TextSpellsType (type_text t) t }
+    ensures spelled { (text : List ℕ) (t : TypeTree) → TextSpellsType text t
+        → TextSpellsType (type_text t) t }
 {}
 
 /// What a text spells is spellable: its number literals are of kind i32 or i64, its field numbers have nine digits at
@@ -33,8 +34,11 @@ pub fn texts_spell_the_spellable()
 /// are of bytes, and no struct type is empty), as where some text spells it. No name in the printed text is refused, and
 /// no number is out of its range.
 pub fn printed_programs_read_back()
-    ensures made { (p : ProgramTree) → IsProgram p.params p.body → IsSpellableProgram p → (q : ProgramTree) × TextSpellsSoundly (program_text p) q × AreSame p q }
-    ensures spelled { (text : List ℕ) (p : ProgramTree) → TextSpells text p → IsProgram p.params p.body → (q : ProgramTree) × TextSpellsSoundly (program_text p) q × AreSame p q }
+    ensures made { (p : ProgramTree) → IsProgram p.params p.body → IsSpellableProgram p
+        → (q : ProgramTree) × TextSpellsSoundly (program_text p) q × AreSame p q }
+    ensures spelled { (text : List ℕ) (p : ProgramTree) → TextSpells text p
+        → IsProgram p.params p.body → (q : ProgramTree) × TextSpellsSoundly (program_text p) q
+        × AreSame p q }
 {
     distance_tells_binders_apart();
     texts_spell_the_spellable();

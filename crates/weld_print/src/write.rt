@@ -94,7 +94,9 @@ fn write_part(e: &Expr, in_parens: bool, names: &Names, out: &mut Text) -> Resul
 
 #[cycle(write)]
 fn write_one(form: &OneForm, part: &Expr, names: &Names, out: &mut Text) -> Result<(), AllocError>
-    ensures { OnOk result (out.new ≡ out.old ++ (one_front (view_one form.now) ++ parens (part_in_parens (view_one form.now) part.now) (expr_text names.now part.now) ++ one_back (view_one form.now))) }
+    ensures { OnOk result (out.new ≡ out.old ++ (one_front (view_one form.now)
+        ++ parens (part_in_parens (view_one form.now) part.now) (expr_text names.now part.now)
+        ++ one_back (view_one form.now))) }
 {
     write_one_front(form, out)?;
     write_part(part, part_in_parens(form, part), names, out)?;
@@ -109,7 +111,10 @@ fn write_two(
     names: &Names,
     out: &mut Text,
 ) -> Result<(), AllocError>
-    ensures { OnOk result (out.new ≡ out.old ++ (two_front (view_two form) ++ parens (side_in_parens (view_two form) left.now) (expr_text names.now left.now) ++ two_between (view_two form) ++ parens (side_in_parens (view_two form) right.now) (expr_text names.now right.now) ++ two_back (view_two form))) }
+    ensures { OnOk result (out.new ≡ out.old ++ (two_front (view_two form)
+        ++ parens (side_in_parens (view_two form) left.now) (expr_text names.now left.now)
+        ++ two_between (view_two form) ++ parens (side_in_parens (view_two form) right.now)
+        (expr_text names.now right.now) ++ two_back (view_two form))) }
 {
     out.push_all(two_front(form).as_bytes())?;
     write_part(left, side_in_parens(form, left), names, out)?;
@@ -127,7 +132,8 @@ fn write_three(
     names: &Names,
     out: &mut Text,
 ) -> Result<(), AllocError>
-    ensures { OnOk result (out.new ≡ out.old ++ (expr_text names.now first.now ++ codes ", " ++ expr_text names.now second.now ++ codes ", " ++ expr_text names.now third.now)) }
+    ensures { OnOk result (out.new ≡ out.old ++ (expr_text names.now first.now ++ codes ", "
+        ++ expr_text names.now second.now ++ codes ", " ++ expr_text names.now third.now)) }
 {
     write_expr(first, names, out)?;
     out.push_all(b", ")?;
@@ -143,7 +149,8 @@ fn write_many(
     names: &Names,
     out: &mut Text,
 ) -> Result<(), AllocError>
-    ensures { OnOk result (out.new ≡ out.old ++ (exprs_text names.now (many_front (view_many form)) (pack_exprs parts.now) ++ many_back (view_many form))) }
+    ensures { OnOk result (out.new ≡ out.old ++ (exprs_text names.now (many_front (view_many form))
+        (pack_exprs parts.now) ++ many_back (view_many form))) }
 {
     let (front, back): (&[u8], u8) = match form {
         ManyForm::Vec => (b"[", b']'),
@@ -156,7 +163,8 @@ fn write_many(
 /// Appends expressions, `front` before the first and a comma and a space before each further one.
 #[cycle(write)]
 fn write_parts(front: &[u8], parts: &Exprs, names: &Names, out: &mut Text) -> Result<(), AllocError>
-    ensures { OnOk result (out.new ≡ out.old ++ exprs_text names.now front.now (pack_exprs parts.now)) }
+    ensures { OnOk result (out.new ≡ out.old ++ exprs_text names.now front.now
+        (pack_exprs parts.now)) }
 {
     let mut lead = front;
     'parts: for part in parts.as_slice() {
@@ -175,7 +183,9 @@ fn write_let(
     names: &Names,
     out: &mut Text,
 ) -> Result<(), AllocError>
-    ensures { OnOk result (out.new ≡ out.old ++ (codes "let " ++ binder_text names.now binder.now ++ codes " = " ++ parens (value_in_parens value.now) (expr_text names.now value.now) ++ codes "; " ++ expr_text names.now body.now)) }
+    ensures { OnOk result (out.new ≡ out.old ++ (codes "let " ++ binder_text names.now binder.now
+        ++ codes " = " ++ parens (value_in_parens value.now) (expr_text names.now value.now)
+        ++ codes "; " ++ expr_text names.now body.now)) }
 {
     out.push_all(b"let ")?;
     write_binder(binder, names, out)?;
@@ -193,7 +203,9 @@ fn write_iterate(
     names: &Names,
     out: &mut Text,
 ) -> Result<(), AllocError>
-    ensures { OnOk result (out.new ≡ out.old ++ (codes "iterate(" ++ expr_text names.now state.now ++ codes ", |" ++ binder_text names.now binder.now ++ codes "| " ++ expr_text names.now body.now ++ codes ")")) }
+    ensures { OnOk result (out.new ≡ out.old ++ (codes "iterate(" ++ expr_text names.now state.now
+        ++ codes ", |" ++ binder_text names.now binder.now ++ codes "| "
+        ++ expr_text names.now body.now ++ codes ")")) }
 {
     out.push_all(b"iterate(")?;
     write_expr(state, names, out)?;
@@ -207,7 +219,9 @@ fn write_iterate(
 /// Appends the legs and the builder of a loop.
 #[cycle(write)]
 fn write_rows(legs: &Legs, builder: &Expr, names: &Names, out: &mut Text) -> Result<(), AllocError>
-    ensures { OnOk result (out.new ≡ out.old ++ (codes "for(" ++ rows_text names.now (pack_legs legs.now) ++ codes ", " ++ expr_text names.now builder.now)) }
+    ensures { OnOk result (out.new ≡ out.old ++ (codes "for("
+        ++ rows_text names.now (pack_legs legs.now) ++ codes ", "
+        ++ expr_text names.now builder.now)) }
 {
     out.push_all(b"for(")?;
     write_legs(legs.as_slice(), names, out)?;
@@ -218,7 +232,8 @@ fn write_rows(legs: &Legs, builder: &Expr, names: &Names, out: &mut Text) -> Res
 /// Appends the legs of a loop: one by itself, more in a `zip`.
 #[cycle(write)]
 fn write_legs(legs: &[Leg], names: &Names, out: &mut Text) -> Result<(), AllocError>
-    ensures { OnOk result (out.new ≡ out.old ++ rows_text names.now (pack_legs (map view_leg legs.now))) }
+    ensures { OnOk result (out.new ≡ out.old ++ rows_text names.now
+        (pack_legs (map view_leg legs.now))) }
 {
     let Some((first, further)) = legs.split_first() else {
         return Ok(());
@@ -235,7 +250,8 @@ fn write_legs(legs: &[Leg], names: &Names, out: &mut Text) -> Result<(), AllocEr
 /// Appends legs, each behind a comma and a space.
 #[cycle(write)]
 fn write_further(legs: &[Leg], names: &Names, out: &mut Text) -> Result<(), AllocError>
-    ensures { OnOk result (out.new ≡ out.old ++ legs_text names.now (pack_legs (map view_leg legs.now))) }
+    ensures { OnOk result (out.new ≡ out.old ++ legs_text names.now
+        (pack_legs (map view_leg legs.now))) }
 {
     'legs: for leg in legs {
         out.push_all(b", ")?;
@@ -268,7 +284,9 @@ fn write_lambda(
     names: &Names,
     out: &mut Text,
 ) -> Result<(), AllocError>
-    ensures { OnOk result (out.new ≡ out.old ++ (codes ", |" ++ binder_text names.now b.now ++ codes ", " ++ binder_text names.now n.now ++ codes ", " ++ binder_text names.now x.now ++ codes "| ")) }
+    ensures { OnOk result (out.new ≡ out.old ++ (codes ", |" ++ binder_text names.now b.now
+        ++ codes ", " ++ binder_text names.now n.now ++ codes ", " ++ binder_text names.now x.now
+        ++ codes "| ")) }
 {
     out.push_all(b", |")?;
     write_binder(b, names, out)?;

@@ -1,15 +1,15 @@
-pub mod Reading
-pub mod Closing
-pub mod Types
-pub mod Joining
-pub mod Sound
-pub mod RequestsReading
-pub mod Places
-pub mod RequestsSound
-pub mod Keeping
-pub mod Lists
-pub mod Few
-pub mod Placing
-pub mod Calling
-pub mod Lines
+mod Reading
+mod Closing
+mod Types
+mod Joining
+mod Sound
+mod RequestsReading
+mod Places
+mod RequestsSound
+mod Keeping
+mod Lists
+mod Few
+mod Placing
+mod Calling
+mod Lines
 pub mod Knowing

@@ -1,20 +1,20 @@
-pub mod Lifted
-pub mod Classes
-pub mod Does
-pub mod Good
-pub mod Tokens
-pub mod Nameless
-pub mod TypeForms
-pub mod Levels
-pub mod Forms
-pub mod Binders
-pub mod Made
-pub mod Loops
-pub mod Building
-pub mod Expressions
-pub mod Programs
-pub mod CodeScope
-pub mod CodeWays
-pub mod CodeRules
-pub mod CodeEnds
-pub mod CodeNumbers
+mod Lifted
+mod Classes
+mod Does
+mod Good
+mod Tokens
+mod Nameless
+mod TypeForms
+mod Levels
+mod Forms
+mod Binders
+mod Made
+mod Loops
+mod Building
+mod Expressions
+mod Programs
+mod CodeScope
+mod CodeWays
+mod CodeRules
+mod CodeEnds
+mod CodeNumbers

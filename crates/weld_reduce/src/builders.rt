@@ -123,7 +123,8 @@ fn push_type(alloc: Global, built: Built, values: &mut Values) -> Result<(), All
 /// The builder as an expression.
 fn push_fresh(alloc: Global, built: Built, values: &mut Values) -> Result<(), AllocError>
     ensures { OnOk result
-        (values.new ≡ expr (trees.leaf (at built.place) (fresh (view_build built.build))) ∷ values.old) }
+        (values.new ≡ expr (trees.leaf (at built.place) (fresh (view_build built.build)))
+        ∷ values.old) }
 {
     let Built { place, build } = built;
     let node = leaf(alloc, place, LeafForm::Builder(build))?;
@@ -138,7 +139,8 @@ fn push_started(
     values: &mut Values,
 ) -> Result<(), AllocError>
     ensures { OnOk result
-        (values.new ≡ expr (trees.one (at built.place) (started (view_build built.build)) e.value) ∷ values.old) }
+        (values.new ≡ expr (trees.one (at built.place) (started (view_build built.build)) e.value)
+        ∷ values.old) }
 {
     let Built { place, build } = built;
     let node = one(alloc, place, OneForm::Builder(build), e)?;

@@ -21,19 +21,27 @@ ghost use Rattle.weld_reduce.specs.Programs.{AreOfTheirClasses, IsDerivedBy};
 
 /// A derivation of the classes of tokens is one of the tokens, by the same steps.
 pub fn derivations_are_over_tokens()
-    ensures { (r : Rule) (ts : List Token) (ss : List Step) → IsDerivation r (classes ts) ss → IsDerivedBy r ts ss }
+    ensures { (r : Rule) (ts : List Token) (ss : List Step) → IsDerivation r (classes ts) ss
+        → IsDerivedBy r ts ss }
 {}
 
 /// What the steps of a program's derivation come to is the program that its tree spells, with the first of its names that
 /// is refused, where no number is out of its range and each token has the class of its bytes. What those of a type's come to is the type that its tree spells, at the
 /// place of its first token.
 pub fn derivations_spell()
-    ensures programs { (tree : Tree Token) → IsOf (item (OfRule Program)) (seen tree) → number_out_of_range tree ≡ None → AreOfTheirClasses (yield tree) → Comes (run (steps (item (OfRule Program)) tree) (yield tree) start) (program_of tree) (first_misnamed tree) }
-    ensures types { (tree : Tree Token) → IsOf (item (OfRule AnyType)) (seen tree) → ComesToType (run (steps (item (OfRule AnyType)) tree) (yield tree) start) (first_of (yield tree)) (type_of tree) }
+    ensures programs { (tree : Tree Token) → IsOf (item (OfRule Program)) (seen tree)
+        → number_out_of_range tree ≡ None → AreOfTheirClasses (yield tree)
+        → Comes (run (steps (item (OfRule Program)) tree) (yield tree) start) (program_of tree)
+        (first_misnamed tree) }
+    ensures types { (tree : Tree Token) → IsOf (item (OfRule AnyType)) (seen tree)
+        → ComesToType (run (steps (item (OfRule AnyType)) tree) (yield tree) start)
+        (first_of (yield tree)) (type_of tree) }
 {}
 
 /// The steps of a derivation make no more binders than it has tokens. Those of a type's make none.
 pub fn binders_are_few()
-    ensures few { (r : Rule) (ts : List Token) (ss : List Step) → IsDerivedBy r ts ss → binders_made ss ≤ length ts }
-    ensures none { (ts : List Token) (ss : List Step) → IsDerivedBy AnyType ts ss → binders_made ss ≡ 0 }
+    ensures few { (r : Rule) (ts : List Token) (ss : List Step) → IsDerivedBy r ts ss
+        → binders_made ss ≤ length ts }
+    ensures none { (ts : List Token) (ss : List Step) → IsDerivedBy AnyType ts ss
+        → binders_made ss ≡ 0 }
 {}

@@ -25,11 +25,13 @@ fn run_step<'a>(
 ) -> Result<usize, Stop>
     requires room { state.old.next + made_by step < 4294967296 }
     ensures ok { IfOk result
-        (λ behind. (steps : List Step) → run (step ∷ steps) (drop next tokens.now) (view_state state.old)
+        (λ behind. (steps : List Step) → run (step ∷ steps) (drop next tokens.now)
+        (view_state state.old)
         ≡ run steps (drop behind tokens.now) (view_state state.new)) }
     ensures numbered { OnOk result (state.new.next ≡ state.old.next + made_by step) }
     ensures broken { IfErr result
-        (λ stop. stop ≡ Broken → (steps : List Step) → run (step ∷ steps) (drop next tokens.now) (view_state state.old)
+        (λ stop. stop ≡ Broken → (steps : List Step) → run (step ∷ steps) (drop next tokens.now)
+        (view_state state.old)
         ≡ None) }
 {
     match step {

@@ -39,7 +39,8 @@ fn push_leaf(
     state: &mut State,
 ) -> Result<(), AllocError>
     ensures { OnOk result
-        (view_state state.new ≡ states.push (expr (leaf_at (at place) (view_leaf form))) (view_state state.old)) }
+        (view_state state.new ≡ states.push (expr (leaf_at (at place) (view_leaf form)))
+        (view_state state.old)) }
 {
     let node = leaf(alloc, place, form)?;
     state.values.push(Value::Expr(node))
@@ -64,7 +65,8 @@ fn shift_word<'a>(token: &'a Token, state: &mut State<'a>) -> Result<(), AllocEr
 #[tactic(auto, using(crate::proofs::CodeRules::refuse_none))]
 fn number_of(token: &Token, state: &mut State) -> u32
     ensures number { result ≡ number_in state.old.scope token.now.word }
-    ensures refused { view_state state.new ≡ refuse (unbound (names_of state.old.scope) token.now) (view_state state.old) }
+    ensures refused { view_state state.new ≡ refuse (unbound (names_of state.old.scope) token.now)
+        (view_state state.old) }
 {
     match state.scope.number_of(token.word.as_slice()) {
         Some(number) => number,
@@ -121,7 +123,8 @@ fn shift_sign<'a>(symbol: Symbol, token: &'a Token, state: &mut State<'a>) -> Re
         (states.shift (terminals.Sign symbol) token.now (view_state state.old)
         ≡ Some (view_state state.new)) }
     ensures broken { IfErr result
-        (λ stop. stop ≡ Broken → states.shift (terminals.Sign symbol) token.now (view_state state.old)
+        (λ stop. stop ≡ Broken → states.shift (terminals.Sign symbol) token.now
+        (view_state state.old)
         ≡ None) }
 {
     match symbol {

@@ -20,7 +20,8 @@ use weld_tree::Ty;
 /// The type that all these tokens derive. None where they derive no type, or one over the limits on
 /// written types: depth 16 and 256 type nodes. It fails only for want of memory.
 pub fn read_ty(alloc: Global, tokens: &[Token]) -> Result<Option<Ty>, AllocError>
-    ensures { IfOk result (λ found. MatchOption found (IsNoType tokens.now) (λ ty. SpellsType tokens.now ty × IsWithinLimits ty)) }
+    ensures { IfOk result (λ found. MatchOption found (IsNoType tokens.now)
+        (λ ty. SpellsType tokens.now ty × IsWithinLimits ty)) }
 {
     derivations_are_over_tokens();
     match derive(alloc, Rule::AnyType, tokens) {

@@ -4,19 +4,19 @@ pub mod Rows
 pub mod Forms
 pub mod Parts
 pub mod Nodes
-pub mod ReplacingLists
-pub mod Lambdas
+mod ReplacingLists
+mod Lambdas
 pub mod Counts
-pub mod Staying
+mod Staying
 pub mod Tidying
-pub mod Scopes
-pub mod Programs
+mod Scopes
+mod Programs
 pub mod Rewriting
-pub mod Falling
-pub mod Sound
-pub mod EachNodes
-pub mod Following
-pub mod Joined
-pub mod Passed
+mod Falling
+mod Sound
+mod EachNodes
+mod Following
+mod Joined
+mod Passed
 pub mod Spelled
-pub mod Tests
+mod Tests

@@ -1,10 +1,10 @@
-pub mod ActLemmas
-pub mod Choosing
-pub mod Direct
-pub mod FormLemmas
-pub mod LegLemmas
-pub mod Numbers
-pub mod Parts
-pub mod RangeSteps
-pub mod ReadLemmas
-pub mod Values
+mod ActLemmas
+mod Choosing
+mod Direct
+mod FormLemmas
+mod LegLemmas
+mod Numbers
+mod Parts
+mod RangeSteps
+mod ReadLemmas
+mod Values

@@ -28,10 +28,13 @@ pub(crate) fn do_block(
     deed: Deed,
     builder: &mut Owned,
 ) -> Result<bool, Stop>
-    requires on { RangeOn e.now (env_of frame.now) (lists_of legs.now) from to (thing_of builder.old) (thing_of own.now) from (thing_of builder.old) }
+    requires on { RangeOn e.now (env_of frame.now) (lists_of legs.now) from to
+        (thing_of builder.old) (thing_of own.now) from (thing_of builder.old) }
     requires direct { AreDirect e.now }
-    requires block { IsBlock e.now (env_of frame.now) (thing_of own.now) (lists_of legs.now) from deed (to - from) }
-    ensures { Acts result (range_over e.now (env_of frame.now) (lists_of legs.now) from to (thing_of builder.old)) (thing_of builder.new) }
+    requires block { IsBlock e.now (env_of frame.now) (thing_of own.now) (lists_of legs.now) from
+        deed (to - from) }
+    ensures { Acts result (range_over e.now (env_of frame.now) (lists_of legs.now) from to
+        (thing_of builder.old)) (thing_of builder.new) }
 {
     let _node = e;
     let _frame = frame;

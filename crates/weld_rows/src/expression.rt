@@ -41,7 +41,8 @@ pub fn take_turns<'a>(
 ) -> Result<Held<'a>, Stop>
     requires form { IsIterate e.now }
     requires state { HoldsState e.now (env_of frame.now) (view_val state) }
-    ensures { Answers held_of result (turns_from e.now (env_of frame.now) turn_limit (view_val state)) }
+    ensures { Answers held_of result (turns_from e.now (env_of frame.now) turn_limit
+        (view_val state)) }
 {
     let in_place = is_direct(e);
     run_turns(e, frame, in_place, state, alloc)

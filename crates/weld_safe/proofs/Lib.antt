@@ -1,3 +1,3 @@
 pub mod Decided
-pub mod Clean
+mod Clean
 pub mod Valued

@@ -8,9 +8,12 @@ ghost use Rattle.weld_script.specs.Script.{AreMade, IsMade, IsDeclared, AreDecla
 
 /// Objects that a script may make stay such with one more behind them that is, and its type is the last.
 pub fn scripts_grow()
-    ensures made { (ms : List Made) (m : Made) → AreMade [] ms → IsMade (made_types ms) m → AreMade [] (ms ++ m ∷ []) }
-    ensures types { (ms : List Made) (m : Made) → made_types (ms ++ m ∷ []) ≡ made_types ms ++ made_type (made_types ms) m ∷ [] }
-    ensures declared { (ms : List Made) (m : Made) → declared_of (ms ++ m ∷ []) ≡ declared_of ms ++ declared_by m }
+    ensures made { (ms : List Made) (m : Made) → AreMade [] ms → IsMade (made_types ms) m
+        → AreMade [] (ms ++ m ∷ []) }
+    ensures types { (ms : List Made) (m : Made) → made_types (ms ++ m ∷ [])
+        ≡ made_types ms ++ made_type (made_types ms) m ∷ [] }
+    ensures declared { (ms : List Made) (m : Made) → declared_of (ms ++ m ∷ [])
+        ≡ declared_of ms ++ declared_by m }
 {}
 
 /// What is declared is of a type of values: well formed, and without builders.

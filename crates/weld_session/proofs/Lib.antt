@@ -1,4 +1,4 @@
-pub mod Denoting
+mod Denoting
 mod Places
 mod Adding
 mod Building

@@ -39,8 +39,10 @@ fn add_declared(
     requires room { length graph.old < 4294967295 }
     requires may { IsDeclared declared.now }
     requires hands { Hands (makes.Declared declared.now) waiting.old }
-    ensures added { OnOk result (graph.new ≡ graph.old ++ object_of (types_of graph.old) waiting.old (makes.Declared declared.now) ∷ []) }
-    ensures left { OnOk result (waiting.new ≡ left_after (makes.Declared declared.now) waiting.old) }
+    ensures added { OnOk result (graph.new ≡ graph.old ++ object_of (types_of graph.old) waiting.old
+        (makes.Declared declared.now) ∷ []) }
+    ensures left { OnOk result (waiting.new ≡ left_after (makes.Declared declared.now)
+        waiting.old) }
 {
     declarations_have_types_of_values();
     let Some(value) = waiting.next() else {
@@ -55,7 +57,8 @@ fn add_declared(
 fn add_literal(graph: &mut Graph, kind: Kind, value: i128) -> Result<(), AllocError>
     requires room { length graph.old < 4294967295 }
     requires range { InRange kind value }
-    ensures { OnOk result (graph.new ≡ graph.old ++ object_of (types_of graph.old) [] (makes.Literal kind value) ∷ []) }
+    ensures { OnOk result (graph.new ≡ graph.old ++ object_of (types_of graph.old) []
+        (makes.Literal kind value) ∷ []) }
 {
     graph.add_value(Val::Num(Num { kind, value }), Ty::scalar(kind))?;
     Ok(())
@@ -65,7 +68,8 @@ fn add_literal(graph: &mut Graph, kind: Kind, value: i128) -> Result<(), AllocEr
 fn add_call(alloc: Global, graph: &mut Graph, call: Call, ids: &Ids) -> Result<(), AllocError>
     requires room { length graph.old < 4294967295 }
     requires may { IsCall (types_of graph.old) call ids.now }
-    ensures { OnOk result (graph.new ≡ graph.old ++ object_of (types_of graph.old) [] (makes.Call call ids.now) ∷ []) }
+    ensures { OnOk result (graph.new ≡ graph.old ++ object_of (types_of graph.old) []
+        (makes.Call call ids.now) ∷ []) }
 {
     let ids = object_ids(alloc, ids)?;
     match add_library_call(alloc, graph, call, ids.as_slice()) {
@@ -94,7 +98,8 @@ pub(crate) fn add_made(
     requires room { length graph.old < 4294967295 }
     requires may { IsMade (types_of graph.old) made.now }
     requires hands { Hands made.now waiting.old }
-    ensures added { OnOk result (graph.new ≡ graph.old ++ object_of (types_of graph.old) waiting.old made.now ∷ []) }
+    ensures added { OnOk result (graph.new ≡ graph.old ++ object_of (types_of graph.old) waiting.old
+        made.now ∷ []) }
     ensures left { OnOk result (waiting.new ≡ left_after made.now waiting.old) }
 {
     match made {

@@ -15,7 +15,8 @@ use weld_meaning::laws::typed_programs_are_never_stuck;
 /// An object that is a library call comes to what the call means by plain lists on what the objects that it
 /// is made on come to, and faults exactly where one of them or the call does.
 pub fn library_objects_mean_their_lists()
-    ensures { (os : List Object) (id : ℕ) (t : TypeTree) (ids : List ℕ) (call : Call) (types : List TypeTree)
+    ensures { (os : List Object) (id : ℕ) (t : TypeTree) (ids : List ℕ) (call : Call)
+        (types : List TypeTree)
         → AreObjects os → HasItsOperator call → FitsCall call types
         → slice_get os id ≡ Some (call_object t ids (fragment call types))
         → denote os id ≡ and_then (all_done (map (denote os) ids)) (call_meaning call types) }

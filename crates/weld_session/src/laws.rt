@@ -23,7 +23,8 @@ pub fn marks_are_exact()
 
 /// Each script is gathered to an accepted program, where there is a value for each declaration, of its type.
 pub fn each_script_is_gathered()
-    ensures { (made : List Made) (shown : List ℕ) (inputs : List Value) → IsScript made shown → AreInputs (declared_of made) inputs
+    ensures { (made : List Made) (shown : List ℕ) (inputs : List Value) → IsScript made shown
+        → AreInputs (declared_of made) inputs
         → MayBeGathered made shown inputs }
 {
     declarations_have_types_of_values();

@@ -32,7 +32,8 @@ pub struct Gathered {
 /// each declaration, of its type; no value is copied.
 pub fn gather(alloc: Global, script: &Script, inputs: Vals) -> Result<Gathered, AllocError>
     requires { AreInputs (declared_of script.now.made) inputs }
-    ensures { IfOk result (λ g. IsGathered g.program g.inputs g.ty script.now.made script.now.shown inputs) }
+    ensures { IfOk result (λ g. IsGathered g.program g.inputs g.ty script.now.made script.now.shown
+        inputs) }
 {
     script.keeps_its_rules();
     library_objects_mean_their_lists();

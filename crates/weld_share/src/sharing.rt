@@ -78,7 +78,8 @@ pub(crate) fn share_stretches<G: Gate>(
     requires some_worker { 1 ≤ workers }
     requires workers { workers ≤ 64 }
     ensures whole { IfOk result (λ j. IsWhole j) }
-    ensures evaluation { IfOk result (λ j. joined_evaluation j ≡ evaluation_of run.now.plan.now run.now.env.now) }
+    ensures evaluation { IfOk result (λ j. joined_evaluation j
+        ≡ evaluation_of run.now.plan.now run.now.env.now) }
     ensures all { IfOk result (λ j. j.end ≡ rows_at run.now.env.now) }
     ensures fault { OnFault result (program_meaning run.now.plan.now run.now.env.now ≡ fault) }
 {
@@ -110,14 +111,18 @@ fn share_batch<G: Gate>(
 ) -> Result<Joined, Stop>
     requires at { AtLoop run.now.plan.now run.now.env.now run.now.at }
     requires whole { IsWhole joined }
-    requires evaluation { joined_evaluation joined ≡ evaluation_of run.now.plan.now run.now.env.now }
+    requires evaluation { joined_evaluation joined ≡ evaluation_of run.now.plan.now
+        run.now.env.now }
     requires some { 0 < length batch.now }
-    requires stretches { (n : ℕ) × AreStretches n joined.end (rows_at run.now.env.now) (batch.now ++ behind.now) }
+    requires stretches { (n : ℕ) × AreStretches n joined.end (rows_at run.now.env.now)
+        (batch.now ++ behind.now) }
     requires some_worker { 1 ≤ workers }
     requires workers { workers ≤ 64 }
     ensures whole { IfOk result (λ j. IsWhole j) }
-    ensures evaluation { IfOk result (λ j. joined_evaluation j ≡ evaluation_of run.now.plan.now run.now.env.now) }
-    ensures behind { IfOk result (λ j. (n : ℕ) × AreStretches n j.end (rows_at run.now.env.now) behind.now) }
+    ensures evaluation { IfOk result (λ j. joined_evaluation j
+        ≡ evaluation_of run.now.plan.now run.now.env.now) }
+    ensures behind { IfOk result (λ j. (n : ℕ) × AreStretches n j.end (rows_at run.now.env.now)
+        behind.now) }
     ensures fault { OnFault result (program_meaning run.now.plan.now run.now.env.now ≡ fault) }
 {
     let jobs = Batch {
@@ -140,13 +145,18 @@ fn enter_spans<G: Gate>(
 ) -> Result<Joined, Stop>
     requires at { AtLoop run.now.plan.now run.now.env.now run.now.at }
     requires whole { IsWhole joined }
-    requires evaluation { joined_evaluation joined ≡ evaluation_of run.now.plan.now run.now.env.now }
+    requires evaluation { joined_evaluation joined ≡ evaluation_of run.now.plan.now
+        run.now.env.now }
     requires some { 0 < length batch.now }
-    requires stretches { (n : ℕ) × AreStretches n joined.end (rows_at run.now.env.now) (batch.now ++ behind.now) }
-    requires spans { AreSpans (λ first next part. HasMade run.now.plan.now run.now.env.now batch.now first next (thing_of part)) 0 (length batch.now) spans.items }
+    requires stretches { (n : ℕ) × AreStretches n joined.end (rows_at run.now.env.now)
+        (batch.now ++ behind.now) }
+    requires spans { AreSpans (λ first next part. HasMade run.now.plan.now run.now.env.now batch.now
+        first next (thing_of part)) 0 (length batch.now) spans.items }
     ensures whole { IfOk result (λ j. IsWhole j) }
-    ensures evaluation { IfOk result (λ j. joined_evaluation j ≡ evaluation_of run.now.plan.now run.now.env.now) }
-    ensures behind { IfOk result (λ j. (n : ℕ) × AreStretches n j.end (rows_at run.now.env.now) behind.now) }
+    ensures evaluation { IfOk result (λ j. joined_evaluation j
+        ≡ evaluation_of run.now.plan.now run.now.env.now) }
+    ensures behind { IfOk result (λ j. (n : ℕ) × AreStretches n j.end (rows_at run.now.env.now)
+        behind.now) }
     ensures fault { OnFault result (program_meaning run.now.plan.now run.now.env.now ≡ fault) }
 {
     let _behind = behind;
@@ -168,9 +178,11 @@ fn enter_span<G: Gate>(
 ) -> Result<(), Stop>
     requires at { AtLoop run.now.plan.now run.now.env.now run.now.at }
     requires whole { IsWhole into.old }
-    requires evaluation { joined_evaluation into.old ≡ evaluation_of run.now.plan.now run.now.env.now }
+    requires evaluation { joined_evaluation into.old ≡ evaluation_of run.now.plan.now
+        run.now.env.now }
     requires stretches { AreShared (rows_at run.now.env.now) batch.now }
-    requires made { IsMade (λ first next part. HasMade run.now.plan.now run.now.env.now batch.now first next (thing_of part)) span }
+    requires made { IsMade (λ first next part. HasMade run.now.plan.now run.now.env.now batch.now
+        first next (thing_of part)) span }
     requires begins { into.old.end ≡ row_of batch.now span.first }
     ensures whole { OnOk result (IsWhole into.new) }
     ensures evaluation { joined_evaluation into.new ≡ joined_evaluation into.old }

@@ -69,7 +69,8 @@ pub(crate) fn stretches<'a>(
 /// Where the last of some tiles ends. It takes no memory.
 fn end_of(tiles: &[Tile]) -> u64
     requires { 0 < length tiles.now }
-    ensures { (n lo rows : ℕ) → (behind : List Tile) → IsRun n lo rows (tiles.now ++ behind) → IsRun n lo result tiles.now × ((m : ℕ) × IsRun m result rows behind) × (lo < result) }
+    ensures { (n lo rows : ℕ) → (behind : List Tile) → IsRun n lo rows (tiles.now ++ behind)
+        → IsRun n lo result tiles.now × ((m : ℕ) × IsRun m result rows behind) × (lo < result) }
 {
     tiles[tiles.len() - 1].hi
 }

@@ -74,7 +74,8 @@ fn enter_all(
 ) -> Result<Joined, Stop>
     requires whole { IsWhole joined }
     requires evaluation { joined_evaluation joined ≡ evaluation_of plan.now env.now }
-    requires answers { AreAnswers plan.now env.now joined.next joined.end (rows_at env.now) behind.now answers.items }
+    requires answers { AreAnswers plan.now env.now joined.next joined.end (rows_at env.now)
+        behind.now answers.items }
     ensures whole { IfOk result (λ j. IsWhole j) }
     ensures evaluation { IfOk result (λ j. joined_evaluation j ≡ evaluation_of plan.now env.now) }
     ensures behind { IfOk result (λ j. AreStretches j.next j.end (rows_at env.now) behind.now) }
@@ -99,10 +100,12 @@ fn enter_one(
 ) -> Result<(), Stop>
     requires whole { IsWhole into.old }
     requires evaluation { joined_evaluation into.old ≡ evaluation_of plan.now env.now }
-    requires answer { (t : Tile) × Follows t into.old.next into.old.end × IsAnswer plan.now env.now t answer }
+    requires answer { (t : Tile) × Follows t into.old.next into.old.end
+        × IsAnswer plan.now env.now t answer }
     ensures whole { OnOk result (IsWhole into.new) }
     ensures evaluation { joined_evaluation into.new ≡ joined_evaluation into.old }
-    ensures on { (t : Tile) → IsAnswer plan.now env.now t answer → OnOk result ((into.new.next ≡ t.number + 1) × (into.new.end ≡ t.hi)) }
+    ensures on { (t : Tile) → IsAnswer plan.now env.now t answer
+        → OnOk result ((into.new.next ≡ t.number + 1) × (into.new.end ≡ t.hi)) }
     ensures fault { OnFault result (program_meaning plan.now env.now ≡ fault) }
 {
     let _plan = plan;
@@ -137,7 +140,8 @@ pub(crate) fn run_loop<G: Gate>(
     ensures ready { OnOk result (IsReady plan.now env.new) }
     ensures left { OnOk result (left_of plan.now env.new < left_of plan.now env.old) }
     ensures inputs { env_inputs env.new ≡ env_inputs env.old }
-    ensures rows { IfOk result (λ r. rows_left plan.now env.old ≡ r.1 ∷ rows_left plan.now env.new) }
+    ensures rows { IfOk result (λ r. rows_left plan.now env.old
+        ≡ r.1 ∷ rows_left plan.now env.new) }
     ensures tiles { IfOk result (λ r. AreCut cut r.1 r.0) }
     ensures few { IfOk result (λ r. r.1 < 2 ^ 64) }
     ensures fault { OnFault result (program_meaning plan.now env.old ≡ fault) }
@@ -224,7 +228,8 @@ fn join_stretches<G: Gate>(
     requires stretches { AreStretches start.next start.end (rows_at run.now.env.now) stretches.now }
     requires some { 1 ≤ batch_len }
     ensures whole { IfOk result (λ j. IsWhole j) }
-    ensures evaluation { IfOk result (λ j. joined_evaluation j ≡ evaluation_of run.now.plan.now run.now.env.now) }
+    ensures evaluation { IfOk result (λ j. joined_evaluation j
+        ≡ evaluation_of run.now.plan.now run.now.env.now) }
     ensures all { IfOk result (λ j. j.end ≡ rows_at run.now.env.now) }
     ensures fault { OnFault result (program_meaning run.now.plan.now run.now.env.now ≡ fault) }
 {
@@ -255,11 +260,15 @@ fn join_batch<G: Gate>(
 ) -> Result<Joined, Stop>
     requires at { AtLoop run.now.plan.now run.now.env.now run.now.at }
     requires whole { IsWhole joined }
-    requires evaluation { joined_evaluation joined ≡ evaluation_of run.now.plan.now run.now.env.now }
-    requires stretches { AreStretches joined.next joined.end (rows_at run.now.env.now) (batch.now ++ behind.now) }
+    requires evaluation { joined_evaluation joined ≡ evaluation_of run.now.plan.now
+        run.now.env.now }
+    requires stretches { AreStretches joined.next joined.end (rows_at run.now.env.now)
+        (batch.now ++ behind.now) }
     ensures whole { IfOk result (λ j. IsWhole j) }
-    ensures evaluation { IfOk result (λ j. joined_evaluation j ≡ evaluation_of run.now.plan.now run.now.env.now) }
-    ensures behind { IfOk result (λ j. AreStretches j.next j.end (rows_at run.now.env.now) behind.now) }
+    ensures evaluation { IfOk result (λ j. joined_evaluation j
+        ≡ evaluation_of run.now.plan.now run.now.env.now) }
+    ensures behind { IfOk result (λ j. AreStretches j.next j.end (rows_at run.now.env.now)
+        behind.now) }
     ensures fault { OnFault result (program_meaning run.now.plan.now run.now.env.now ≡ fault) }
 {
     match map_stretches(rt, alloc, run, batch) {

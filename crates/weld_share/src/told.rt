@@ -31,8 +31,11 @@ pub(crate) fn run_told<T: Tells>(
 ) -> Result<(), Stop>
     requires told { T.has_told teller.now tile.number }
     requires at { AtLoop plan.now env.now at }
-    requires holds { HoldsRange (evaluation_of plan.now env.now).node (evaluation_of plan.now env.now).names (evaluation_of plan.now env.now).lists tile.lo tile.hi (thing_of part.old) }
-    ensures { RangeAnswer result (evaluation_of plan.now env.now) tile.lo tile.hi (thing_of part.old) (thing_of part.new) }
+    requires holds { HoldsRange (evaluation_of plan.now env.now).node
+        (evaluation_of plan.now env.now).names (evaluation_of plan.now env.now).lists tile.lo
+        tile.hi (thing_of part.old) }
+    ensures { RangeAnswer result (evaluation_of plan.now env.now) tile.lo tile.hi
+        (thing_of part.old) (thing_of part.new) }
 {
     let _teller = teller;
     run_in(alloc, plan, env, at, tile, part)

@@ -1,4 +1,4 @@
-pub mod Cases
-pub mod Few
-pub mod LaneLegs
-pub mod Left
+mod Cases
+mod Few
+mod LaneLegs
+mod Left

@@ -200,7 +200,8 @@ fn is_lane_name(lanes: Lanes, lets: &Lets, known: &Known, name: Sym) -> bool
 }
 
 fn is_lane_leaf(lanes: Lanes, lets: &Lets, known: &Known, leaf: &LeafForm) -> bool
-    ensures { result ≡ is_lane_leaf (lane_loop lanes) (view_lets lets.now) known.now (view_leaf leaf.now) }
+    ensures { result ≡ is_lane_leaf (lane_loop lanes) (view_lets lets.now) known.now
+        (view_leaf leaf.now) }
 {
     match leaf {
         LeafForm::Int(kind, _) => is_same(lanes.kind, *kind),

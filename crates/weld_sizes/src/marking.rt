@@ -50,7 +50,8 @@ fn mark(e: &Expr, marks: &mut Marks) -> Result<(), AllocError>
 
 #[cycle(mark)]
 fn mark_two(first: &Expr, second: &Expr, marks: &mut Marks) -> Result<(), AllocError>
-    ensures { OnOk result (marks.new ≡ marks.old ++ (sized_marks first.now ++ sized_marks second.now)) }
+    ensures { OnOk result (marks.new ≡ marks.old ++ (sized_marks first.now
+        ++ sized_marks second.now)) }
 {
     mark(first, marks)?;
     mark(second, marks)

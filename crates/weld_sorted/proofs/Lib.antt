@@ -1,4 +1,4 @@
 pub mod Comparing
 pub mod Counting
-pub mod Sorting
+mod Sorting
 mod Starting

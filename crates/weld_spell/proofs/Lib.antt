@@ -1,16 +1,16 @@
-pub mod Standing
-pub mod Broken
-pub mod Modes
-pub mod Flows
-pub mod Fine
-pub mod Sound
-pub mod Terminals
-pub mod Passing
-pub mod Parameters
-pub mod Scans
-pub mod Fields
-pub mod Sizes
-pub mod Types
-pub mod Written
-pub mod Trees
-pub mod Counting
+mod Standing
+mod Broken
+mod Modes
+mod Flows
+mod Fine
+mod Sound
+mod Terminals
+mod Passing
+mod Parameters
+mod Scans
+mod Fields
+mod Sizes
+mod Types
+mod Written
+mod Trees
+mod Counting

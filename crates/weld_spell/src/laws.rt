@@ -25,20 +25,25 @@ pub fn one_program()
 
 /// A rule derives tokens by one tree over them at most.
 pub fn one_tree_of_tokens()
-    ensures { (r : Rule) (t u : Tree Token) → IsOf (item (OfRule r)) (seen t) → IsOf (item (OfRule r)) (seen u) → yield t ≡ yield u → t ≡ u }
+    ensures { (r : Rule) (t u : Tree Token) → IsOf (item (OfRule r)) (seen t)
+        → IsOf (item (OfRule r)) (seen u) → yield t ≡ yield u → t ≡ u }
 {
     one_tree();
 }
 
 /// Tokens spell a program exactly where the grammar derives one from them.
 pub fn programs_are_derived()
-    ensures derived { (ts : List Token) (p : ProgramTree) → Spells ts p → Derives Program (classes ts) }
-    ensures spelled { (ts : List Token) → Derives Program (classes ts) → (p : ProgramTree) × Spells ts p }
+    ensures derived { (ts : List Token) (p : ProgramTree) → Spells ts p
+        → Derives Program (classes ts) }
+    ensures spelled { (ts : List Token) → Derives Program (classes ts)
+        → (p : ProgramTree) × Spells ts p }
 {}
 
 /// The binders of a program that tokens spell are numbered 0, 1, .. in the order of the text, so that each
 /// has a number of its own.
 pub fn binders_count_up()
-    ensures in_order { (ts : List Token) (p : ProgramTree) → Spells ts p → (k : ℕ) × (syms_of p.params ++ bound p.body ≡ count_from 0 k) }
-    ensures distinct { (ts : List Token) (p : ProgramTree) → Spells ts p → AreDistinct (syms_of p.params ++ bound p.body) }
+    ensures in_order { (ts : List Token) (p : ProgramTree) → Spells ts p
+        → (k : ℕ) × (syms_of p.params ++ bound p.body ≡ count_from 0 k) }
+    ensures distinct { (ts : List Token) (p : ProgramTree) → Spells ts p
+        → AreDistinct (syms_of p.params ++ bound p.body) }
 {}

@@ -12,15 +12,18 @@ ghost use Rattle.weld_spell.specs.Measures.{type_too_large, parameter_too_many, 
 
 /// In the tokens of a program the 17th parameter is the program's.
 pub fn parameters_by_the_tree()
-    ensures { (tree : Tree Token) → IsOf (item (OfRule Program)) (seen tree) → first_parameter_too_many (yield tree) ≡ parameter_too_many (program_of tree).params }
+    ensures { (tree : Tree Token) → IsOf (item (OfRule Program)) (seen tree)
+        → first_parameter_too_many (yield tree) ≡ parameter_too_many (program_of tree).params }
 {}
 
 /// In the tokens of a program the first field or leg that is the 17th of its list is that of its tree.
 pub fn fields_by_the_tree()
-    ensures { (tree : Tree Token) → IsOf (item (OfRule Program)) (seen tree) → first_field_too_many (yield tree) ≡ field_too_many tree }
+    ensures { (tree : Tree Token) → IsOf (item (OfRule Program)) (seen tree)
+        → first_field_too_many (yield tree) ≡ field_too_many tree }
 {}
 
 /// In the tokens of a program the first written type that is too large is that of its tree.
 pub fn types_by_the_tree()
-    ensures { (tree : Tree Token) → IsOf (item (OfRule Program)) (seen tree) → first_type_too_large (yield tree) ≡ type_too_large tree }
+    ensures { (tree : Tree Token) → IsOf (item (OfRule Program)) (seen tree)
+        → first_type_too_large (yield tree) ≡ type_too_large tree }
 {}

@@ -7,5 +7,6 @@ ghost use Rattle.weld_spell.specs.Names.{Refused, StandsIn, first_misnamed};
 
 /// The first refused name of a tree stands in its tokens: N1 at the place of one, N2 at that of a reserved word.
 pub fn misnamed_stands()
-    ensures { (tree : Tree Token) (refused : Refused) → first_misnamed tree ≡ Some refused → StandsIn refused (yield tree) }
+    ensures { (tree : Tree Token) (refused : Refused) → first_misnamed tree ≡ Some refused
+        → StandsIn refused (yield tree) }
 {}

@@ -28,12 +28,15 @@ pub fn derived_or_broken()
 /// In the tokens of a program a number stands behind a `-` that has no operand before it exactly where it is that of a
 /// negative literal: the first number out of its range by the tokens is that by their tree.
 pub fn numbers_by_the_tree()
-    ensures { (tree : Tree Token) → IsOf (item (OfRule Program)) (seen tree) → first_number_out_of_range (yield tree) ≡ number_out_of_range tree }
+    ensures { (tree : Tree Token) → IsOf (item (OfRule Program)) (seen tree)
+        → first_number_out_of_range (yield tree) ≡ number_out_of_range tree }
 {}
 
 /// What at most 16,384 tokens spell is a program, where no number is out of its range and no name is refused.
 pub fn spelled_programs()
-    ensures { (tree : Tree Token) → IsOf (item (OfRule Program)) (seen tree) → number_out_of_range tree ≡ None → first_misnamed tree ≡ None → length (yield tree) ≤ 16384 → IsProgram (program_of tree).params (program_of tree).body }
+    ensures { (tree : Tree Token) → IsOf (item (OfRule Program)) (seen tree)
+        → number_out_of_range tree ≡ None → first_misnamed tree ≡ None → length (yield tree) ≤ 16384
+        → IsProgram (program_of tree).params (program_of tree).body }
 {
     binders_count_up();
 }

@@ -1,26 +1,26 @@
 pub mod Bindings
 pub mod Clear
-pub mod PutOrigins
+mod PutOrigins
 pub mod PutTypes
 pub mod PutCounts
 pub mod PutMade
 pub mod Chains
 pub mod Values
 pub mod ValueRules
-pub mod Moved
+mod Moved
 pub mod Following
 pub mod Unnamed
-pub mod BuilderRules
+mod BuilderRules
 pub mod PlainFacts
 pub mod PlainRule
-pub mod Way
+mod Way
 pub mod Gaining
-pub mod WayRules
-pub mod WaySplits
-pub mod WayMeans
-pub mod UsedRule
-pub mod Cases
-pub mod Gathered
-pub mod Left
-pub mod Put
+mod WayRules
+mod WaySplits
+mod WayMeans
+mod UsedRule
+mod Cases
+mod Gathered
+mod Left
+mod Put
 pub mod UsedNames

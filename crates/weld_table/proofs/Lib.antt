@@ -1,10 +1,10 @@
-pub mod Left
-pub mod Bytes
-pub mod SoFar
-pub mod Zipped
-pub mod Growing
-pub mod Choosing
-pub mod Finishing
-pub mod OneTable
-pub mod Deciding
-pub mod TableTypes
+mod Left
+mod Bytes
+mod SoFar
+mod Zipped
+mod Growing
+mod Choosing
+mod Finishing
+mod OneTable
+mod Deciding
+mod TableTypes

@@ -49,7 +49,8 @@ fn verdict_of(fault: DataFault) -> Verdict
 
 /// Reads a field as a scalar and appends it.
 fn add_scalar<T: Cell>(items: &mut Items<T>, field: &[u8]) -> Result<Verdict, AllocError>
-    ensures { IfOk result (IsAdded (scalar T.kind) field.now (map T.value items.old) (map T.value items.new)) }
+    ensures { IfOk result (IsAdded (scalar T.kind) field.now (map T.value items.old)
+        (map T.value items.new)) }
 {
     match read_cell::<T>(field) {
         Ok(x) => {
@@ -87,7 +88,8 @@ fn plain_bytes(alloc: Global, field: &[u8]) -> Result<Val, AllocError>
 
 /// Appends a list of bytes.
 fn add_list(items: &mut Vals, list: Val) -> Result<Verdict, AllocError>
-    ensures { IfOk result (λ w. (w ≡ Verdict.Fine) × (items.new ≡ items.old ++ view_val list ∷ [])) }
+    ensures { IfOk result (λ w. (w ≡ Verdict.Fine) × (items.new
+        ≡ items.old ++ view_val list ∷ [])) }
 {
     items.push(list)?;
     Ok(Verdict::Fine)
@@ -134,7 +136,8 @@ impl Cells {
     /// Reads a field as a cell and appends it, if it is one.
     pub(crate) fn add(&mut self, alloc: Global, field: &[u8]) -> Result<Verdict, AllocError>
         ensures ty { type_of self.new ≡ type_of self.old }
-        ensures added { IfOk result (IsAdded (type_of self.old) field.now (view_cells self.old) (view_cells self.new)) }
+        ensures added { IfOk result (IsAdded (type_of self.old) field.now (view_cells self.old)
+            (view_cells self.new)) }
     {
         match self {
             Cells::Bool(items) => add_scalar(items, field),

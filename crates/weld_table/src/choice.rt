@@ -14,7 +14,8 @@ use weld_tree::Tys;
 
 /// Whether the field at the place is the name.
 fn is_named(header: &ByteRecord, place: usize, name: &[u8]) -> bool
-    ensures { (field : List ℕ) → field_at (fields_of header.now) place ≡ Some field → result ≡ bytes_eq name.now field }
+    ensures { (field : List ℕ) → field_at (fields_of header.now) place ≡ Some field
+        → result ≡ bytes_eq name.now field }
 {
     match header.get(place) {
         Some(field) => name == field,
@@ -37,7 +38,8 @@ fn place_of_name(header: &ByteRecord, name: &[u8]) -> Option<usize>
 /// One column for each of the types, in order.
 fn in_order(alloc: Global, types: &Tys) -> Result<Vec<TableColumn>, AllocError>
     requires { All IsCell types.now }
-    ensures { IfOk result (λ columns. AreNew (length types.now) (placed 0 types.now) columns.items) }
+    ensures { IfOk result (λ columns. AreNew (length types.now) (placed 0 types.now)
+        columns.items) }
 {
     let mut columns = Vec::new(alloc);
     for (place, ty) in types.as_slice().iter().enumerate() {
@@ -54,7 +56,8 @@ fn by_name(
     header: &ByteRecord,
 ) -> Result<Option<Vec<TableColumn>>, AllocError>
     requires { All IsCell types.now }
-    ensures { IfOk result (λ columns. AreChosen (length (fields_of header.now)) (named (fields_of header.now) names.now types.now) (option_map (λ v. v.items) columns)) }
+    ensures { IfOk result (λ columns. AreChosen (length (fields_of header.now))
+        (named (fields_of header.now) names.now types.now) (option_map (λ v. v.items) columns)) }
 {
     let mut columns = Vec::new(alloc);
     let mut left = types.as_slice();
@@ -82,7 +85,8 @@ pub(crate) fn choose(
     header: &ByteRecord,
 ) -> Result<Option<Vec<TableColumn>>, AllocError>
     requires { AreCells wanted.now }
-    ensures { IfOk result (λ columns. AreChosen (length (fields_of header.now)) (columns_of wanted.now (fields_of header.now)) (option_map (λ v. v.items) columns)) }
+    ensures { IfOk result (λ columns. AreChosen (length (fields_of header.now))
+        (columns_of wanted.now (fields_of header.now)) (option_map (λ v. v.items) columns)) }
 {
     match wanted {
         Wanted::Fields(types) => {

@@ -38,7 +38,8 @@ impl TableColumn {
     pub(crate) fn add(&mut self, alloc: Global, row: &ByteRecord) -> Result<(), AllocError>
         requires { self.old.place < length (fields_of row.now) }
         ensures place { OnOk result (place_of self.new ≡ place_of self.old) }
-        ensures read { OnOk result ((rows : List Row) → IsSoFar rows self.old → IsSoFar (rows ++ fields_of row.now ∷ []) self.new) }
+        ensures read { OnOk result ((rows : List Row) → IsSoFar rows self.old
+            → IsSoFar (rows ++ fields_of row.now ∷ []) self.new) }
     {
         let Some(field) = row.get(self.place) else {
             unreachable!()

@@ -40,8 +40,10 @@ fn read_rows(
 ) -> Result<(), TableFault>
     requires stand { All (StandsBelow width) columns.old }
     requires there { (rows : List Row) × Leaves reader.old rows }
-    ensures read { OnOk result ((rows : List Row) → Leaves reader.old rows → RowsRead width rows columns.old columns.new) }
-    ensures fault { IfErr result (λ fault. (rows : List Row) → Leaves reader.old rows → IsUneven width rows fault) }
+    ensures read { OnOk result ((rows : List Row) → Leaves reader.old rows
+        → RowsRead width rows columns.old columns.new) }
+    ensures fault { IfErr result (λ fault. (rows : List Row) → Leaves reader.old rows
+        → IsUneven width rows fault) }
 {
     let mut row = ByteRecord::new(alloc);
     while next_row(reader, &mut row)? {

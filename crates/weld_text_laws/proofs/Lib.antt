@@ -1,7 +1,7 @@
 mod RoundTrip
-pub mod Cases
-pub mod Trees
-pub mod Decided
-pub mod SpelledTypes
-pub mod Sayings
-pub mod Texts
+mod Cases
+mod Trees
+mod Decided
+mod SpelledTypes
+mod Sayings
+mod Texts

@@ -17,7 +17,9 @@ use weld_tokens::laws::one_reading;
 /// Where a text parses as a program, the printed text of that program parses as one that is the same up to places,
 /// noted types and binder numbers, or it is refused by a limit; by nothing else.
 pub fn parsed_programs_read_back()
-    ensures { (text : List ℕ) (p : ProgramTree) → Parses text p → ((q : ProgramTree) × Parses (program_text p) q × AreSame p q) ⊎ ((refusal : Refusal) × IsRefused (program_text p) refusal × IsLimit refusal) }
+    ensures { (text : List ℕ) (p : ProgramTree) → Parses text p
+        → ((q : ProgramTree) × Parses (program_text p) q × AreSame p q)
+        ⊎ ((refusal : Refusal) × IsRefused (program_text p) refusal × IsLimit refusal) }
 {
     parsed_programs();
     printed_programs_read_back();

@@ -29,16 +29,20 @@ pub fn each_line_says_one_thing()
 
 /// A text is one script at most, is refused for one thing at most, and never both.
 pub fn one_script()
-    ensures script { (text : List ℕ) (s t : PlainScript) → IsRead text (Ok s) → IsRead text (Ok t) → s ≡ t }
-    ensures fault { (text : List ℕ) (e f : ScriptFault) → e ≢ Memory → f ≢ Memory → IsRead text (Err e) → IsRead text (Err f) → e ≡ f }
-    ensures not_both { (text : List ℕ) (s : PlainScript) (e : ScriptFault) → e ≢ Memory → IsRead text (Ok s) → IsRead text (Err e) → ⊥ }
+    ensures script { (text : List ℕ) (s t : PlainScript) → IsRead text (Ok s) → IsRead text (Ok t)
+        → s ≡ t }
+    ensures fault { (text : List ℕ) (e f : ScriptFault) → e ≢ Memory → f ≢ Memory
+        → IsRead text (Err e) → IsRead text (Err f) → e ≡ f }
+    ensures not_both { (text : List ℕ) (s : PlainScript) (e : ScriptFault) → e ≢ Memory
+        → IsRead text (Ok s) → IsRead text (Err e) → ⊥ }
 {
     each_line_says_one_thing();
 }
 
 /// Each text is a script, or is refused for something other than want of memory.
 pub fn each_text_is_read()
-    ensures { (text : List ℕ) → ((s : PlainScript) × IsRead text (Ok s)) ⊎ ((e : ScriptFault) × (e ≢ Memory) × IsRead text (Err e)) }
+    ensures { (text : List ℕ) → ((s : PlainScript) × IsRead text (Ok s))
+        ⊎ ((e : ScriptFault) × (e ≢ Memory) × IsRead text (Err e)) }
 {
     each_line_says_one_thing();
 }

@@ -54,7 +54,8 @@ impl Joined {
         requires tile { ∥ IsTileOf (joined_evaluation self.old) tile.lo tile.hi ∥₁ }
         requires action { IsAction (joined_evaluation self.old) tile.lo tile.hi (thing_of thing) }
         ensures whole { OnOk result (IsWhole self.new) }
-        ensures joined { OnOk result (joined_thing self.new ≡ after_thing (joined_thing self.old) (thing_of thing)) }
+        ensures joined { OnOk result (joined_thing self.new
+            ≡ after_thing (joined_thing self.old) (thing_of thing)) }
         ensures next { OnOk result (self.new.next ≡ tile.number + 1) }
         ensures end { OnOk result (self.new.end ≡ tile.hi) }
         ensures evaluation { joined_evaluation self.new ≡ joined_evaluation self.old }

@@ -76,7 +76,8 @@ impl Piece {
         requires evaluation { piece_evaluation self ≡ joined_evaluation into.old }
         requires follows { Follows self.tile into.old.next into.old.end }
         ensures whole { OnOk result (IsWhole into.new) }
-        ensures joined { OnOk result (joined_thing into.new ≡ after_thing (joined_thing into.old) (piece_thing self)) }
+        ensures joined { OnOk result (joined_thing into.new
+            ≡ after_thing (joined_thing into.old) (piece_thing self)) }
         ensures next { OnOk result (into.new.next ≡ self.tile.number + 1) }
         ensures end { OnOk result (into.new.end ≡ self.tile.hi) }
         ensures evaluation { joined_evaluation into.new ≡ joined_evaluation into.old }

@@ -7,5 +7,6 @@ ghost use Rattle.weld_tiles.specs.Tiling.{Halves, AddsHalves, IsTiling};
 /// Rows are cut in one way only.
 pub fn one_cut(cut: u32)
     requires { 1 ≤ cut }
-    ensures { (lo hi : ℕ) (first second : List (ℕ × ℕ)) → Halves cut lo hi first → Halves cut lo hi second → first ≡ second }
+    ensures { (lo hi : ℕ) (first second : List (ℕ × ℕ)) → Halves cut lo hi first
+        → Halves cut lo hi second → first ≡ second }
 {}

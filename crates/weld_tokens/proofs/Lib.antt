@@ -1,11 +1,11 @@
-pub mod Left
-pub mod Earlier
-pub mod Runs
-pub mod Greatest
-pub mod Longest
-pub mod Reading
-pub mod OneReading
-pub mod Numbers
-pub mod Spelled
-pub mod SomeReading
-pub mod Led
+mod Left
+mod Earlier
+mod Runs
+mod Greatest
+mod Longest
+mod Reading
+mod OneReading
+mod Numbers
+mod Spelled
+mod SomeReading
+mod Led

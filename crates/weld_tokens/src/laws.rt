@@ -14,14 +14,17 @@ ghost use Rattle.weld_tokens.specs.Tokens.{AreTokens, IsWrongAt};
 
 /// A text has one list of tokens at most, one place at most where X1 refuses it, and never both.
 pub fn one_reading()
-    ensures tokens { (text : List ℕ) (a b : List Token) → AreTokens text a → AreTokens text b → a ≡ b }
+    ensures tokens { (text : List ℕ) (a b : List Token) → AreTokens text a → AreTokens text b
+        → a ≡ b }
     ensures wrong { (text : List ℕ) (p q : Place) → IsWrongAt text p → IsWrongAt text q → p ≡ q }
-    ensures not_both { (text : List ℕ) (a : List Token) (p : Place) → AreTokens text a → IsWrongAt text p → ⊥ }
+    ensures not_both { (text : List ℕ) (a : List Token) (p : Place) → AreTokens text a
+        → IsWrongAt text p → ⊥ }
 {}
 
 /// A text has tokens, or a place where X1 refuses it.
 pub fn some_reading()
-    ensures { (text : List ℕ) → ((tokens : List Token) × AreTokens text tokens) ⊎ ((place : Place) × IsWrongAt text place) }
+    ensures { (text : List ℕ) → ((tokens : List Token) × AreTokens text tokens)
+        ⊎ ((place : Place) × IsWrongAt text place) }
 {}
 
 /// Each symbol and each reserved word is the token of its own bytes.
@@ -32,5 +35,6 @@ pub fn spelled_tokens()
 
 /// Each token of a text has the class of its bytes.
 pub fn classes_of_tokens()
-    ensures { (text : List ℕ) (tokens : List Token) → AreTokens text tokens → AllByRecursion (λ t. class_of t.word ≡ Some t.class) tokens }
+    ensures { (text : List ℕ) (tokens : List Token) → AreTokens text tokens
+        → AllByRecursion (λ t. class_of t.word ≡ Some t.class) tokens }
 {}

@@ -31,7 +31,8 @@ pub fn class_of(word: &[u8]) -> Option<Class>
 
 /// A token of these bytes.
 fn token_of(alloc: Global, class: Class, word: &[u8], place: Place) -> Result<Token, AllocError>
-    ensures { IfOk result (λ token. (token.class ≡ class) × (token.word ≡ word.now) × (token.place ≡ place)) }
+    ensures { IfOk result (λ token. (token.class ≡ class) × (token.word ≡ word.now)
+        × (token.place ≡ place)) }
 {
     let word = Word::copy_of(alloc, word)?;
     Ok(Token { class, word, place })

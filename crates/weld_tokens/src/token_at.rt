@@ -43,8 +43,10 @@ fn string_at(rest: &[u8]) -> Option<(usize, Class)>
 
 /// The symbol of two bytes that begins with a byte before this text.
 fn double_at(first: u8, rest: &[u8]) -> Option<Symbol>
-    ensures some { IfSome result (λ symbol. (c : ℕ) × (cs : List ℕ) × (rest.now ≡ c ∷ cs) × (double first c ≡ Some symbol)) }
-    ensures none { IfNone result ((c : ℕ) (cs : List ℕ) → rest.now ≡ c ∷ cs → double first c ≡ None) }
+    ensures some { IfSome result (λ symbol. (c : ℕ) × (cs : List ℕ) × (rest.now ≡ c ∷ cs)
+        × (double first c ≡ Some symbol)) }
+    ensures none { IfNone result ((c : ℕ) (cs : List ℕ) → rest.now ≡ c ∷ cs
+        → double first c ≡ None) }
 {
     match split(rest) {
         Some((second, _)) => double(first, second),

@@ -1,3 +1,3 @@
 pub mod Fields
-pub mod Parts
+mod Parts
 pub mod SameLaws

@@ -24,6 +24,7 @@ pub fn same_programs_have_same_counts()
 #[tactic(auto, using(crate::proofs::SameLaws::bound_is_near, crate::proofs::SameLaws::free_is_far, crate::proofs::SameLaws::distance_is_one_name))]
 pub fn distance_tells_binders_apart()
     ensures bound { (scope : List ℕ) (s : ℕ) → IsOneOf scope s → distance scope s < length scope }
-    ensures free { (scope : List ℕ) (s : ℕ) → ¬ (IsOneOf scope s) → distance scope s ≡ length scope + s }
+    ensures free { (scope : List ℕ) (s : ℕ) → ¬ (IsOneOf scope s)
+        → distance scope s ≡ length scope + s }
     ensures apart { (scope : List ℕ) (s t : ℕ) → distance scope s ≡ distance scope t → s ≡ t }
 {}

@@ -1,7 +1,7 @@
-pub mod Making
-pub mod Outside
-pub mod Runs
-pub mod SlotLemmas
-pub mod States
-pub mod Turning
-pub mod WordLemmas
+mod Making
+mod Outside
+mod Runs
+mod SlotLemmas
+mod States
+mod Turning
+mod WordLemmas

@@ -35,7 +35,8 @@ pub fn make(e: &Expr, scope: &Scope, frame: &Frame, alloc: Global) -> Result<Cod
 /// The same in a box.
 #[cycle(make)]
 fn boxed(e: &Expr, scope: &Scope, frame: &Frame, alloc: Global) -> Result<Box<Code>, Unmade>
-    ensures { IfOk result (λ c. Means c.value (view_scope scope.now) (env_of frame.now) (eval e.now)) }
+    ensures { IfOk result (λ c. Means c.value (view_scope scope.now) (env_of frame.now)
+        (eval e.now)) }
 {
     match make(e, scope, frame, alloc) {
         Ok(code) => match Box::new(alloc, code) {
@@ -49,7 +50,8 @@ fn boxed(e: &Expr, scope: &Scope, frame: &Frame, alloc: Global) -> Result<Box<Co
 /// The code of a form without parts.
 #[tactic(auto, using(crate::proofs::Making::literal_means))]
 fn make_leaf(leaf: &LeafForm, scope: &Scope, frame: &Frame) -> Result<Code, Unmade>
-    ensures { IfOk result (λ c. Means c (view_scope scope.now) (env_of frame.now) (leaf_thing (view_leaf leaf.now))) }
+    ensures { IfOk result (λ c. Means c (view_scope scope.now) (env_of frame.now)
+        (leaf_thing (view_leaf leaf.now))) }
 {
     match leaf {
         LeafForm::Int(kind, x) => make_literal(*kind, *x, scope, frame),
@@ -62,7 +64,8 @@ fn make_leaf(leaf: &LeafForm, scope: &Scope, frame: &Frame) -> Result<Code, Unma
 /// The code of a literal.
 #[tactic(auto, using(crate::proofs::Making::literal_means))]
 fn make_literal(kind: Kind, x: i128, scope: &Scope, frame: &Frame) -> Result<Code, Unmade>
-    ensures { IfOk result (λ c. Means c (view_scope scope.now) (env_of frame.now) (leaf_thing (int kind x))) }
+    ensures { IfOk result (λ c. Means c (view_scope scope.now) (env_of frame.now)
+        (leaf_thing (int kind x))) }
 {
     let (_scope, _frame) = (scope, frame);
     match literal(kind, x) {
@@ -74,7 +77,8 @@ fn make_literal(kind: Kind, x: i128, scope: &Scope, frame: &Frame) -> Result<Cod
 /// The code of a name.
 #[tactic(auto, using(crate::proofs::Making::slot_means, crate::proofs::Making::outer_means))]
 fn make_name(name: Sym, scope: &Scope, frame: &Frame) -> Result<Code, Unmade>
-    ensures { IfOk result (λ c. Means c (view_scope scope.now) (env_of frame.now) (leaf_thing (name_leaf name.0))) }
+    ensures { IfOk result (λ c. Means c (view_scope scope.now) (env_of frame.now)
+        (leaf_thing (name_leaf name.0))) }
 {
     match place_of(scope, name) {
         Some(place) => match place.shape {
@@ -98,7 +102,8 @@ fn make_one(
     frame: &Frame,
     alloc: Global,
 ) -> Result<Code, Unmade>
-    ensures { IfOk result (λ c. Means c (view_scope scope.now) (env_of frame.now) (λ env. and_then (eval part.now env) (one_thing (view_one form.now)))) }
+    ensures { IfOk result (λ c. Means c (view_scope scope.now) (env_of frame.now)
+        (λ env. and_then (eval part.now env) (one_thing (view_one form.now)))) }
 {
     match form {
         OneForm::Neg => match boxed(part, scope, frame, alloc) {
@@ -131,7 +136,8 @@ pub fn name_of(e: &Expr) -> Option<Sym>
 /// The code of a field of a name.
 #[tactic(auto, using(crate::proofs::Making::field_means, crate::proofs::Making::outer_field_means))]
 fn make_field(number: u32, part: &Expr, scope: &Scope, frame: &Frame) -> Result<Code, Unmade>
-    ensures { IfOk result (λ c. Means c (view_scope scope.now) (env_of frame.now) (λ env. and_then (eval part.now env) (one_thing (field_form number)))) }
+    ensures { IfOk result (λ c. Means c (view_scope scope.now) (env_of frame.now)
+        (λ env. and_then (eval part.now env) (one_thing (field_form number)))) }
 {
     let name = match name_of(part) {
         Some(name) => name,
@@ -156,7 +162,8 @@ fn make_two(
     frame: &Frame,
     alloc: Global,
 ) -> Result<Code, Unmade>
-    ensures { IfOk result (λ c. Means c (view_scope scope.now) (env_of frame.now) (λ env. and_then (eval x.now env) (λ t. two_thing (view_two form) t (eval y.now env)))) }
+    ensures { IfOk result (λ c. Means c (view_scope scope.now) (env_of frame.now)
+        (λ env. and_then (eval x.now env) (λ t. two_thing (view_two form) t (eval y.now env)))) }
 {
     match form {
         TwoForm::Binary(op) => make_work(op, x, y, scope, frame, alloc),
@@ -177,7 +184,8 @@ fn make_work(
     frame: &Frame,
     alloc: Global,
 ) -> Result<Code, Unmade>
-    ensures { IfOk result (λ c. Means c (view_scope scope.now) (env_of frame.now) (λ env. and_then (eval x.now env) (λ t. two_thing (binary op) t (eval y.now env)))) }
+    ensures { IfOk result (λ c. Means c (view_scope scope.now) (env_of frame.now)
+        (λ env. and_then (eval x.now env) (λ t. two_thing (binary op) t (eval y.now env)))) }
 {
     let x = match boxed(x, scope, frame, alloc) {
         Ok(x) => x,
@@ -209,7 +217,8 @@ fn make_both(
     frame: &Frame,
     alloc: Global,
 ) -> Result<Code, Unmade>
-    ensures { IfOk result (λ c. Means c (view_scope scope.now) (env_of frame.now) (λ env. and_then (eval x.now env) (λ t. two_thing and_form t (eval y.now env)))) }
+    ensures { IfOk result (λ c. Means c (view_scope scope.now) (env_of frame.now)
+        (λ env. and_then (eval x.now env) (λ t. two_thing and_form t (eval y.now env)))) }
 {
     let x = match boxed(x, scope, frame, alloc) {
         Ok(x) => x,
@@ -235,7 +244,8 @@ fn make_either(
     frame: &Frame,
     alloc: Global,
 ) -> Result<Code, Unmade>
-    ensures { IfOk result (λ c. Means c (view_scope scope.now) (env_of frame.now) (λ env. and_then (eval x.now env) (λ t. two_thing or_form t (eval y.now env)))) }
+    ensures { IfOk result (λ c. Means c (view_scope scope.now) (env_of frame.now)
+        (λ env. and_then (eval x.now env) (λ t. two_thing or_form t (eval y.now env)))) }
 {
     let x = match boxed(x, scope, frame, alloc) {
         Ok(x) => x,
@@ -263,7 +273,9 @@ fn make_three(
     frame: &Frame,
     alloc: Global,
 ) -> Result<Code, Unmade>
-    ensures { IfOk result (λ c. Means c (view_scope scope.now) (env_of frame.now) (λ env. and_then (eval test.now env) (λ t. three_thing (view_three form) t (eval x.now env) (eval y.now env)))) }
+    ensures { IfOk result (λ c. Means c (view_scope scope.now) (env_of frame.now)
+        (λ env. and_then (eval test.now env) (λ t. three_thing (view_three form) t (eval x.now env)
+        (eval y.now env)))) }
 {
     let test = match boxed(test, scope, frame, alloc) {
         Ok(test) => test,

@@ -27,7 +27,8 @@ pub fn make_turn(
     alloc: Global,
 ) -> Result<Turn, Unmade>
     requires { AreBelow (view_scope scope.now) next }
-    ensures { IfOk result (λ t. TurnMeans t shape (view_scope scope.now) (env_of frame.now) (eval e.now)) }
+    ensures { IfOk result (λ t. TurnMeans t shape (view_scope scope.now) (env_of frame.now)
+        (eval e.now)) }
 {
     match &e.form {
         Form::Let(binder, value, body) => {
@@ -62,7 +63,8 @@ fn boxed_turn(
     alloc: Global,
 ) -> Result<Box<Turn>, Unmade>
     requires { AreBelow (view_scope scope.now) next }
-    ensures { IfOk result (λ t. TurnMeans t.value shape (view_scope scope.now) (env_of frame.now) (eval e.now)) }
+    ensures { IfOk result (λ t. TurnMeans t.value shape (view_scope scope.now) (env_of frame.now)
+        (eval e.now)) }
 {
     match make_turn(e, shape, scope, next, frame, alloc) {
         Ok(turn) => match Box::new(alloc, turn) {
@@ -87,7 +89,8 @@ fn make_fork(
     alloc: Global,
 ) -> Result<Turn, Unmade>
     requires { AreBelow (view_scope scope.now) next }
-    ensures { IfOk result (λ t. TurnMeans t shape (view_scope scope.now) (env_of frame.now) (λ env. and_then (eval test.now env) (λ u. chosen u (eval x.now env) (eval y.now env)))) }
+    ensures { IfOk result (λ t. TurnMeans t shape (view_scope scope.now) (env_of frame.now)
+        (λ env. and_then (eval test.now env) (λ u. chosen u (eval x.now env) (eval y.now env)))) }
 {
     let test = match make(test, scope, frame, alloc) {
         Ok(test) => test,
@@ -116,7 +119,8 @@ fn make_let(
     alloc: Global,
 ) -> Result<Turn, Unmade>
     requires { AreBelow (view_scope scope.now) next }
-    ensures { IfOk result (λ t. TurnMeans t shape (view_scope scope.now) (env_of frame.now) (λ env. and_then (eval value.now env) (λ x. eval body.now ((name.0, x) ∷ env)))) }
+    ensures { IfOk result (λ t. TurnMeans t shape (view_scope scope.now) (env_of frame.now)
+        (λ env. and_then (eval value.now env) (λ x. eval body.now ((name.0, x) ∷ env)))) }
 {
     match named_place(value, scope) {
         Some(place) => let_alias(name, place, value, body, shape, scope, next, frame, alloc),
@@ -154,7 +158,8 @@ fn let_alias(
 ) -> Result<Turn, Unmade>
     requires below { AreBelow (view_scope scope.now) next }
     requires named { IsNamedAt value.now (view_scope scope.now) place }
-    ensures { IfOk result (λ t. TurnMeans t shape (view_scope scope.now) (env_of frame.now) (λ env. and_then (eval value.now env) (λ x. eval body.now ((name.0, x) ∷ env)))) }
+    ensures { IfOk result (λ t. TurnMeans t shape (view_scope scope.now) (env_of frame.now)
+        (λ env. and_then (eval value.now env) (λ x. eval body.now ((name.0, x) ∷ env)))) }
 {
     let _value = value;
     let inner = with_name(name, place, &*scope);
@@ -175,7 +180,8 @@ fn let_number(
     alloc: Global,
 ) -> Result<Turn, Unmade>
     requires { AreBelow (view_scope scope.now) next }
-    ensures { IfOk result (λ t. TurnMeans t shape (view_scope scope.now) (env_of frame.now) (λ env. and_then (eval value.now env) (λ x. eval body.now ((name.0, x) ∷ env)))) }
+    ensures { IfOk result (λ t. TurnMeans t shape (view_scope scope.now) (env_of frame.now)
+        (λ env. and_then (eval value.now env) (λ x. eval body.now ((name.0, x) ∷ env)))) }
 {
     if next >= SLOTS {
         return Err(Unmade::Other);
@@ -208,7 +214,9 @@ fn let_parts(
     alloc: Global,
 ) -> Result<Turn, Unmade>
     requires { AreBelow (view_scope scope.now) next }
-    ensures { IfOk result (λ t. TurnMeans t shape (view_scope scope.now) (env_of frame.now) (λ env. and_then (and_then (eval_all (pack_exprs parts.now) env) (many_thing make_struct)) (λ x. eval body.now ((name.0, x) ∷ env)))) }
+    ensures { IfOk result (λ t. TurnMeans t shape (view_scope scope.now) (env_of frame.now)
+        (λ env. and_then (and_then (eval_all (pack_exprs parts.now) env) (many_thing make_struct))
+        (λ x. eval body.now ((name.0, x) ∷ env)))) }
 {
     let items = parts.as_slice();
     if items.len() == 2 {
@@ -235,7 +243,9 @@ fn let_fields(
     alloc: Global,
 ) -> Result<Turn, Unmade>
     requires { AreBelow (view_scope scope.now) next }
-    ensures { IfOk result (λ t. TurnMeans t shape (view_scope scope.now) (env_of frame.now) (λ env. and_then (and_then (eval_all (more_exprs x.now (more_exprs y.now no_exprs)) env) (many_thing make_struct)) (λ z. eval body.now ((name.0, z) ∷ env)))) }
+    ensures { IfOk result (λ t. TurnMeans t shape (view_scope scope.now) (env_of frame.now)
+        (λ env. and_then (and_then (eval_all (more_exprs x.now (more_exprs y.now no_exprs)) env)
+        (many_thing make_struct)) (λ z. eval body.now ((name.0, z) ∷ env)))) }
 {
     if next >= SLOTS {
         return Err(Unmade::Other);
@@ -273,7 +283,8 @@ fn make_end(
     alloc: Global,
 ) -> Result<Turn, Unmade>
     requires { AreBelow (view_scope scope.now) next }
-    ensures { IfOk result (λ t. TurnMeans t shape (view_scope scope.now) (env_of frame.now) (λ env. and_then (eval_all (pack_exprs parts.now) env) (many_thing make_struct))) }
+    ensures { IfOk result (λ t. TurnMeans t shape (view_scope scope.now) (env_of frame.now)
+        (λ env. and_then (eval_all (pack_exprs parts.now) env) (many_thing make_struct))) }
 {
     let items = parts.as_slice();
     if items.len() == 2 {
@@ -294,7 +305,9 @@ fn end_in(
     alloc: Global,
 ) -> Result<Turn, Unmade>
     requires { AreBelow (view_scope scope.now) next }
-    ensures { IfOk result (λ t. TurnMeans t shape (view_scope scope.now) (env_of frame.now) (λ env. and_then (eval_all (more_exprs state.now (more_exprs flag.now no_exprs)) env) (many_thing make_struct))) }
+    ensures { IfOk result (λ t. TurnMeans t shape (view_scope scope.now) (env_of frame.now)
+        (λ env. and_then (eval_all (more_exprs state.now (more_exprs flag.now no_exprs)) env)
+        (many_thing make_struct))) }
 {
     match state_place(state, shape, scope) {
         Some(first) => end_named(state, first, flag, shape, scope, frame, alloc),
@@ -330,7 +343,9 @@ fn end_named(
     alloc: Global,
 ) -> Result<Turn, Unmade>
     requires { IsStateAt state.now shape (view_scope scope.now) first }
-    ensures { IfOk result (λ t. TurnMeans t shape (view_scope scope.now) (env_of frame.now) (λ env. and_then (eval_all (more_exprs state.now (more_exprs flag.now no_exprs)) env) (many_thing make_struct))) }
+    ensures { IfOk result (λ t. TurnMeans t shape (view_scope scope.now) (env_of frame.now)
+        (λ env. and_then (eval_all (more_exprs state.now (more_exprs flag.now no_exprs)) env)
+        (many_thing make_struct))) }
 {
     let (_state, _shape) = (state, shape);
     match make(flag, scope, frame, alloc) {
@@ -349,7 +364,9 @@ fn end_one(
     alloc: Global,
 ) -> Result<Turn, Unmade>
     requires { AreBelow (view_scope scope.now) next }
-    ensures { IfOk result (λ t. TurnMeans t shapes.One (view_scope scope.now) (env_of frame.now) (λ env. and_then (eval_all (more_exprs state.now (more_exprs flag.now no_exprs)) env) (many_thing make_struct))) }
+    ensures { IfOk result (λ t. TurnMeans t shapes.One (view_scope scope.now) (env_of frame.now)
+        (λ env. and_then (eval_all (more_exprs state.now (more_exprs flag.now no_exprs)) env)
+        (many_thing make_struct))) }
 {
     let state = match make(state, scope, frame, alloc) {
         Ok(state) => state,
@@ -375,7 +392,9 @@ fn end_two(
     alloc: Global,
 ) -> Result<Turn, Unmade>
     requires { AreBelow (view_scope scope.now) next }
-    ensures { IfOk result (λ t. TurnMeans t shapes.Pair (view_scope scope.now) (env_of frame.now) (λ env. and_then (eval_all (more_exprs state.now (more_exprs flag.now no_exprs)) env) (many_thing make_struct))) }
+    ensures { IfOk result (λ t. TurnMeans t shapes.Pair (view_scope scope.now) (env_of frame.now)
+        (λ env. and_then (eval_all (more_exprs state.now (more_exprs flag.now no_exprs)) env)
+        (many_thing make_struct))) }
 {
     match &state.form {
         Form::Many(ManyForm::Struct, parts) => { end_parts(parts, flag, scope, next, frame, alloc) }
@@ -394,7 +413,9 @@ fn end_parts(
     alloc: Global,
 ) -> Result<Turn, Unmade>
     requires { AreBelow (view_scope scope.now) next }
-    ensures { IfOk result (λ t. TurnMeans t shapes.Pair (view_scope scope.now) (env_of frame.now) (λ env. ended (and_then (eval_all (pack_exprs parts.now) env) (many_thing make_struct)) (eval flag.now env))) }
+    ensures { IfOk result (λ t. TurnMeans t shapes.Pair (view_scope scope.now) (env_of frame.now)
+        (λ env. ended (and_then (eval_all (pack_exprs parts.now) env) (many_thing make_struct))
+        (eval flag.now env))) }
 {
     let items = parts.as_slice();
     if items.len() == 2 {
@@ -415,7 +436,9 @@ fn end_fields(
     alloc: Global,
 ) -> Result<Turn, Unmade>
     requires { AreBelow (view_scope scope.now) next }
-    ensures { IfOk result (λ t. TurnMeans t shapes.Pair (view_scope scope.now) (env_of frame.now) (λ env. ended (and_then (eval_all (more_exprs x.now (more_exprs y.now no_exprs)) env) (many_thing make_struct)) (eval flag.now env))) }
+    ensures { IfOk result (λ t. TurnMeans t shapes.Pair (view_scope scope.now) (env_of frame.now)
+        (λ env. ended (and_then (eval_all (more_exprs x.now (more_exprs y.now no_exprs)) env)
+        (many_thing make_struct)) (eval flag.now env))) }
 {
     if next >= SLOTS {
         return Err(Unmade::Other);
@@ -445,7 +468,8 @@ fn end_at(
     frame: &Frame,
     alloc: Global,
 ) -> Result<Box<Turn>, Unmade>
-    ensures { IfOk result (λ t. IsEndAt t.value first (view_scope scope.now) (env_of frame.now) (eval flag.now)) }
+    ensures { IfOk result (λ t. IsEndAt t.value first (view_scope scope.now) (env_of frame.now)
+        (eval flag.now)) }
 {
     match make(flag, scope, frame, alloc) {
         Ok(flag) => in_box(Turn::End(first, flag), alloc),

@@ -20,7 +20,8 @@ use weld_tree::{Binders, Sym};
 
 /// The number that a name stands for, where it stands for one.
 pub fn outer_number(frame: &Frame, name: Sym) -> Option<Short>
-    ensures { IfSome result (λ n. look_for name.0 (env_of frame.now) ≡ Some (plain (view_short n))) }
+    ensures { IfSome result (λ n. look_for name.0 (env_of frame.now)
+        ≡ Some (plain (view_short n))) }
 {
     match seek(frame, name) {
         Some(slot) => number_in(slot),
@@ -99,7 +100,8 @@ fn seek<'a>(frame: &'a Frame<'a>, name: Sym) -> Option<Slot<'a>>
 /// The argument of a parameter.
 #[tactic(auto, using(weld_eval::proofs::Arguments::found_there, weld_eval::proofs::Arguments::not_there))]
 fn argument<'a>(params: &'a Binders, values: &'a Vals, name: Sym) -> Option<&'a Val>
-    ensures { IfSome result (λ v. look_for name.0 (with_arguments params.now values.now) ≡ Some (plain (view_val v.now))) }
+    ensures { IfSome result (λ v. look_for name.0 (with_arguments params.now values.now)
+        ≡ Some (plain (view_val v.now))) }
 {
     let binders = params.as_slice();
     for i in 0..binders.len().min(values.len()) {

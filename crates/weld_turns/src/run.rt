@@ -89,7 +89,8 @@ fn compound(code: &Code, slots: &[Short], into: &mut i64) -> Result<Kind, Halt>
 #[cycle(run)]
 #[inline(always)]
 fn worked(op: BinOp, x: &Code, y: &Code, slots: &[Short], into: &mut i64) -> Result<Kind, Halt>
-    ensures { KindAndWord result into.new (and_then (value x.now (slots_of slots.now)) (λ v. and_then (value y.now (slots_of slots.now)) (λ w. operated op v w))) }
+    ensures { KindAndWord result into.new (and_then (value x.now (slots_of slots.now))
+        (λ v. and_then (value y.now (slots_of slots.now)) (λ w. operated op v w))) }
 {
     let mut word = 0;
     match part(x, slots, &mut word) {
@@ -110,7 +111,8 @@ fn worked_with(
     into: &mut i64,
 ) -> Result<Kind, Halt>
     requires { InRange kind (of_word kind x) }
-    ensures { KindAndWord result into.new (and_then (value y.now (slots_of slots.now)) (λ w. operated op (number_value kind (of_word kind x)) w)) }
+    ensures { KindAndWord result into.new (and_then (value y.now (slots_of slots.now))
+        (λ w. operated op (number_value kind (of_word kind x)) w)) }
 {
     let mut word = 0;
     match part(y, slots, &mut word) {
@@ -137,7 +139,8 @@ fn truth(code: &Code, slots: &[Short]) -> Result<bool, Halt>
 #[inline(always)]
 #[tactic(auto, using(crate::proofs::Runs::takes_first, crate::proofs::Runs::takes_second))]
 fn chosen(test: &Code, x: &Code, y: &Code, slots: &[Short], into: &mut i64) -> Result<Kind, Halt>
-    ensures { KindAndWord result into.new (and_then (value test.now (slots_of slots.now)) (λ u. either_of u (value x.now (slots_of slots.now)) (value y.now (slots_of slots.now)))) }
+    ensures { KindAndWord result into.new (and_then (value test.now (slots_of slots.now))
+        (λ u. either_of u (value x.now (slots_of slots.now)) (value y.now (slots_of slots.now)))) }
 {
     match truth(test, slots) {
         Ok(true) => part(x, slots, into),
@@ -150,7 +153,9 @@ fn chosen(test: &Code, x: &Code, y: &Code, slots: &[Short], into: &mut i64) -> R
 #[cycle(run)]
 #[inline(always)]
 fn selection(test: &Code, x: &Code, y: &Code, slots: &[Short], into: &mut i64) -> Result<Kind, Halt>
-    ensures { KindAndWord result into.new (and_then (value test.now (slots_of slots.now)) (λ u. and_then (value x.now (slots_of slots.now)) (λ v. and_then (value y.now (slots_of slots.now)) (λ w. selected u v w)))) }
+    ensures { KindAndWord result into.new (and_then (value test.now (slots_of slots.now))
+        (λ u. and_then (value x.now (slots_of slots.now))
+        (λ v. and_then (value y.now (slots_of slots.now)) (λ w. selected u v w)))) }
 {
     let first = match truth(test, slots) {
         Ok(first) => first,
@@ -188,7 +193,8 @@ fn flag(code: &Code, slots: &[Short]) -> Result<bool, Halt>
 /// One turn: whether to go on; the next state stands in the first slots then.
 #[cycle(run_turn)]
 pub fn run_turn(turn: &Turn, shape: Shape, slots: &mut [Short]) -> Result<bool, Halt>
-    ensures { NextState result shape (slots_of slots.new) (turn_value turn.now shape (slots_of slots.old)) }
+    ensures { NextState result shape (slots_of slots.new)
+        (turn_value turn.now shape (slots_of slots.old)) }
 {
     match turn {
         Turn::Put(to, code, rest) => {
@@ -228,7 +234,9 @@ fn put_and_go(
     slots: &mut [Short],
 ) -> Result<bool, Halt>
     requires { InRange kind (of_word kind word) }
-    ensures { NextState result shape (slots_of slots.new) (turn_value rest.now shape (with_slot (slots_of slots.old) to (number_value kind (of_word kind word)))) }
+    ensures { NextState result shape (slots_of slots.new)
+        (turn_value rest.now shape (with_slot (slots_of slots.old) to
+        (number_value kind (of_word kind word)))) }
 {
     if put_in(slots, to, kind, word) {
         run_turn(rest, shape, slots)

@@ -42,7 +42,8 @@ pub fn literal_word(n: Short, into: &mut i64) -> Kind
 #[inline(always)]
 pub fn put_in(slots: &mut [Short], to: usize, kind: Kind, word: i64) -> bool
     requires { InRange kind (of_word kind word) }
-    ensures { result ≡ true → slots_of slots.new ≡ with_slot (slots_of slots.old) to (number kind (of_word kind word)) }
+    ensures { result ≡ true → slots_of slots.new ≡ with_slot (slots_of slots.old) to
+        (number kind (of_word kind word)) }
 {
     if to < slots.len() {
         slots[to] = Short { kind, word };
@@ -56,7 +57,8 @@ pub fn put_in(slots: &mut [Short], to: usize, kind: Kind, word: i64) -> bool
 #[inline(always)]
 #[tactic(auto, using(crate::proofs::SlotLemmas::one_moved, crate::proofs::SlotLemmas::two_moved))]
 pub fn move_state(shape: Shape, first: usize, slots: &mut [Short]) -> bool
-    ensures { result ≡ true → shape_value shape 0 (slots_of slots.new) ≡ shape_value shape first (slots_of slots.old) }
+    ensures { result ≡ true → shape_value shape 0 (slots_of slots.new)
+        ≡ shape_value shape first (slots_of slots.old) }
 {
     match shape {
         Shape::One => {

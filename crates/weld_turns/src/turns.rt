@@ -41,7 +41,8 @@ pub fn turns_in_slots<'a>(
     alloc: Global,
 ) -> Option<Result<Held<'a>, Stop>>
     requires { IsIterate e.now }
-    ensures { IfSome result (λ r. Answers held_of r (turns_from e.now (env_of frame.now) turn_limit (view_val start.now))) }
+    ensures { IfSome result (λ r. Answers held_of r (turns_from e.now (env_of frame.now) turn_limit
+        (view_val start.now))) }
 {
     match &e.form {
         Form::Iterate(_, binder, body) => turns_of_body(binder.sym, body, frame, start, alloc),
@@ -57,7 +58,8 @@ fn turns_of_body<'a>(
     start: &Val,
     alloc: Global,
 ) -> Option<Result<Held<'a>, Stop>>
-    ensures { IfSome result (λ r. Answers held_of r (comes_from name.0 body.now (env_of frame.now) turn_limit (view_val start.now))) }
+    ensures { IfSome result (λ r. Answers held_of r (comes_from name.0 body.now (env_of frame.now)
+        turn_limit (view_val start.now))) }
 {
     let mut slots = [Short::of_i64(0); SLOTS];
     match put_state(start, &mut slots) {
@@ -73,7 +75,8 @@ fn turns_of_body<'a>(
 /// Puts a state into the first slots, where it is a number or a struct of two, and tells its shape.
 #[tactic(auto, using(crate::proofs::States::one_put, crate::proofs::States::two_put))]
 fn put_state(start: &Val, slots: &mut [Short]) -> Option<Shape>
-    ensures { IfSome result (λ shape. shape_value shape 0 (slots_of slots.new) ≡ view_val start.now) }
+    ensures { IfSome result (λ shape. shape_value shape 0 (slots_of slots.new)
+        ≡ view_val start.now) }
 {
     if slots.len() < 2 {
         return None;

@@ -56,7 +56,8 @@ pub fn operate(
 ) -> Result<Kind, Halt>
     requires left { InRange kind (of_word kind x) }
     requires right { InRange other (of_word other y) }
-    ensures { KindAndWord result into.new (operated op (number kind (of_word kind x)) (number other (of_word other y))) }
+    ensures { KindAndWord result into.new (operated op (number kind (of_word kind x))
+        (number other (of_word other y))) }
 {
     if !is_same(kind, other) {
         return Err(Halt::Other);

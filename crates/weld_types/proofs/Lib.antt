@@ -2,5 +2,5 @@ pub mod CodeTests
 mod Cases
 mod TestLemmas
 mod Tables
-pub mod Typing
-pub mod Elements
+mod Typing
+mod Elements

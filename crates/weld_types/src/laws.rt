@@ -14,9 +14,12 @@ use weld_meaning::laws::types_are_unique;
 /// are kept. So it refuses a program nowhere exactly where the program has a type by the rules and
 /// keeps the sizes, and the type found is the one that the rules derive.
 pub fn the_walk_is_typing()
-    ensures expression { (e : ExprTree) (g : Types) (t : TypeTree) → IsWellMade e → (type_of e g ≡ found t) ↔ (HasType e g t × KeepsSize e g) }
-    ensures program { (p : ProgramTree) (t : TypeTree) → IsWellMade p.body → (program_type p ≡ found t) ↔ (ProgramHas p t × ProgramKeepsSize p) }
-    ensures refusal { (p : ProgramTree) → IsWellMade p.body → (typing_refusal p ≡ None) ↔ ((t : TypeTree) × ProgramHas p t × ProgramKeepsSize p) }
+    ensures expression { (e : ExprTree) (g : Types) (t : TypeTree) → IsWellMade e
+        → (type_of e g ≡ found t) ↔ (HasType e g t × KeepsSize e g) }
+    ensures program { (p : ProgramTree) (t : TypeTree) → IsWellMade p.body
+        → (program_type p ≡ found t) ↔ (ProgramHas p t × ProgramKeepsSize p) }
+    ensures refusal { (p : ProgramTree) → IsWellMade p.body
+        → (typing_refusal p ≡ None) ↔ ((t : TypeTree) × ProgramHas p t × ProgramKeepsSize p) }
 {
     types_are_unique();
 }

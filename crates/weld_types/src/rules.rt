@@ -145,7 +145,8 @@ fn field_type(part: &Ty, number: u32, place: Place, alloc: Global) -> Result<Ty,
 
 /// The type of the field of that number, from 0.
 fn nth(fields: &Tys, number: u32) -> Option<&Ty>
-    ensures { MatchOption result (field_type number (pack fields.now) ≡ breaks Y20) (λ t. field_type number (pack fields.now) ≡ fits t.now) }
+    ensures { MatchOption result (field_type number (pack fields.now) ≡ breaks Y20)
+        (λ t. field_type number (pack fields.now) ≡ fits t.now) }
 {
     fields.as_slice().get(number as usize)
 }

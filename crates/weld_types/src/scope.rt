@@ -84,7 +84,8 @@ impl<'a> Scope<'a> {
 
     /// The type of the name, if it is in scope.
     pub fn type_of(&self, name: Sym) -> Option<&Ty>
-        ensures { MatchOption result (look_for name.0 self.now ≡ None) (λ t. look_for name.0 self.now ≡ Some t.now) }
+        ensures { MatchOption result (look_for name.0 self.now ≡ None)
+            (λ t. look_for name.0 self.now ≡ Some t.now) }
     {
         let mut scope = self;
         while let Some((bound, ty, rest, far)) = scope.newest {

@@ -1,7 +1,7 @@
-pub mod Taking
-pub mod Clear
-pub mod Steps
-pub mod Binding
-pub mod Nodes
-pub mod Answered
-pub mod Chains
+mod Taking
+mod Clear
+mod Steps
+mod Binding
+mod Nodes
+mod Answered
+mod Chains

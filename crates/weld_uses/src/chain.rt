@@ -31,7 +31,8 @@ pub(crate) fn chain_of_one(
     part: &Expr,
     alloc: Global,
 ) -> Result<Option<Builder>, AllocError>
-    ensures { IfOk result (λ c. option_map view_builder c ≡ chain_of_one (view_one one.now) (chain_of part.now)) }
+    ensures { IfOk result (λ c. option_map view_builder c
+        ≡ chain_of_one (view_one one.now) (chain_of part.now)) }
 {
     match one {
         OneForm::Field(number) => match chain_of(part, alloc)? {

@@ -65,7 +65,8 @@ fn walk_one(
     alloc: Global,
 ) -> Result<Source, Refusal>
     requires { AreClear (bound part.now) left.old }
-    ensures { Walks result (tree.one (at place) (view_one one.now) part.now) scope.now left.old left.new }
+    ensures { Walks result (tree.one (at place) (view_one one.now) part.now) scope.now left.old
+        left.new }
 {
     match chain_of_one(one, part, alloc) {
         Err(_) => Err(Refusal::Memory),
@@ -85,7 +86,8 @@ fn walk_part(
 ) -> Result<Source, Refusal>
     requires clear { AreClear (bound part.now) left.old }
     requires no_chain { chain_of_one (view_one one.now) (chain_of part.now) ≡ None }
-    ensures { Walks result (tree.one (at place) (view_one one.now) part.now) scope.now left.old left.new }
+    ensures { Walks result (tree.one (at place) (view_one one.now) part.now) scope.now left.old
+        left.new }
 {
     let source = walk(part, scope, left, alloc)?;
     one_answer(one, &source, place, scope, alloc)
@@ -103,7 +105,8 @@ fn walk_two(
 ) -> Result<Source, Refusal>
     requires first { AreClear (bound first.now) left.old }
     requires second { AreClear (bound second.now) left.old }
-    ensures { Walks result (tree.two (at place) (view_two two) first.now second.now) scope.now left.old left.new }
+    ensures { Walks result (tree.two (at place) (view_two two) first.now second.now) scope.now
+        left.old left.new }
 {
     let source = walk(first, scope, left, alloc)?;
     let before = left.len();
@@ -124,7 +127,8 @@ fn walk_if(
     requires condition { AreClear (bound condition.now) left.old }
     requires first { AreClear (bound first.now) left.old }
     requires second { AreClear (bound second.now) left.old }
-    ensures { Walks result (tree.three (at place) if_else condition.now first.now second.now) scope.now left.old left.new }
+    ensures { Walks result (tree.three (at place) if_else condition.now first.now second.now)
+        scope.now left.old left.new }
 {
     walk(condition, scope, left, alloc)?;
     let Ok(mut other) = left.copy(alloc) else {
@@ -156,7 +160,8 @@ fn walk_three(
     requires first { AreClear (bound first.now) left.old }
     requires second { AreClear (bound second.now) left.old }
     requires third { AreClear (bound third.now) left.old }
-    ensures { Walks result (tree.three (at place) (view_three three) first.now second.now third.now) scope.now left.old left.new }
+    ensures { Walks result (tree.three (at place) (view_three three) first.now second.now third.now)
+        scope.now left.old left.new }
 {
     match three {
         ThreeForm::If => walk_if(first, second, third, place, scope, left, alloc),
@@ -178,7 +183,8 @@ fn walk_select(
     requires first { AreClear (bound first.now) left.old }
     requires second { AreClear (bound second.now) left.old }
     requires third { AreClear (bound third.now) left.old }
-    ensures { Walks result (tree.three (at somewhere) select first.now second.now third.now) scope.now left.old left.new }
+    ensures { Walks result (tree.three (at somewhere) select first.now second.now third.now)
+        scope.now left.old left.new }
 {
     walk(first, scope, left, alloc)?;
     walk(second, scope, left, alloc)?;
@@ -195,7 +201,8 @@ fn walk_many(
     alloc: Global,
 ) -> Result<Source, Refusal>
     requires { AreClear (bound_in (pack_exprs parts.now)) left.old }
-    ensures { Walks result (tree.many (at somewhere) (view_many many) (pack_exprs parts.now)) scope.now left.old left.new }
+    ensures { Walks result (tree.many (at somewhere) (view_many many) (pack_exprs parts.now))
+        scope.now left.old left.new }
 {
     let sources = walk_all(parts, scope, left, alloc)?;
     Ok(many_answer(many, sources))
@@ -234,7 +241,8 @@ fn walk_let(
     alloc: Global,
 ) -> Result<Source, Refusal>
     requires { AreClear (bound (let_in (at somewhere) binder.now value.now body.now)) left.old }
-    ensures { Walks result (let_in (at somewhere) binder.now value.now body.now) scope.now left.old left.new }
+    ensures { Walks result (let_in (at somewhere) binder.now value.now body.now) scope.now left.old
+        left.new }
 {
     let source = walk(value, scope, left, alloc)?;
     let Ok(real) = source.resolve(scope, alloc) else {
@@ -264,7 +272,8 @@ fn walk_iterate(
     alloc: Global,
 ) -> Result<Source, Refusal>
     requires { AreClear (bound (iterate (at somewhere) state.now binder.now body.now)) left.old }
-    ensures { Walks result (iterate (at somewhere) state.now binder.now body.now) scope.now left.old left.new }
+    ensures { Walks result (iterate (at somewhere) state.now binder.now body.now) scope.now left.old
+        left.new }
 {
     walk(state, scope, left, alloc)?;
     let inner = Scope::value_within(binder.sym, &*scope);
@@ -286,8 +295,10 @@ fn walk_for(
     left: &mut Available,
     alloc: Global,
 ) -> Result<Source, Refusal>
-    requires { AreClear (bound (loop (at place) (pack_legs legs.now) builder.now b.now n.now x.now body.now)) left.old }
-    ensures { Walks result (loop (at place) (pack_legs legs.now) builder.now b.now n.now x.now body.now) scope.now left.old left.new }
+    requires { AreClear (bound (loop (at place) (pack_legs legs.now) builder.now b.now n.now x.now
+        body.now)) left.old }
+    ensures { Walks result (loop (at place) (pack_legs legs.now) builder.now b.now n.now x.now
+        body.now) scope.now left.old left.new }
 {
     walk_legs(legs, scope, left, alloc)?;
     let source = walk(builder, scope, left, alloc)?;
@@ -308,7 +319,8 @@ fn walk_body(
     alloc: Global,
 ) -> Result<(), Refusal>
     requires { AreClear (b.now.sym.0 ∷ bound body.now) [] }
-    ensures { BodyWalks result b.now n.now x.now body.now place (resolve scope.now source.now) scope.now }
+    ensures { BodyWalks result b.now n.now x.now body.now place (resolve scope.now source.now)
+        scope.now }
 {
     let Ok(own) = own_builder(source, scope, alloc) else {
         return Err(Refusal::Memory);

@@ -1,30 +1,30 @@
-pub mod Numbers
-pub mod Eights
-pub mod Integers
-pub mod Judgements
-pub mod Listings
-pub mod Words
-pub mod Scalars
-pub mod Soles
-pub mod Structs
-pub mod Vectors
-pub mod Wholes
-pub mod Strings
-pub mod Shrinks
+mod Numbers
+mod Eights
+mod Integers
+mod Judgements
+mod Listings
+mod Words
+mod Scalars
+mod Soles
+mod Structs
+mod Vectors
+mod Wholes
+mod Strings
+mod Shrinks
 pub mod Readings
-pub mod Backs
-pub mod RoundTrip
-pub mod Bytes
-pub mod KeyTypes
-pub mod EntryJudgements
-pub mod EntryListings
+mod Backs
+mod RoundTrip
+mod Bytes
+mod KeyTypes
+mod EntryJudgements
+mod EntryListings
 pub mod Typed
 pub mod Deciding
-pub mod Readable
+mod Readable
 pub mod OneReading
-pub mod Ascending
-pub mod Settling
-pub mod Cuts
-pub mod Carried
-pub mod Pieces
-pub mod CutBack
+mod Ascending
+mod Settling
+mod Cuts
+mod Carried
+mod Pieces
+mod CutBack

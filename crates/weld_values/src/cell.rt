@@ -21,7 +21,8 @@ pub trait Cell: Copy + Drop {
 
     /// The scalar at the front of the text, and what follows it.
     fn read(text: &[u8]) -> Option<(Self, Flaw, &[u8])>
-        ensures found { IfSome result (λ found. IsRead (Found (scalar_at kind)) text.now found.1 (value found.0) found.2.now) }
+        ensures found { IfSome result (λ found. IsRead (Found (scalar_at kind)) text.now found.1
+            (value found.0) found.2.now) }
         ensures none { IfNone result (scalar_at kind text.now ≡ None) }
         ensures less { IfSome result (λ found. length found.2.now < length text.now) };
 }
@@ -32,7 +33,8 @@ pub(crate) fn append_cell<'a, T: Cell>(
     items: &mut Items<T>,
     text: &'a [u8],
 ) -> Result<Option<(Flaw, &'a [u8])>, AllocError>
-    ensures found { IfOk result (λ o. IfSome o (λ found. IsReadInto (Found (scalar_at T.kind)) text.now found.0 (map T.value items.old) (map T.value items.new) found.1.now)) }
+    ensures found { IfOk result (λ o. IfSome o (λ found. IsReadInto (Found (scalar_at T.kind))
+        text.now found.0 (map T.value items.old) (map T.value items.new) found.1.now)) }
     ensures none { IfOk result (λ o. IfNone o (scalar_at T.kind text.now ≡ None)) }
     ensures less { IfOk result (λ o. IfSome o (λ found. length found.1.now < length text.now)) }
 {
@@ -176,7 +178,8 @@ impl Cell for u64 {
 /// The number as one of kind i8, if it is in range; and what follows it.
 #[inline(always)]
 fn narrowed_i8(x: i128, rest: &[u8]) -> (i8, Flaw, &[u8])
-    ensures judged { (z : ℤ) → IsClamped x z → Judged result.1 (number kinds.I8 z) (number kinds.I8 result.0) }
+    ensures judged { (z : ℤ) → IsClamped x z → Judged result.1 (number kinds.I8 z)
+        (number kinds.I8 result.0) }
     ensures rest { result.2.now ≡ rest.now }
 {
     if x < i128::from(i8::MIN) || i128::from(i8::MAX) < x {
@@ -189,7 +192,8 @@ fn narrowed_i8(x: i128, rest: &[u8]) -> (i8, Flaw, &[u8])
 /// The number as one of kind i16, if it is in range; and what follows it.
 #[inline(always)]
 fn narrowed_i16(x: i128, rest: &[u8]) -> (i16, Flaw, &[u8])
-    ensures judged { (z : ℤ) → IsClamped x z → Judged result.1 (number kinds.I16 z) (number kinds.I16 result.0) }
+    ensures judged { (z : ℤ) → IsClamped x z → Judged result.1 (number kinds.I16 z)
+        (number kinds.I16 result.0) }
     ensures rest { result.2.now ≡ rest.now }
 {
     if x < i128::from(i16::MIN) || i128::from(i16::MAX) < x {
@@ -202,7 +206,8 @@ fn narrowed_i16(x: i128, rest: &[u8]) -> (i16, Flaw, &[u8])
 /// The number as one of kind i32, if it is in range; and what follows it.
 #[inline(always)]
 fn narrowed_i32(x: i128, rest: &[u8]) -> (i32, Flaw, &[u8])
-    ensures judged { (z : ℤ) → IsClamped x z → Judged result.1 (number kinds.I32 z) (number kinds.I32 result.0) }
+    ensures judged { (z : ℤ) → IsClamped x z → Judged result.1 (number kinds.I32 z)
+        (number kinds.I32 result.0) }
     ensures rest { result.2.now ≡ rest.now }
 {
     if x < i128::from(i32::MIN) || i128::from(i32::MAX) < x {
@@ -215,7 +220,8 @@ fn narrowed_i32(x: i128, rest: &[u8]) -> (i32, Flaw, &[u8])
 /// The number as one of kind i64, if it is in range; and what follows it.
 #[inline(always)]
 fn narrowed_i64(x: i128, rest: &[u8]) -> (i64, Flaw, &[u8])
-    ensures judged { (z : ℤ) → IsClamped x z → Judged result.1 (number kinds.I64 z) (number kinds.I64 result.0) }
+    ensures judged { (z : ℤ) → IsClamped x z → Judged result.1 (number kinds.I64 z)
+        (number kinds.I64 result.0) }
     ensures rest { result.2.now ≡ rest.now }
 {
     if x < i128::from(i64::MIN) || i128::from(i64::MAX) < x {
@@ -228,7 +234,8 @@ fn narrowed_i64(x: i128, rest: &[u8]) -> (i64, Flaw, &[u8])
 /// The number as one of kind u8, if it is in range; and what follows it.
 #[inline(always)]
 fn narrowed_u8(x: i128, rest: &[u8]) -> (u8, Flaw, &[u8])
-    ensures judged { (z : ℤ) → IsClamped x z → Judged result.1 (number kinds.U8 z) (number kinds.U8 (pos result.0)) }
+    ensures judged { (z : ℤ) → IsClamped x z → Judged result.1 (number kinds.U8 z)
+        (number kinds.U8 (pos result.0)) }
     ensures rest { result.2.now ≡ rest.now }
 {
     if x < i128::from(u8::MIN) || i128::from(u8::MAX) < x {
@@ -241,7 +248,8 @@ fn narrowed_u8(x: i128, rest: &[u8]) -> (u8, Flaw, &[u8])
 /// The number as one of kind u16, if it is in range; and what follows it.
 #[inline(always)]
 fn narrowed_u16(x: i128, rest: &[u8]) -> (u16, Flaw, &[u8])
-    ensures judged { (z : ℤ) → IsClamped x z → Judged result.1 (number kinds.U16 z) (number kinds.U16 (pos result.0)) }
+    ensures judged { (z : ℤ) → IsClamped x z → Judged result.1 (number kinds.U16 z)
+        (number kinds.U16 (pos result.0)) }
     ensures rest { result.2.now ≡ rest.now }
 {
     if x < i128::from(u16::MIN) || i128::from(u16::MAX) < x {
@@ -254,7 +262,8 @@ fn narrowed_u16(x: i128, rest: &[u8]) -> (u16, Flaw, &[u8])
 /// The number as one of kind u32, if it is in range; and what follows it.
 #[inline(always)]
 fn narrowed_u32(x: i128, rest: &[u8]) -> (u32, Flaw, &[u8])
-    ensures judged { (z : ℤ) → IsClamped x z → Judged result.1 (number kinds.U32 z) (number kinds.U32 (pos result.0)) }
+    ensures judged { (z : ℤ) → IsClamped x z → Judged result.1 (number kinds.U32 z)
+        (number kinds.U32 (pos result.0)) }
     ensures rest { result.2.now ≡ rest.now }
 {
     if x < i128::from(u32::MIN) || i128::from(u32::MAX) < x {
@@ -267,7 +276,8 @@ fn narrowed_u32(x: i128, rest: &[u8]) -> (u32, Flaw, &[u8])
 /// The number as one of kind u64, if it is in range; and what follows it.
 #[inline(always)]
 fn narrowed_u64(x: i128, rest: &[u8]) -> (u64, Flaw, &[u8])
-    ensures judged { (z : ℤ) → IsClamped x z → Judged result.1 (number kinds.U64 z) (number kinds.U64 (pos result.0)) }
+    ensures judged { (z : ℤ) → IsClamped x z → Judged result.1 (number kinds.U64 z)
+        (number kinds.U64 (pos result.0)) }
     ensures rest { result.2.now ≡ rest.now }
 {
     if x < i128::from(u64::MIN) || i128::from(u64::MAX) < x {

@@ -27,8 +27,10 @@ fn read_some<T: Cell>(
     alloc: Global,
     text: &[u8],
 ) -> Result<Option<(Items<T>, Flaw, &[u8])>, AllocError>
-    ensures found { IfOk result (λ found. IfSome found (λ f. AreListed (Found (scalar_at T.kind)) text.now f.1 (map T.value f.0) f.2.now)) }
-    ensures none { IfOk result (λ found. IfNone found (AreUnlisted (Found (scalar_at T.kind)) text.now)) }
+    ensures found { IfOk result (λ found. IfSome found (λ f. AreListed (Found (scalar_at T.kind))
+        text.now f.1 (map T.value f.0) f.2.now)) }
+    ensures none { IfOk result (λ found. IfNone found (AreUnlisted (Found (scalar_at T.kind))
+        text.now)) }
 {
     let mut items = Items::from_vec(Vec::with_capacity(alloc, count_cells(text))?);
     let mut flaw = Flaw::Fine;
@@ -53,8 +55,10 @@ pub(crate) fn read_cells<T: Cell>(
     alloc: Global,
     text: &[u8],
 ) -> Result<Option<(Items<T>, Flaw, &[u8])>, AllocError>
-    ensures found { IfOk result (λ found. IfSome found (λ f. AreRead (Found (scalar_at T.kind)) text.now f.1 (map T.value f.0) f.2.now)) }
-    ensures none { IfOk result (λ found. IfNone found (AreUnread (Found (scalar_at T.kind)) text.now)) }
+    ensures found { IfOk result (λ found. IfSome found (λ f. AreRead (Found (scalar_at T.kind))
+        text.now f.1 (map T.value f.0) f.2.now)) }
+    ensures none { IfOk result (λ found. IfNone found (AreUnread (Found (scalar_at T.kind))
+        text.now)) }
 {
     if let Some(rest) = byte_at(text, b']') {
         return Ok(Some((Items::new(alloc), Flaw::Fine, rest)));

@@ -127,7 +127,8 @@ fn first_word(text: &[u8]) -> u64
 #[inline(always)]
 fn moved_digits(word: u64, count: usize) -> u64
     requires { count ≤ 8 }
-    ensures { (bytes : List ℕ) → word ≡ word_of bytes → length (digit_run bytes) ≡ count → result ≡ word_of (padded bytes) }
+    ensures { (bytes : List ℕ) → word ≡ word_of bytes → length (digit_run bytes) ≡ count
+        → result ≡ word_of (padded bytes) }
 {
     let half = 32 - 4 * count as u32;
     (word.wrapping_sub(ZEROS) << half) << half
@@ -136,8 +137,10 @@ fn moved_digits(word: u64, count: usize) -> u64
 /// The number that eight digits write, of which each is a byte of the word, the first the lowest.
 #[inline(always)]
 fn joined_digits(word: u64) -> u64
-    ensures { (a b c d e f g h : ℕ) → AreSmall (a ∷ b ∷ c ∷ d ∷ e ∷ f ∷ g ∷ h ∷ []) → word ≡ word_of (a ∷ b ∷ c ∷ d ∷ e ∷ f ∷ g ∷ h ∷ [])
-        → result ≡ a * 10000000 + b * 1000000 + c * 100000 + d * 10000 + e * 1000 + f * 100 + g * 10 + h }
+    ensures { (a b c d e f g h : ℕ) → AreSmall (a ∷ b ∷ c ∷ d ∷ e ∷ f ∷ g ∷ h ∷ [])
+        → word ≡ word_of (a ∷ b ∷ c ∷ d ∷ e ∷ f ∷ g ∷ h ∷ [])
+        → result ≡ a * 10000000 + b * 1000000 + c * 100000 + d * 10000 + e * 1000 + f * 100 + g * 10
+        + h }
 {
     let pairs = (word.wrapping_mul(10).wrapping_add(word >> 8)) & 0x00ff_00ff_00ff_00ff;
     let fours = (pairs.wrapping_mul(100).wrapping_add(pairs >> 16)) & 0x0000_ffff_0000_ffff;

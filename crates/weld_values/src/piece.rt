@@ -26,7 +26,9 @@ use weld_tree::{Ty, TyForm, Tys};
 fn put_cell<'a, T: Cell>(places: &mut [T], place: usize, text: &'a [u8]) -> Option<&'a [u8]>
     ensures length { length places.new ≡ length places.old }
     ensures within { IfSome result (λ rest. place < length places.old) }
-    ensures found { IfSome result (λ rest. IsReadInto (Found (scalar_at T.kind)) text.now flaws.Fine (map T.value (take place places.old)) (map T.value (take (place + 1) places.new)) rest.now) }
+    ensures found { IfSome result (λ rest. IsReadInto (Found (scalar_at T.kind)) text.now flaws.Fine
+        (map T.value (take place places.old)) (map T.value (take (place + 1) places.new))
+        rest.now) }
     ensures less { IfSome result (λ rest. length rest.now < length text.now) }
 {
     match T::read(text) {
@@ -41,7 +43,8 @@ fn put_cell<'a, T: Cell>(places: &mut [T], place: usize, text: &'a [u8]) -> Opti
 /// Fills the places with the scalars of one kind that the text is, with a comma between each two; tells whether it is just so
 /// many and nothing else, and all are in range.
 pub fn fill_piece<T: Cell>(text: &[u8], places: &mut [T]) -> bool
-    ensures separated { result ≡ true → Separated (Found (scalar_at T.kind)) (map T.value places.new) text.now }
+    ensures separated { result ≡ true → Separated (Found (scalar_at T.kind))
+        (map T.value places.new) text.now }
     ensures typed { result ≡ true → All (HasValue (scalar T.kind)) (map T.value places.new) }
 {
     let mut rest = text;
@@ -117,7 +120,8 @@ fn put_value<'a>(
     requires { IsReadable ty.now }
     ensures length { length places.new ≡ length places.old }
     ensures within { IfSome result (λ rest. place < length places.old) }
-    ensures found { IfSome result (λ rest. IsPlaced (At ty.now) view_val text.now place places.old places.new rest.now) }
+    ensures found { IfSome result (λ rest. IsPlaced (At ty.now) view_val text.now place places.old
+        places.new rest.now) }
 {
     match read_at(ty, alloc, text) {
         Ok(Some((value, Flaw::Fine, rest))) if place < places.len() => {
@@ -160,7 +164,8 @@ pub fn fill_shallow_piece(ty: &Ty, alloc: Global, text: &[u8], places: &mut [Val
 
 /// What stands before the last bracket, if blanks alone stand after it.
 fn before_bracket(text: &[u8]) -> Option<&[u8]>
-    ensures { IfSome result (λ body. (back : List ℕ) × (text.now ≡ body.now ++ 93 ∷ back) × (tokens.after_blanks back ≡ [])) }
+    ensures { IfSome result (λ body. (back : List ℕ) × (text.now ≡ body.now ++ 93 ∷ back)
+        × (tokens.after_blanks back ≡ [])) }
 {
     let mut rest = text;
     while let Some((last, front)) = rest.split_last() {

@@ -28,7 +28,8 @@ use weld_write_value::is_i8;
 
 /// The scalar of the kind at the front of the text, and what follows it.
 fn read_scalar(text: &[u8], kind: Kind) -> Option<(Val, Flaw, &[u8])>
-    ensures found { IfSome result (λ f. IsRead (Found (scalar_at kind)) text.now f.1 (view_val f.0) f.2.now) }
+    ensures found { IfSome result (λ f. IsRead (Found (scalar_at kind)) text.now f.1 (view_val f.0)
+        f.2.now) }
     ensures none { IfNone result (scalar_at kind text.now ≡ None) }
     ensures less { IfSome result (λ f. length f.2.now < length text.now) }
 {
@@ -78,8 +79,10 @@ fn read_column<'a>(
     text: &'a [u8],
     kind: Kind,
 ) -> Result<Option<(Column, Flaw, &'a [u8])>, AllocError>
-    ensures found { IfOk result (λ found. IfSome found (λ f. AreRead (Found (scalar_at kind)) text.now f.1 (view_column f.0) f.2.now)) }
-    ensures none { IfOk result (λ found. IfNone found (AreUnread (Found (scalar_at kind)) text.now)) }
+    ensures found { IfOk result (λ found. IfSome found (λ f. AreRead (Found (scalar_at kind))
+        text.now f.1 (view_column f.0) f.2.now)) }
+    ensures none { IfOk result (λ found. IfNone found (AreUnread (Found (scalar_at kind))
+        text.now)) }
 {
     match kind {
         Kind::Bool => Ok(match read_cells::<bool>(alloc, text)? {
@@ -130,7 +133,8 @@ fn read_string<'a>(
     alloc: Global,
     text: &'a [u8],
 ) -> Result<Option<(Val, Flaw, &'a [u8])>, AllocError>
-    ensures found { IfOk result (λ found. IfSome found (λ f. IsRead AtString text.now f.1 (view_val f.0) f.2.now)) }
+    ensures found { IfOk result (λ found. IfSome found (λ f. IsRead AtString text.now f.1
+        (view_val f.0) f.2.now)) }
     ensures none { IfOk result (λ found. IfNone found (IsUnread AtString text.now)) }
 {
     let Some(inner) = byte_at(text, b'"') else {
@@ -151,7 +155,8 @@ pub(crate) fn read_at<'a>(
     text: &'a [u8],
 ) -> Result<Option<(Val, Flaw, &'a [u8])>, AllocError>
     requires { IsReadable ty.now }
-    ensures found { IfOk result (λ found. IfSome found (λ f. IsRead (At ty.now) text.now f.1 (view_val f.0) f.2.now)) }
+    ensures found { IfOk result (λ found. IfSome found (λ f. IsRead (At ty.now) text.now f.1
+        (view_val f.0) f.2.now)) }
     ensures none { IfOk result (λ found. IfNone found (IsUnread (At ty.now) text.now)) }
 {
     match &ty.form {
@@ -171,7 +176,8 @@ fn read_vec<'a>(
     text: &'a [u8],
 ) -> Result<Option<(Val, Flaw, &'a [u8])>, AllocError>
     requires { IsReadable item.now }
-    ensures found { IfOk result (λ found. IfSome found (λ f. IsRead (At (vec item.now)) text.now f.1 (view_val f.0) f.2.now)) }
+    ensures found { IfOk result (λ found. IfSome found (λ f. IsRead (At (vec item.now)) text.now f.1
+        (view_val f.0) f.2.now)) }
     ensures none { IfOk result (λ found. IfNone found (IsUnread (At (vec item.now)) text.now)) }
 {
     let Some(inner) = byte_at(text, b'[') else {
@@ -196,7 +202,8 @@ fn read_inside<'a>(
     text: &'a [u8],
 ) -> Result<Option<(Column, Flaw, &'a [u8])>, AllocError>
     requires { IsReadable item.now }
-    ensures found { IfOk result (λ found. IfSome found (λ f. AreRead (At item.now) text.now f.1 (view_column f.0) f.2.now)) }
+    ensures found { IfOk result (λ found. IfSome found (λ f. AreRead (At item.now) text.now f.1
+        (view_column f.0) f.2.now)) }
     ensures none { IfOk result (λ found. IfNone found (AreUnread (At item.now) text.now)) }
 {
     match &item.form {
@@ -216,7 +223,8 @@ fn read_nested<'a>(
     text: &'a [u8],
 ) -> Result<Option<(Vals, Flaw, &'a [u8])>, AllocError>
     requires { IsReadable item.now }
-    ensures found { IfOk result (λ found. IfSome found (λ f. AreRead (At item.now) text.now f.1 f.0 f.2.now)) }
+    ensures found { IfOk result (λ found. IfSome found (λ f. AreRead (At item.now) text.now f.1 f.0
+        f.2.now)) }
     ensures none { IfOk result (λ found. IfNone found (AreUnread (At item.now) text.now)) }
 {
     if let Some(rest) = byte_at(text, b']') {
@@ -233,7 +241,8 @@ fn read_some<'a>(
     text: &'a [u8],
 ) -> Result<Option<(Vals, Flaw, &'a [u8])>, AllocError>
     requires { IsReadable item.now }
-    ensures found { IfOk result (λ found. IfSome found (λ f. AreListed (At item.now) text.now f.1 f.0 f.2.now)) }
+    ensures found { IfOk result (λ found. IfSome found (λ f. AreListed (At item.now) text.now f.1
+        f.0 f.2.now)) }
     ensures none { IfOk result (λ found. IfNone found (AreUnlisted (At item.now) text.now)) }
 {
     let mut items = Vals::new(alloc);
@@ -263,7 +272,8 @@ pub(crate) fn read_into<'a>(
     text: &'a [u8],
 ) -> Result<Option<(Flaw, &'a [u8])>, AllocError>
     requires { IsReadable ty.now }
-    ensures found { IfOk result (λ found. IfSome found (λ f. IsReadInto (At ty.now) text.now f.0 items.old items.new f.1.now)) }
+    ensures found { IfOk result (λ found. IfSome found (λ f. IsReadInto (At ty.now) text.now f.0
+        items.old items.new f.1.now)) }
     ensures none { IfOk result (λ found. IfNone found (IsUnread (At ty.now) text.now)) }
 {
     match read_at(ty, alloc, text)? {
@@ -283,8 +293,10 @@ fn read_struct<'a>(
     text: &'a [u8],
 ) -> Result<Option<(Val, Flaw, &'a [u8])>, AllocError>
     requires { AreReadable (pack fields.now) }
-    ensures found { IfOk result (λ found. IfSome found (λ f. IsRead (AtStruct (Fields (pack fields.now) 123)) text.now f.1 (view_val f.0) f.2.now)) }
-    ensures none { IfOk result (λ found. IfNone found (IsUnread (AtStruct (Fields (pack fields.now) 123)) text.now)) }
+    ensures found { IfOk result (λ found. IfSome found (λ f. IsRead
+        (AtStruct (Fields (pack fields.now) 123)) text.now f.1 (view_val f.0) f.2.now)) }
+    ensures none { IfOk result (λ found. IfNone found (IsUnread
+        (AtStruct (Fields (pack fields.now) 123)) text.now)) }
 {
     let mut values = Vals::from_vec(Vec::with_capacity(alloc, fields.as_slice().len())?);
     let mut flaw = Flaw::Fine;
@@ -310,7 +322,8 @@ fn read_struct<'a>(
 /// Appends an entry where nothing is wrong with what was read so far, and else drops it.
 fn push_entry(entries: &mut Vec<Entry>, flaw: Flaw, key: Val, value: Val) -> Result<(), AllocError>
     requires { flaw ≡ flaws.Fine → IsKeyValue (view_val key) }
-    ensures { OnOk result (flaw ≡ flaws.Fine → entries.new.items ≡ entries.old.items ++ (view_val key, view_val value) ∷ []) }
+    ensures { OnOk result (flaw ≡ flaws.Fine → entries.new.items
+        ≡ entries.old.items ++ (view_val key, view_val value) ∷ []) }
 {
     if let Flaw::Fine = flaw {
         entries.push(Entry::new(key, value))?;
@@ -330,8 +343,11 @@ fn read_entry<'a>(
 ) -> Result<Option<(Flaw, &'a [u8])>, AllocError>
     requires key { IsKey key.now }
     requires value { IsReadable value.now }
-    ensures found { IfOk result (λ found. IfSome found (λ f. IsEntryRead key.now (AtEntry (At key.now) (At value.now)) text.now before f.0 entries.old.items entries.new.items f.1.now)) }
-    ensures none { IfOk result (λ found. IfNone found (IsUnread (AtEntry (At key.now) (At value.now)) text.now)) }
+    ensures found { IfOk result (λ found. IfSome found (λ f. IsEntryRead key.now
+        (AtEntry (At key.now) (At value.now)) text.now before f.0 entries.old.items
+        entries.new.items f.1.now)) }
+    ensures none { IfOk result (λ found. IfNone found (IsUnread
+        (AtEntry (At key.now) (At value.now)) text.now)) }
 {
     let Some((first, key_flaw, mid)) = read_at(key, alloc, text)? else {
         return Ok(None);
@@ -358,8 +374,10 @@ fn read_entries<'a>(
 ) -> Result<Option<(Vec<Entry>, Flaw, &'a [u8])>, AllocError>
     requires key { IsKey key.now }
     requires value { IsReadable value.now }
-    ensures found { IfOk result (λ found. IfSome found (λ f. EntriesRead key.now (AtEntry (At key.now) (At value.now)) text.now f.1 f.0.items f.2.now)) }
-    ensures none { IfOk result (λ found. IfNone found (EntriesUnread (AtEntry (At key.now) (At value.now)) text.now)) }
+    ensures found { IfOk result (λ found. IfSome found (λ f. EntriesRead key.now
+        (AtEntry (At key.now) (At value.now)) text.now f.1 f.0.items f.2.now)) }
+    ensures none { IfOk result (λ found. IfNone found (EntriesUnread
+        (AtEntry (At key.now) (At value.now)) text.now)) }
 {
     let mut entries = Vec::new(alloc);
     if let Some(rest) = byte_at(text, b'}') {
@@ -385,7 +403,8 @@ fn read_entries<'a>(
 /// The entries by rising keys, and what is wrong with them; where something is, any dictionary.
 fn settled(alloc: Global, entries: Vec<Entry>, flaw: Flaw) -> Result<(Pairs, Flaw), AllocError>
     requires { flaw ≡ flaws.Fine → HaveOneKeyType entries.items }
-    ensures { IfOk result (λ s. (t : TypeTree) (raws : List (Value × Value)) → AreJudged t flaw raws entries.items
+    ensures { IfOk result (λ s. (t : TypeTree) (raws : List (Value × Value))
+        → AreJudged t flaw raws entries.items
         → Judged s.1 (dict_value (entries_of raws)) (dict_value (entries_of s.0))) }
 {
     match flaw {
@@ -407,8 +426,10 @@ fn read_dict<'a>(
 ) -> Result<Option<(Val, Flaw, &'a [u8])>, AllocError>
     requires key { IsKey key.now }
     requires value { IsReadable value.now }
-    ensures found { IfOk result (λ found. IfSome found (λ f. IsRead (AtDict (At key.now) (At value.now)) text.now f.1 (view_val f.0) f.2.now)) }
-    ensures none { IfOk result (λ found. IfNone found (IsUnread (AtDict (At key.now) (At value.now)) text.now)) }
+    ensures found { IfOk result (λ found. IfSome found (λ f. IsRead
+        (AtDict (At key.now) (At value.now)) text.now f.1 (view_val f.0) f.2.now)) }
+    ensures none { IfOk result (λ found. IfNone found (IsUnread (AtDict (At key.now) (At value.now))
+        text.now)) }
 {
     let Some(brace) = after_word(after_blanks(text), b"dict") else {
         return Ok(None);

@@ -64,7 +64,8 @@ pub(crate) fn byte_at(text: &[u8], byte: u8) -> Option<&[u8]>
 /// The number that the digits at the front of the text write, and what follows them; none where no digit stands there.
 #[inline(always)]
 fn numeral(text: &[u8]) -> Option<(u128, &[u8])>
-    ensures found { IfSome result (λ found. (n : ℕ) × (numeral_at text.now ≡ Some (n, found.1.now)) × IsCapped found.0 n) }
+    ensures found { IfSome result (λ found. (n : ℕ) × (numeral_at text.now ≡ Some (n, found.1.now))
+        × IsCapped found.0 n) }
     ensures small { IfSome result (λ found. found.0 < 2 ^ 68) }
     ensures none { IfNone result (numeral_at text.now ≡ None) }
     ensures less { IfSome result (λ found. length found.1.now < length text.now) }
@@ -80,7 +81,8 @@ fn numeral(text: &[u8]) -> Option<(u128, &[u8])>
 #[tactic(auto, using(crate::proofs::Integers::clamped_negative))]
 #[inline(always)]
 fn negative(digits: &[u8]) -> Option<(i128, &[u8])>
-    ensures found { IfSome result (λ found. (n : ℕ) × (numeral_at digits.now ≡ Some (n, found.1.now)) × IsClamped found.0 (neg_ℤ (pos n))) }
+    ensures found { IfSome result (λ found. (n : ℕ) × (numeral_at digits.now
+        ≡ Some (n, found.1.now)) × IsClamped found.0 (neg_ℤ (pos n))) }
     ensures none { IfNone result (numeral_at digits.now ≡ None) }
     ensures less { IfSome result (λ found. length found.1.now < length digits.now) }
 {
@@ -94,7 +96,8 @@ fn negative(digits: &[u8]) -> Option<(i128, &[u8])>
 #[tactic(auto, using(crate::proofs::Integers::clamped_positive))]
 #[inline(always)]
 fn positive(digits: &[u8]) -> Option<(i128, &[u8])>
-    ensures found { IfSome result (λ found. (n : ℕ) × (numeral_at digits.now ≡ Some (n, found.1.now)) × IsClamped found.0 (pos n)) }
+    ensures found { IfSome result (λ found. (n : ℕ) × (numeral_at digits.now
+        ≡ Some (n, found.1.now)) × IsClamped found.0 (pos n)) }
     ensures none { IfNone result (numeral_at digits.now ≡ None) }
     ensures less { IfSome result (λ found. length found.1.now < length digits.now) }
 {
@@ -125,7 +128,8 @@ fn widened(value: u128) -> i128
 /// The integer at the front of the text, and what follows it. In place of one that no kind has it may be another such one.
 #[inline(always)]
 pub(crate) fn integer(text: &[u8]) -> Option<(i128, &[u8])>
-    ensures found { IfSome result (λ found. (z : ℤ) × (integer_at text.now ≡ Some (z, found.1.now)) × IsClamped found.0 z) }
+    ensures found { IfSome result (λ found. (z : ℤ) × (integer_at text.now ≡ Some (z, found.1.now))
+        × IsClamped found.0 z) }
     ensures none { IfNone result (integer_at text.now ≡ None) }
     ensures less { IfSome result (λ found. length found.1.now < length text.now) }
 {
@@ -139,7 +143,8 @@ pub(crate) fn integer(text: &[u8]) -> Option<(i128, &[u8])>
 #[tactic(auto, using(crate::proofs::Words::word_step, crate::proofs::Words::word_end))]
 pub(crate) fn after_word<'a>(text: &'a [u8], word: &[u8]) -> Option<&'a [u8]>
     ensures value { option_copied result ≡ tokens.after_word word.now text.now }
-    ensures no_longer { IfSome result (λ rest. length rest.now + length word.now ≤ length text.now) }
+    ensures no_longer { IfSome result (λ rest. length rest.now + length word.now
+        ≤ length text.now) }
 {
     let mut rest = text;
     for byte in word {
@@ -151,7 +156,8 @@ pub(crate) fn after_word<'a>(text: &'a [u8], word: &[u8]) -> Option<&'a [u8]>
 /// `true` or `false` at the front of the text, and what follows it.
 #[tactic(auto, unfolding(crate::specs::Grammar::truth_at))]
 pub(crate) fn truth(text: &[u8]) -> Option<(bool, &[u8])>
-    ensures value { option_map (λ found. (number kinds.Bool (truth found.0), found.1.now)) result ≡ truth_at text.now }
+    ensures value { option_map (λ found. (number kinds.Bool (truth found.0), found.1.now)) result
+        ≡ truth_at text.now }
     ensures less { IfSome result (λ found. length found.1.now < length text.now) }
 {
     if let Some(rest) = after_word(text, b"true") {

@@ -14,10 +14,14 @@ use crate::tokens::after_blanks;
 
 /// The scalar that a whole text was read as, if nothing is wrong with it.
 fn judged<T: Cell>(value: T, flaw: Flaw) -> Result<T, DataFault>
-    ensures value { (text rest : List ℕ) → IsRead (Found (scalar_at T.kind)) text flaw (T.value value) rest
-        → tokens.after_blanks rest ≡ [] → IfOk result (λ x. ReadsAs text (scalar T.kind) (T.value x)) }
-    ensures fault { (text rest : List ℕ) → IsRead (Found (scalar_at T.kind)) text flaw (T.value value) rest
-        → tokens.after_blanks rest ≡ [] → IfErr result (λ f. WhyNot text (scalar T.kind) f × IsOfCell f) }
+    ensures value { (text rest : List ℕ) → IsRead (Found (scalar_at T.kind)) text flaw
+        (T.value value) rest
+        → tokens.after_blanks rest ≡ [] → IfOk result (λ x. ReadsAs text (scalar T.kind)
+        (T.value x)) }
+    ensures fault { (text rest : List ℕ) → IsRead (Found (scalar_at T.kind)) text flaw
+        (T.value value) rest
+        → tokens.after_blanks rest ≡ [] → IfErr result (λ f. WhyNot text (scalar T.kind) f
+        × IsOfCell f) }
 {
     match flaw {
         Flaw::Fine => Ok(value),

@@ -1,16 +1,16 @@
 pub mod Spine
-pub mod Seen
+mod Seen
 pub mod Related
-pub mod Grafting
-pub mod Arms
+mod Grafting
+mod Arms
 pub mod Handing
-pub mod SinkPlaced
-pub mod SinkMeans
-pub mod Recognised
-pub mod Cases
+mod SinkPlaced
+mod SinkMeans
+mod Recognised
+mod Cases
 pub mod SinkRule
-pub mod Chaining
-pub mod Chains
-pub mod Falling
-pub mod Legs
-pub mod Once
+mod Chaining
+mod Chains
+mod Falling
+mod Legs
+mod Once

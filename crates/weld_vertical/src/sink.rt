@@ -69,9 +69,11 @@ fn sink_in_arm(
 ) -> Result<(), AllocError>
     requires { merges first.old + merges second.old ≡ 1 }
     ensures first { IfOk result (λ _. first.new
-        ≡ sunk ty.now builder.0 count.0 consumer.number consumer.row consumer.body.value first.old) }
+        ≡ sunk ty.now builder.0 count.0 consumer.number consumer.row consumer.body.value
+        first.old) }
     ensures second { IfOk result (λ _. second.new
-        ≡ sunk ty.now builder.0 count.0 consumer.number consumer.row consumer.body.value second.old) }
+        ≡ sunk ty.now builder.0 count.0 consumer.number consumer.row consumer.body.value
+        second.old) }
 {
     if has_the_merge(&*first, &*second) {
         sink(alloc, ty, builder, count, consumer, first)?;
@@ -127,7 +129,8 @@ fn consume(
     value: Expr,
 ) -> Result<Form, AllocError>
     ensures { IfOk result (λ form. (at : At) → view_form form at
-        ≡ let_in at consumer.number (leaf (record { place = place; ty = Is place_type }) (name count.0))
+        ≡ let_in at consumer.number (leaf (record { place = place; ty = Is place_type })
+        (name count.0))
         (let_in (record { place = place; ty = ty.now }) consumer.row value consumer.body.value)) }
 {
     let Consumer { number, row, body } = consumer;

@@ -1,16 +1,16 @@
-pub mod Parts
-pub mod Once
-pub mod Renaming
-pub mod Taking
-pub mod Typing
-pub mod Counting
-pub mod Pairs
-pub mod PairRule
-pub mod Opening
-pub mod Weights
-pub mod Swept
-pub mod Left
-pub mod Choosing
-pub mod Trying
-pub mod Depth
-pub mod Cases
+mod Parts
+mod Once
+mod Renaming
+mod Taking
+mod Typing
+mod Counting
+mod Pairs
+mod PairRule
+mod Opening
+mod Weights
+mod Swept
+mod Left
+mod Choosing
+mod Trying
+mod Depth
+mod Cases

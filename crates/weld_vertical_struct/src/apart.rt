@@ -151,7 +151,8 @@ impl Rule for Fields {
 impl Fields {
     /// The name for the expression, where it is a field of the pair.
     fn name_for(&self, e: &Expr) -> Option<Sym>
-        ensures { option_map (λ (y : Sym). y.0) result ≡ name_of_field self.now.pair.0 self.now.name.0 self.now.number e.now }
+        ensures { option_map (λ (y : Sym). y.0) result ≡ name_of_field self.now.pair.0
+            self.now.name.0 self.now.number e.now }
     {
         match &e.form {
             Form::One(one, part) => match field_taken(self.pair, one, part) {

@@ -92,7 +92,8 @@ fn join(
 ) -> Result<Form, AllocError>
     requires { fits_around (first_made (pack_legs legs)) ≡ true }
     ensures { IfOk result (λ form. (at : At) → at.place ≡ place → at.ty ≡ ty.now
-        → view_form form at ≡ unzipped (loop at (pack_legs legs) outer.start.value outer.builder.value
+        → view_form form at ≡ unzipped (loop at (pack_legs legs) outer.start.value
+        outer.builder.value
         consumer.number consumer.row consumer.body.value)) }
 {
     let Cut { others, producer } = cut_out(legs)?;
@@ -104,7 +105,8 @@ fn join(
 /// The legs, cut where the first stands that another loop makes.
 fn cut_out(legs: Legs) -> Result<Cut, AllocError>
     requires { fits_around (first_made (pack_legs legs)) ≡ true }
-    ensures { IfOk result (λ c. IsCut (pack_legs legs) (pack_legs (map view_leg c.others.before.items))
+    ensures { IfOk result (λ c. IsCut (pack_legs legs) (pack_legs
+        (map view_leg c.others.before.items))
         (pack_legs (map view_leg c.others.after.items)) c.producer.value) }
 {
     let mut before = legs.into_vec();
@@ -187,7 +189,8 @@ fn put_own_row(
 /// The types of the items of the legs before, of the producer's, of those behind, and of its list.
 fn sides_of(alloc: Global, others: &Others, producer: &Expr) -> Result<Sides, AllocError>
     requires { is_producer producer.now ≡ true }
-    ensures { IfOk result (λ s. of_sides s ≡ sides (pack_legs (map view_leg others.now.before.items))
+    ensures { IfOk result (λ s. of_sides s ≡ sides (pack_legs
+        (map view_leg others.now.before.items))
         producer.now (pack_legs (map view_leg others.now.after.items))) }
 {
     let Form::For(legs, start, _, _, _, _) = &producer.form else {
@@ -205,7 +208,8 @@ fn sides_of(alloc: Global, others: &Others, producer: &Expr) -> Result<Sides, Al
 fn over_all(others: Others, outer: Outer, producer: Box<Expr>) -> Result<Form, AllocError>
     requires { is_loop producer.value ≡ true }
     ensures { IfOk result (λ form. (at : At) → view_form form at
-        ≡ over_legs at outer.start.value outer.builder.value (pack_legs (map view_leg others.before.items))
+        ≡ over_legs at outer.start.value outer.builder.value
+        (pack_legs (map view_leg others.before.items))
         (pack_legs (map view_leg others.after.items)) producer.value) }
 {
     let Others { before, after } = others;

@@ -91,7 +91,8 @@ fn consume(
     value: Expr,
 ) -> Result<Form, AllocError>
     ensures { IfOk result (λ form. (at : At) → view_form form at
-        ≡ let_in at consumer.number (leaf (record { place = place; ty = Is place_type }) (name count.0))
+        ≡ let_in at consumer.number (leaf (record { place = place; ty = Is place_type })
+        (name count.0))
         (let_in (record { place = place; ty = ty.now }) consumer.row value consumer.body.value)) }
 {
     let Consumer { number, row, body } = consumer;

@@ -16,7 +16,8 @@ use weld_builders::laws::{keys_are_ordered_alike, values_are_ordered};
 /// loop less then, and one leg.
 pub fn made_legs_are_spliced()
     ensures rewrites { (e : ExprTree) → IsTidy e → is_zipped e ≡ true → Rewrites (unzipped e) e }
-    ensures one_loop_less { (e : ExprTree) → is_zipped e ≡ true → loops e ≡ suc (loops (unzipped e)) }
+    ensures one_loop_less { (e : ExprTree) → is_zipped e ≡ true
+        → loops e ≡ suc (loops (unzipped e)) }
     ensures one_leg_less { (e : ExprTree) → is_zipped e ≡ true → legs e ≡ suc (legs (unzipped e)) }
 {
     values_are_ordered();

@@ -1,11 +1,11 @@
-pub mod Built
-pub mod Rows
-pub mod Steps
-pub mod Reading
-pub mod Lexing
-pub mod Standing
-pub mod Counts
-pub mod Spelling
-pub mod Complete
-pub mod Forms
-pub mod Refusals
+mod Built
+mod Rows
+mod Steps
+mod Reading
+mod Lexing
+mod Standing
+mod Counts
+mod Spelling
+mod Complete
+mod Forms
+mod Refusals

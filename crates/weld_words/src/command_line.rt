@@ -59,7 +59,8 @@ fn command_line<'a>(alloc: Global) -> Result<Command<'a>, AllocError>
 pub(crate) fn find_in<'a>(alloc: Global, words: &'a [String]) -> Result<ArgMatches<'a>, WordsFault>
     requires { list_all (λ w. may_stand (string_bytes w)) words.now ≡ true }
     ensures ok { IfOk result (Finds (map string_bytes words.entry.now)) }
-    ensures form { (result ≡ Err WordsFault.Form) → (o : Options) → IsForm (map string_bytes words.entry.now) o → ⊥ }
+    ensures form { (result ≡ Err WordsFault.Form) → (o : Options)
+        → IsForm (map string_bytes words.entry.now) o → ⊥ }
 {
     let command = match command_line(alloc) {
         Ok(command) => command,

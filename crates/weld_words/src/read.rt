@@ -38,7 +38,8 @@ fn all_stand(words: &[String]) -> bool
 /// `Form` comes exactly where the words aren't of this form, `Memory` where memory is wanting.
 pub fn read_words(alloc: Global, words: &[String]) -> Result<Options, WordsFault>
     ensures ok { IfOk result (IsForm (map string_bytes words.now)) }
-    ensures form { result ≡ Err WordsFault.Form → (o : Options) → IsForm (map string_bytes words.now) o → ⊥ }
+    ensures form { result ≡ Err WordsFault.Form → (o : Options)
+        → IsForm (map string_bytes words.now) o → ⊥ }
 {
     if !all_stand(words) {
         return Err(WordsFault::Form);

@@ -86,7 +86,8 @@ fn write_numbers(column: &Column, out: &mut Text) -> Result<(), AllocError>
 /// Appends a list of numbers of kind i8 as a string.
 fn write_string(column: &Column, out: &mut Text) -> Result<(), AllocError>
     requires { AllAre (HasValue (scalar kinds.I8)) (values (view_column column.now)) }
-    ensures { OnOk result (out.new ≡ out.old ++ (codes "\"" ++ strung (view_column column.now) ++ codes "\"")) }
+    ensures { OnOk result (out.new ≡ out.old ++ (codes "\"" ++ strung (view_column column.now)
+        ++ codes "\"")) }
 {
     out.push(b'"')?;
     match column {
@@ -141,7 +142,8 @@ fn write_at(ty: &Ty, value: &Val, out: &mut Text) -> Result<(), AllocError>
 #[cycle(write)]
 fn write_column(item: &Ty, column: &Column, out: &mut Text) -> Result<(), AllocError>
     requires { AllAre (HasValue item.now) (values (view_column column.now)) }
-    ensures { OnOk result (out.new ≡ out.old ++ shown_elements item.now (show item.now) (view_column column.now)) }
+    ensures { OnOk result (out.new ≡ out.old ++ shown_elements item.now (show item.now)
+        (view_column column.now)) }
 {
     if is_i8(item) {
         return write_string(column, out);
@@ -164,7 +166,8 @@ fn write_column(item: &Ty, column: &Column, out: &mut Text) -> Result<(), AllocE
 #[cycle(write)]
 fn write_nested(item: &Ty, items: &[Val], out: &mut Text) -> Result<(), AllocError>
     requires { AllAre (HasValue item.now) (values (map view_val items.now)) }
-    ensures { OnOk result (out.new ≡ out.old ++ shown_list (show item.now) (map view_val items.now)) }
+    ensures { OnOk result (out.new ≡ out.old ++ shown_list (show item.now)
+        (map view_val items.now)) }
 {
     if items.is_empty() {
         return out.push_all(b"[]");
@@ -182,7 +185,8 @@ fn write_nested(item: &Ty, items: &[Val], out: &mut Text) -> Result<(), AllocErr
 #[cycle(write)]
 fn write_struct(fields: &Tys, vals: &Vals, out: &mut Text) -> Result<(), AllocError>
     requires { HaveValues (pack fields.now) (values vals.now) }
-    ensures { OnOk result (out.new ≡ out.old ++ (show_fields (pack fields.now) 123 (values vals.now) ++ codes "}")) }
+    ensures { OnOk result (out.new ≡ out.old ++ (show_fields (pack fields.now) 123 (values vals.now)
+        ++ codes "}")) }
 {
     let types = fields.as_slice();
     let mut lead = b'{';
@@ -198,7 +202,8 @@ fn write_struct(fields: &Tys, vals: &Vals, out: &mut Text) -> Result<(), AllocEr
 #[cycle(write)]
 fn write_dict(key: &Ty, value: &Ty, pairs: &Pairs, out: &mut Text) -> Result<(), AllocError>
     requires { AllEntriesAre (HasValue key.now) (HasValue value.now) (entries pairs.now) }
-    ensures { OnOk result (out.new ≡ out.old ++ shown_entries (show key.now) (show value.now) pairs.now) }
+    ensures { OnOk result (out.new ≡ out.old ++ shown_entries (show key.now) (show value.now)
+        pairs.now) }
 {
     if pairs.is_empty() {
         return out.push_all(b"dict{}");

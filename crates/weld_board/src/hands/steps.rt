@@ -101,7 +101,8 @@ impl Machine {
 /// The first tile of a hand, if it has one.
 fn first_at(hands: &[Vec<Tile>], at: usize) -> Option<Tile>
     requires { at < length hands.now }
-    ensures { MatchOption result (slice_index_or (turned hands.now) at [] ≡ []) (λ t. (rest : List Tile) × (slice_index_or (turned hands.now) at [] ≡ t ∷ rest)) }
+    ensures { MatchOption result (slice_index_or (turned hands.now) at [] ≡ [])
+        (λ t. (rest : List Tile) × (slice_index_or (turned hands.now) at [] ≡ t ∷ rest)) }
 {
     hands[at].last().copied()
 }
@@ -109,7 +110,8 @@ fn first_at(hands: &[Vec<Tile>], at: usize) -> Option<Tile>
 /// Appends a tile to what a seat has taken. Where memory is wanting, nothing changes.
 fn push_at(lists: &mut [Vec<Tile>], at: usize, tile: Tile) -> Result<(), AllocError>
     requires { at < length lists.old }
-    ensures ok { OnOk result (shown lists.new ≡ slice_set (shown lists.old) at (slice_index_or (shown lists.old) at [] ++ tile ∷ [])) }
+    ensures ok { OnOk result (shown lists.new ≡ slice_set (shown lists.old) at
+        (slice_index_or (shown lists.old) at [] ++ tile ∷ [])) }
     ensures err { OnErr result (shown lists.new ≡ shown lists.old) }
 {
     match lists[at].push(tile) {
@@ -121,7 +123,8 @@ fn push_at(lists: &mut [Vec<Tile>], at: usize, tile: Tile) -> Result<(), AllocEr
 /// Takes the first tile out of a hand that has one.
 fn pop_at(hands: &mut [Vec<Tile>], at: usize)
     requires { at < length hands.old }
-    ensures left { (t : Tile) (rest : List Tile) → slice_index_or (turned hands.old) at [] ≡ t ∷ rest → turned hands.new ≡ slice_set (turned hands.old) at rest }
+    ensures left { (t : Tile) (rest : List Tile) → slice_index_or (turned hands.old) at []
+        ≡ t ∷ rest → turned hands.new ≡ slice_set (turned hands.old) at rest }
     ensures hands { length (turned hands.new) ≡ length (turned hands.old) }
 {
     let _first = hands[at].pop();

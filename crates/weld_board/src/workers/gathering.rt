@@ -68,7 +68,8 @@ fn come_back<P: Drop, T: Jobs<P>>(
     seats: &mut Seats,
     spans: &mut Vec<Span<P>>,
 ) -> Result<(), AllocError>
-    requires worked { All (HasWorked (T.made jobs.now) (T.faults jobs.now) board.now) workers.items }
+    requires worked { All (HasWorked (T.made jobs.now) (T.faults jobs.now) board.now)
+        workers.items }
     requires go { All Goes workers.items }
     requires none { seats_in seats.old ≡ [] }
     requires room { seats_room seats.old ≡ length workers.items }

@@ -157,8 +157,12 @@ fn work_all<P: Send + Drop, T: Jobs<P>>(
         workers,
         threads,
         &|_, worker: &mut Worker<P>|
-            requires { T.ready jobs.now × AreJobs (board_tiles board.now) × (T.count jobs.now < 18446744073709551616) × (length (board_tiles board.now) ≡ T.count jobs.now) × IsIdle board.now worker.now }
-            ensures { HasWorked (T.made jobs.entry.now) (T.faults jobs.entry.now) board.entry.now worker.exit.now }
+            requires { T.ready jobs.now × AreJobs (board_tiles board.now)
+                × (T.count jobs.now < 18446744073709551616)
+                × (length (board_tiles board.now) ≡ T.count jobs.now)
+                × IsIdle board.now worker.now }
+            ensures { HasWorked (T.made jobs.entry.now) (T.faults jobs.entry.now) board.entry.now
+                worker.exit.now }
         { work(jobs, board, worker) },
     );
 }

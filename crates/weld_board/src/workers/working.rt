@@ -32,10 +32,13 @@ fn do_job<P: Drop, T: Jobs<P>>(jobs: &T, worker: &mut Worker<P>, job: u64)
     requires ready { T.ready jobs.now }
     requires job { job < T.count jobs.now }
     requires few { T.count jobs.now < 18446744073709551616 }
-    requires done { (before : List ℕ) × HasDone (T.made jobs.now) (T.faults jobs.now) worker.old.stop worker.old.spans.items before }
+    requires done { (before : List ℕ) × HasDone (T.made jobs.now) (T.faults jobs.now)
+        worker.old.stop worker.old.spans.items before }
     requires fault { IfFault worker.old.stop (T.faults jobs.now) }
     ensures seat { worker.new.seat ≡ worker.old.seat }
-    ensures done { (before : List ℕ) → HasDone (T.made jobs.now) (T.faults jobs.now) worker.old.stop worker.old.spans.items before → HasDone (T.made jobs.now) (T.faults jobs.now) worker.new.stop worker.new.spans.items (before ++ job ∷ []) }
+    ensures done { (before : List ℕ) → HasDone (T.made jobs.now) (T.faults jobs.now) worker.old.stop
+        worker.old.spans.items before → HasDone (T.made jobs.now) (T.faults jobs.now)
+        worker.new.stop worker.new.spans.items (before ++ job ∷ []) }
     ensures fault { IfFault worker.new.stop (T.faults jobs.now) }
 {
     if worker.stop.is_some() {
@@ -92,7 +95,8 @@ fn push_bare<P: Drop, T: Jobs<P>>(jobs: &T, spans: &mut Vec<Span<P>>, job: u64) 
 
 /// Whether the job is the next of the last span.
 fn goes_on<P>(spans: &[Span<P>], job: u64) -> bool
-    ensures { IsTrue result → (front : List (Span P)) × (last : Span P) × (spans.now ≡ front ++ last ∷ []) × (last.next ≡ job) }
+    ensures { IsTrue result → (front : List (Span P)) × (last : Span P)
+        × (spans.now ≡ front ++ last ∷ []) × (last.next ≡ job) }
 {
     match spans.last() {
         Some(span) => span.next == job,

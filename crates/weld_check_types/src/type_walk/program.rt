@@ -19,7 +19,9 @@ use weld_types::{Scope, check_answer, check_param};
 #[tactic(auto)]
 pub fn note_program(alloc: Global, params: &[Binder], body: &mut Expr) -> Result<Ty, Refusal>
     requires { All (λ b. IsSome b.note) params.now }
-    ensures found { Says result (param_types_fit params.now (go_on (type_of body.old (param_types params.now)) (λ t. demand_at (is_builder_free t) Y3 (place_of body.old) (found t)))) }
+    ensures found { Says result (param_types_fit params.now
+        (go_on (type_of body.old (param_types params.now))
+        (λ t. demand_at (is_builder_free t) Y3 (place_of body.old) (found t)))) }
     ensures noted { IfOk result (λ _. body.new ≡ typed body.old (param_types params.now)) }
 {
     check_params(params)?;
@@ -53,7 +55,8 @@ fn body_under(
 ) -> Result<Ty, Refusal>
     requires { All (λ b. IsSome b.note) params.now }
     ensures found { Says result (type_of body.old (param_types params.now ++ scope.now)) }
-    ensures noted { IfOk result (λ _. body.new ≡ typed body.old (param_types params.now ++ scope.now)) }
+    ensures noted { IfOk result (λ _. body.new ≡ typed body.old
+        (param_types params.now ++ scope.now)) }
 {
     let Some((last, before)) = params.split_last() else {
         return note_types(alloc, body, scope);

@@ -45,8 +45,10 @@ pub fn note_types(alloc: Global, e: &mut Expr, scope: &Scope) -> Result<Ty, Refu
 /// The type of the node of such a form; the types of its parts are noted at them.
 #[cycle(walk)]
 fn form_under(alloc: Global, form: &mut Form, place: Place, scope: &Scope) -> Result<Ty, Refusal>
-    ensures found { (k : Known) → Says result (type_of (view_form form.old (at place k)) scope.now) }
-    ensures noted { IfOk result (λ _. (k j : Known) → view_form form.new (at place j) ≡ with_types (view_form form.old (at place k)) j scope.now) }
+    ensures found { (k : Known) → Says result (type_of (view_form form.old (at place k))
+        scope.now) }
+    ensures noted { IfOk result (λ _. (k j : Known) → view_form form.new (at place j)
+        ≡ with_types (view_form form.old (at place k)) j scope.now) }
 {
     match form {
         Form::Leaf(leaf) => leaf_type(leaf, scope, place, alloc),
@@ -74,7 +76,8 @@ fn one_under(
     place: Place,
     scope: &Scope,
 ) -> Result<Ty, Refusal>
-    ensures found { Says result (go_on (type_of part.old scope.now) (λ u. at_node place (one_type (view_one one.now) u))) }
+    ensures found { Says result (go_on (type_of part.old scope.now)
+        (λ u. at_node place (one_type (view_one one.now) u))) }
     ensures noted { IfOk result (λ _. part.new ≡ typed part.old scope.now) }
 {
     let part = note_types(alloc, part, scope)?;
@@ -90,7 +93,9 @@ fn two_under(
     place: Place,
     scope: &Scope,
 ) -> Result<Ty, Refusal>
-    ensures found { Says result (go_on (type_of first.old scope.now) (λ u. go_on (type_of second.old scope.now) (λ v. at_node place (two_type (view_two two) u v)))) }
+    ensures found { Says result (go_on (type_of first.old scope.now)
+        (λ u. go_on (type_of second.old scope.now) (λ v. at_node place
+        (two_type (view_two two) u v)))) }
     ensures first { IfOk result (λ _. first.new ≡ typed first.old scope.now) }
     ensures second { IfOk result (λ _. second.new ≡ typed second.old scope.now) }
 {
@@ -109,7 +114,9 @@ fn three_under(
     place: Place,
     scope: &Scope,
 ) -> Result<Ty, Refusal>
-    ensures found { Says result (go_on (type_of first.old scope.now) (λ u. go_on (type_of second.old scope.now) (λ v. go_on (type_of third.old scope.now) (λ w. at_node place (three_type (view_three three) u v w))))) }
+    ensures found { Says result (go_on (type_of first.old scope.now)
+        (λ u. go_on (type_of second.old scope.now) (λ v. go_on (type_of third.old scope.now)
+        (λ w. at_node place (three_type (view_three three) u v w))))) }
     ensures first { IfOk result (λ _. first.new ≡ typed first.old scope.now) }
     ensures second { IfOk result (λ _. second.new ≡ typed second.old scope.now) }
     ensures third { IfOk result (λ _. third.new ≡ typed third.old scope.now) }
@@ -129,8 +136,10 @@ fn many_under(
     place: Place,
     scope: &Scope,
 ) -> Result<Ty, Refusal>
-    ensures found { Says result (go_on (types_of (pack_exprs parts.old) scope.now) (λ us. at_node place (many_type (view_many many) us))) }
-    ensures noted { IfOk result (λ _. pack_exprs parts.new ≡ all_with_types (pack_exprs parts.old) scope.now) }
+    ensures found { Says result (go_on (types_of (pack_exprs parts.old) scope.now)
+        (λ us. at_node place (many_type (view_many many) us))) }
+    ensures noted { IfOk result (λ _. pack_exprs parts.new
+        ≡ all_with_types (pack_exprs parts.old) scope.now) }
 {
     let types = each_under(alloc, parts.as_mut_slice(), scope)?;
     many_type(many, types, place, alloc)
@@ -174,9 +183,12 @@ fn let_under(
     binder: &Binder,
     scope: &Scope,
 ) -> Result<Ty, Refusal>
-    ensures found { Says result (go_on (type_of value.old scope.now) (λ u. noted binder.now.note binder.now u (type_of body.old ((binder.now.sym.0, u) ∷ scope.now)))) }
+    ensures found { Says result (go_on (type_of value.old scope.now)
+        (λ u. noted binder.now.note binder.now u (type_of body.old
+        ((binder.now.sym.0, u) ∷ scope.now)))) }
     ensures value { IfOk result (λ _. value.new ≡ typed value.old scope.now) }
-    ensures body { IfOk result (λ _. body.new ≡ under (type_of value.old scope.now) (λ u. typed body.old ((binder.now.sym.0, u) ∷ scope.now)) body.old) }
+    ensures body { IfOk result (λ _. body.new ≡ under (type_of value.old scope.now)
+        (λ u. typed body.old ((binder.now.sym.0, u) ∷ scope.now)) body.old) }
 {
     let ty = note_types(alloc, value, scope)?;
     check_note(binder, &ty)?;
@@ -192,10 +204,13 @@ fn iterate_under(
     place: Place,
     scope: &Scope,
 ) -> Result<Ty, Refusal>
-    ensures found { Says result (go_on (type_of state.old scope.now) (λ s. demand_at (is_builder_free s) Y27 place (noted binder.now.note binder.now s
-        (go_on (type_of body.old ((binder.now.sym.0, s) ∷ scope.now)) (λ u. demand_at (same_type u (pair_of s truth_type)) Y27 place (found s)))))) }
+    ensures found { Says result (go_on (type_of state.old scope.now)
+        (λ s. demand_at (is_builder_free s) Y27 place (noted binder.now.note binder.now s
+        (go_on (type_of body.old ((binder.now.sym.0, s) ∷ scope.now))
+        (λ u. demand_at (same_type u (pair_of s truth_type)) Y27 place (found s)))))) }
     ensures state { IfOk result (λ _. state.new ≡ typed state.old scope.now) }
-    ensures body { IfOk result (λ _. body.new ≡ under (type_of state.old scope.now) (λ s. typed body.old ((binder.now.sym.0, s) ∷ scope.now)) body.old) }
+    ensures body { IfOk result (λ _. body.new ≡ under (type_of state.old scope.now)
+        (λ s. typed body.old ((binder.now.sym.0, s) ∷ scope.now)) body.old) }
 {
     let ty = note_types(alloc, state, scope)?;
     check_state(&ty, place)?;
@@ -217,10 +232,13 @@ fn loop_under(
     place: Place,
     scope: &Scope,
 ) -> Result<Ty, Refusal>
-    ensures found { Says result (go_on (strips_of (pack_legs legs.old) scope.now) (λ s. type_behind_legs place s builder.old b.now n.now x.now body.old scope.now)) }
-    ensures legs { IfOk result (λ _. pack_legs legs.new ≡ legs_with_types (pack_legs legs.old) scope.now) }
+    ensures found { Says result (go_on (strips_of (pack_legs legs.old) scope.now)
+        (λ s. type_behind_legs place s builder.old b.now n.now x.now body.old scope.now)) }
+    ensures legs { IfOk result (λ _. pack_legs legs.new ≡ legs_with_types (pack_legs legs.old)
+        scope.now) }
     ensures builder { IfOk result (λ _. builder.new ≡ typed builder.old scope.now) }
-    ensures body { IfOk result (λ _. body.new ≡ under (rows_found place (strips_of (pack_legs legs.old) scope.now) (type_of builder.old scope.now))
+    ensures body { IfOk result (λ _. body.new ≡ under (rows_found place
+        (strips_of (pack_legs legs.old) scope.now) (type_of builder.old scope.now))
         (λ tr. typed body.old (body_types b.now n.now x.now tr.0 tr.1 scope.now)) body.old) }
 {
     let strips = legs_under(alloc, legs, scope)?;
@@ -232,7 +250,8 @@ fn loop_under(
 #[tactic(auto)]
 fn legs_under(alloc: Global, legs: &mut Legs, scope: &Scope) -> Result<Strips, Refusal>
     ensures found { SaysStrips result (strips_of (pack_legs legs.old) scope.now) }
-    ensures noted { IfOk result (λ _. pack_legs legs.new ≡ legs_with_types (pack_legs legs.old) scope.now) }
+    ensures noted { IfOk result (λ _. pack_legs legs.new
+        ≡ legs_with_types (pack_legs legs.old) scope.now) }
 {
     each_leg_under(alloc, legs.as_mut_slice(), scope)
 }
@@ -242,7 +261,8 @@ fn legs_under(alloc: Global, legs: &mut Legs, scope: &Scope) -> Result<Strips, R
 #[tactic(auto)]
 fn each_leg_under(alloc: Global, legs: &mut [Leg], scope: &Scope) -> Result<Strips, Refusal>
     ensures found { SaysStrips result (strips_of (pack_legs (map view_leg legs.old)) scope.now) }
-    ensures noted { IfOk result (λ _. map view_leg legs.new ≡ map (λ leg. leg_with_types leg scope.now) (map view_leg legs.old)) }
+    ensures noted { IfOk result (λ _. map view_leg legs.new
+        ≡ map (λ leg. leg_with_types leg scope.now) (map view_leg legs.old)) }
 {
     let mut strips = Strips::new(alloc);
     for leg in legs.iter_mut() {
@@ -264,7 +284,8 @@ fn leg_under(
     scope: &Scope,
 ) -> Result<(), Refusal>
     ensures found { GathersLeg result (view_leg leg.old) scope.now strips.old strips.new }
-    ensures noted { IfOk result (λ _. view_leg leg.new ≡ leg_with_types (view_leg leg.old) scope.now) }
+    ensures noted { IfOk result (λ _. view_leg leg.new ≡ leg_with_types (view_leg leg.old)
+        scope.now) }
 {
     match leg {
         Leg::Whole(vector) => push_under(alloc, vector, &mut strips.vectors, scope),
@@ -290,9 +311,11 @@ fn rows_under(
     place: Place,
     scope: &Scope,
 ) -> Result<Ty, Refusal>
-    ensures found { Says result (type_behind_legs place (view_strips strips.now) builder.old b.now n.now x.now body.old scope.now) }
+    ensures found { Says result (type_behind_legs place (view_strips strips.now) builder.old b.now
+        n.now x.now body.old scope.now) }
     ensures builder { IfOk result (λ _. builder.new ≡ typed builder.old scope.now) }
-    ensures body { IfOk result (λ _. body.new ≡ under (rows_found place (found (view_strips strips.now)) (type_of builder.old scope.now))
+    ensures body { IfOk result (λ _. body.new ≡ under (rows_found place
+        (found (view_strips strips.now)) (type_of builder.old scope.now))
         (λ tr. typed body.old (body_types b.now n.now x.now tr.0 tr.1 scope.now)) body.old) }
 {
     let ty = note_types(alloc, builder, scope)?;
@@ -315,8 +338,11 @@ fn body_under(
     place: Place,
     scope: &Scope,
 ) -> Result<(), Refusal>
-    ensures found { (later : Found TypeTree) → Allows result (go_on (type_of body.old (body_types b.now n.now x.now builder.now row.now scope.now)) (λ u. demand_at (same_type u builder.now) Y26 place later)) later }
-    ensures noted { IfOk result (λ _. body.new ≡ typed body.old (body_types b.now n.now x.now builder.now row.now scope.now)) }
+    ensures found { (later : Found TypeTree) → Allows result
+        (go_on (type_of body.old (body_types b.now n.now x.now builder.now row.now scope.now))
+        (λ u. demand_at (same_type u builder.now) Y26 place later)) later }
+    ensures noted { IfOk result (λ _. body.new ≡ typed body.old
+        (body_types b.now n.now x.now builder.now row.now scope.now)) }
 {
     let number = Ty::scalar(Kind::I64);
     let outer = Scope::bound(b.sym, &*builder, &*scope);

@@ -13,7 +13,8 @@ impl Pairs {
     /// The value of a key, which is of one key type with the dictionary's keys. It takes no memory.
     pub fn get(&self, key: &Val) -> Option<&Val>
         requires { IsKeyFor self.now (view_val key.now) }
-        ensures { option_map (λ v. view_val v.now) result ≡ value_of_key self.now (view_val key.now) }
+        ensures { option_map (λ v. view_val v.now) result
+            ≡ value_of_key self.now (view_val key.now) }
     {
         match self.position_of(key) {
             Some(index) => Some(&self.at(index).value),
@@ -32,7 +33,8 @@ impl Pairs {
     /// The index of a key, found by halving.
     fn position_of(&self, key: &Val) -> Option<usize>
         requires { IsKeyFor self.now (view_val key.now) }
-        ensures found { IfSome result (λ index. (e : Value × Value) × IsAt self.now (view_val key.now) index e) }
+        ensures found { IfSome result (λ index. (e : Value × Value)
+            × IsAt self.now (view_val key.now) index e) }
         ensures missing { IfNone result (value_of_key self.now (view_val key.now) ≡ None) }
     {
         let mut low = 0;

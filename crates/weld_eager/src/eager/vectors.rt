@@ -88,7 +88,9 @@ pub fn dotted(alloc: Global, arguments: &Vals, types: &Tys) -> Result<Val, Stop>
 pub fn combined(alloc: Global, op: MergeOp, arguments: &Vals, types: &Tys) -> Result<Val, Stop>
     requires row { OneVector types.now }
     requires values { AreOf types.now arguments.now }
-    ensures { Answers view_val result (done (number (plain_kind_at 0 types.now) (combined_all op (plain_kind_at 0 types.now) (start_of op (plain_kind_at 0 types.now)) (numbers (value_at 0 arguments.now))))) }
+    ensures { Answers view_val result (done (number (plain_kind_at 0 types.now)
+        (combined_all op (plain_kind_at 0 types.now) (start_of op (plain_kind_at 0 types.now))
+        (numbers (value_at 0 arguments.now))))) }
 {
     let kind = kind_at(types, 0);
     let v = argument(arguments, 0);

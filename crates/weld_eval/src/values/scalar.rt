@@ -42,7 +42,8 @@ pub fn operated(op: BinOp, v: &Val, w: &Val) -> Result<Num, Stop>
 #[tactic(auto, using(crate::proofs::ScalarLemmas::left_in_range, crate::proofs::ScalarLemmas::right_in_range, crate::proofs::ScalarLemmas::takes_operands, crate::proofs::ScalarLemmas::operated_some, crate::proofs::ScalarLemmas::operated_none))]
 fn operated_numbers(op: BinOp, x: Num, y: Num) -> Result<Num, Stop>
     requires { AreOperands op (number x.kind x.value) (number y.kind y.value) }
-    ensures value { Answers view_num result (operated_value op (number x.kind x.value) (number y.kind y.value)) }
+    ensures value { Answers view_num result (operated_value op (number x.kind x.value)
+        (number y.kind y.value)) }
     ensures sure { IsSure result }
 {
     match binary(op, x.kind, x.value, y.value) {

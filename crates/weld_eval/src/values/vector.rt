@@ -30,7 +30,8 @@ pub fn part_of(alloc: Global, v: &Val, start: &Val, count: &Val) -> Result<Val, 
     requires vector { IsList (view_val v.now) }
     requires start { IsPlaceNumber (view_val start.now) }
     requires count { IsPlaceNumber (view_val count.now) }
-    ensures { Answers view_val result (sliced (view_val v.now) (view_val start.now) (view_val count.now)) }
+    ensures { Answers view_val result (sliced (view_val v.now) (view_val start.now)
+        (view_val count.now)) }
 {
     match v {
         Val::List(column) => match bounds_of(start, count, column.len()) {
@@ -71,7 +72,8 @@ fn elements_from(
     count: usize,
 ) -> Result<Column, AllocError>
     requires { start + count ≤ length_of (view_column column.now) }
-    ensures { IfOk result (λ part. view_column part ≡ take count (drop start (view_column column.now))) }
+    ensures { IfOk result (λ part. view_column part ≡ take count
+        (drop start (view_column column.now))) }
 {
     match column {
         Column::Bool(items) => Ok(Column::Bool(items_from(alloc, items, start, count)?)),
@@ -138,7 +140,8 @@ pub fn strided_part(
     requires start { IsPlaceNumber (view_val start.now) }
     requires end { IsPlaceNumber (view_val end.now) }
     requires stride { IsPlaceNumber (view_val stride.now) }
-    ensures { Answers view_column result (strided_of (view_val v.now) (view_val start.now) (view_val end.now) (view_val stride.now)) }
+    ensures { Answers view_column result (strided_of (view_val v.now) (view_val start.now)
+        (view_val end.now) (view_val stride.now)) }
 {
     match v {
         Val::List(column) => match stride_of(start, end, stride, column.len()) {
@@ -165,7 +168,8 @@ fn stride_of(
     requires start { IsPlaceNumber (view_val start.now) }
     requires end { IsPlaceNumber (view_val end.now) }
     requires stride { IsPlaceNumber (view_val stride.now) }
-    ensures { StrideAnswer result (view_val start.now) (view_val end.now) (view_val stride.now) length }
+    ensures { StrideAnswer result (view_val start.now) (view_val end.now) (view_val stride.now)
+        length }
 {
     let Some(first) = count_of(start) else {
         return Err(Stop::Fault);

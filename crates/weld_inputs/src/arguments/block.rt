@@ -28,7 +28,8 @@ fn read_content(
     requires readable { IsReadable ty.now }
     requires some_worker { 0 < workers }
     ensures value { IfOk result (λ v. Gives BlockForm.Value content.now ty.now (view_val v)) }
-    ensures unfit { IfErr result (Tells (λ (n : ℕ) (code : _). (n ≡ number) × Fails BlockForm.Value content.now ty.now code)) }
+    ensures unfit { IfErr result (Tells (λ (n : ℕ) (code : _). (n ≡ number)
+        × Fails BlockForm.Value content.now ty.now code)) }
 {
     match read_value(rt, alloc, content, ty, workers) {
         Ok(value) => Ok(value),
@@ -55,7 +56,8 @@ fn told(fault: TableFault, number: u64) -> DataStop
 /// The value of the type that the content of a table block gives, its columns taken by position.
 fn read_records(alloc: Global, content: &[u8], ty: &Ty, number: u64) -> Result<Val, DataStop>
     ensures value { IfOk result (λ v. Gives BlockForm.Table content.now ty.now (view_val v)) }
-    ensures unfit { IfErr result (Tells (λ (n : ℕ) (code : _). (n ≡ number) × Fails BlockForm.Table content.now ty.now code)) }
+    ensures unfit { IfErr result (Tells (λ (n : ℕ) (code : _). (n ≡ number)
+        × Fails BlockForm.Table content.now ty.now code)) }
 {
     table_types_have_columns();
     let Ok(found) = Wanted::of_type(alloc, ty) else {
@@ -81,8 +83,10 @@ pub(crate) fn read_block(
 ) -> Result<Val, DataStop>
     requires readable { IsReadable ty.now }
     requires some_worker { 0 < workers }
-    ensures value { IfOk result (λ v. Gives block.now.form block.now.content.now ty.now (view_val v)) }
-    ensures unfit { IfErr result (Tells (λ (n : ℕ) (code : _). (n ≡ number) × Fails block.now.form block.now.content.now ty.now code)) }
+    ensures value { IfOk result (λ v. Gives block.now.form block.now.content.now ty.now
+        (view_val v)) }
+    ensures unfit { IfErr result (Tells (λ (n : ℕ) (code : _). (n ≡ number)
+        × Fails block.now.form block.now.content.now ty.now code)) }
 {
     match block.form {
         BlockForm::Value => read_content(rt, alloc, block.content, ty, number, workers),

@@ -19,9 +19,12 @@ use weld_values::laws::{
 /// A job's data give the parameters of a program at most one list of arguments; where they give one, nothing is wrong
 /// with them; and at most one number and code tell what is wrong.
 pub fn one_answer()
-    ensures arguments { (params : List Binder) (job : Job) (vs ws : List Value) → Arguments params job vs → Arguments params job ws → vs ≡ ws }
-    ensures fits { (params : List Binder) (job : Job) (vs : List Value) (n : ℕ) (code : Code) → Arguments params job vs → IsUnfit params job n code → ⊥ }
-    ensures unfit { (params : List Binder) (job : Job) (n m : ℕ) (code other : Code) → IsUnfit params job n code → IsUnfit params job m other → (n ≡ m) × (code ≡ other) }
+    ensures arguments { (params : List Binder) (job : Job) (vs ws : List Value)
+        → Arguments params job vs → Arguments params job ws → vs ≡ ws }
+    ensures fits { (params : List Binder) (job : Job) (vs : List Value) (n : ℕ) (code : Code)
+        → Arguments params job vs → IsUnfit params job n code → ⊥ }
+    ensures unfit { (params : List Binder) (job : Job) (n m : ℕ) (code other : Code)
+        → IsUnfit params job n code → IsUnfit params job m other → (n ≡ m) × (code ≡ other) }
 {
     one_reading();
     one_table();
@@ -30,7 +33,8 @@ pub fn one_answer()
 /// They give arguments, or something is wrong with them.
 pub fn each_job_fits_or_not()
     ensures { (params : List Binder) (job : Job) → ParamsFit params
-        → ((vs : List Value) × Arguments params job vs) ⊎ ((n : ℕ) × (code : Code) × IsUnfit params job n code) }
+        → ((vs : List Value) × Arguments params job vs) ⊎ ((n : ℕ) × (code : Code)
+        × IsUnfit params job n code) }
 {
     each_text_reads_or_not();
     each_table_reads_or_not();
@@ -40,7 +44,8 @@ pub fn each_job_fits_or_not()
 
 /// The arguments that they give are of the parameters' types.
 pub fn arguments_have_their_types()
-    ensures { (params : List Binder) (job : Job) (vs : List Value) → ParamsFit params → Arguments params job vs → ArgumentsFit params vs }
+    ensures { (params : List Binder) (job : Job) (vs : List Value) → ParamsFit params
+        → Arguments params job vs → ArgumentsFit params vs }
 {
     read_values_have_the_type();
     tables_have_their_type();

@@ -16,7 +16,8 @@ use weld_tree::{BuildTy, Expr, Form, OneForm, ThreeForm, TwoForm, Ty};
 
 /// The elements of the second parameter where the first is true, of the third where it is false.
 pub(crate) fn where_body(alloc: Global, ty: Ty) -> Result<Box<Expr>, AllocError>
-    ensures { IfOk result (λ e. (ts : List TypeTree) → ty ≡ item (argument 1 ts) → e.value ≡ plain_body calls.Where ts) }
+    ensures { IfOk result (λ e. (ts : List TypeTree) → ty ≡ item (argument 1 ts)
+        → e.value ≡ plain_body calls.Where ts) }
 {
     let mask = field_of(alloc, 0, 5)?;
     let one = field_of(alloc, 1, 5)?;
@@ -27,7 +28,8 @@ pub(crate) fn where_body(alloc: Global, ty: Ty) -> Result<Box<Expr>, AllocError>
 
 /// The elements of the first parameter at the places of the second.
 pub(crate) fn take_body(alloc: Global, ty: Ty) -> Result<Box<Expr>, AllocError>
-    ensures { IfOk result (λ e. (ts : List TypeTree) → ty ≡ item (argument 0 ts) → e.value ≡ plain_body calls.Take ts) }
+    ensures { IfOk result (λ e. (ts : List TypeTree) → ty ≡ item (argument 0 ts)
+        → e.value ≡ plain_body calls.Take ts) }
 {
     let vector = use_of(alloc, 0)?;
     let place = use_of(alloc, 4)?;
@@ -37,7 +39,8 @@ pub(crate) fn take_body(alloc: Global, ty: Ty) -> Result<Box<Expr>, AllocError>
 
 /// The dot of each row of the first parameter with the second.
 pub(crate) fn rows_dot_body(alloc: Global, ty: Ty) -> Result<Box<Expr>, AllocError>
-    ensures { IfOk result (λ e. (ts : List TypeTree) → ty ≡ item (argument 1 ts) → e.value ≡ plain_body calls.RowsDot ts) }
+    ensures { IfOk result (λ e. (ts : List TypeTree) → ty ≡ item (argument 1 ts)
+        → e.value ≡ plain_body calls.RowsDot ts) }
 {
     let item = dotted(alloc, 4, 1, ty.copy(alloc)?, 5)?;
     mapped(alloc, &[0], ty, 2, item)
@@ -67,7 +70,8 @@ pub(crate) fn histogram_body(alloc: Global) -> Result<Box<Expr>, AllocError>
 
 /// For each key the sum of the numbers beside it.
 pub(crate) fn group_sum_body(alloc: Global, key: Ty, ty: Ty) -> Result<Box<Expr>, AllocError>
-    ensures { IfOk result (λ e. (ts : List TypeTree) → key ≡ item (argument 0 ts) → ty ≡ item (argument 1 ts) → e.value ≡ plain_body calls.GroupSum ts) }
+    ensures { IfOk result (λ e. (ts : List TypeTree) → key ≡ item (argument 0 ts)
+        → ty ≡ item (argument 1 ts) → e.value ≡ plain_body calls.GroupSum ts) }
 {
     let key = Box::new(alloc, key)?;
     let keyed = BuildTy::Keyed(key, Box::new(alloc, ty)?, MergeOp::Add);
@@ -78,7 +82,8 @@ pub(crate) fn group_sum_body(alloc: Global, key: Ty, ty: Ty) -> Result<Box<Expr>
 
 /// For each key the list of the elements beside it.
 pub(crate) fn group_list_body(alloc: Global, key: Ty, ty: Ty) -> Result<Box<Expr>, AllocError>
-    ensures { IfOk result (λ e. (ts : List TypeTree) → key ≡ item (argument 0 ts) → ty ≡ item (argument 1 ts) → e.value ≡ plain_body calls.GroupList ts) }
+    ensures { IfOk result (λ e. (ts : List TypeTree) → key ≡ item (argument 0 ts)
+        → ty ≡ item (argument 1 ts) → e.value ≡ plain_body calls.GroupList ts) }
 {
     let key = Box::new(alloc, key)?;
     let groups = BuildTy::Groups(key, Box::new(alloc, ty)?);
@@ -89,7 +94,8 @@ pub(crate) fn group_list_body(alloc: Global, key: Ty, ty: Ty) -> Result<Box<Expr
 
 /// For each key the number of its places.
 pub(crate) fn group_count_body(alloc: Global, key: Ty) -> Result<Box<Expr>, AllocError>
-    ensures { IfOk result (λ e. (ts : List TypeTree) → key ≡ item (argument 0 ts) → e.value ≡ plain_body calls.GroupCount ts) }
+    ensures { IfOk result (λ e. (ts : List TypeTree) → key ≡ item (argument 0 ts)
+        → e.value ≡ plain_body calls.GroupCount ts) }
 {
     let number = Box::new(alloc, Ty::scalar(Kind::I64))?;
     let keyed = BuildTy::Keyed(Box::new(alloc, key)?, number, MergeOp::Add);
@@ -100,7 +106,8 @@ pub(crate) fn group_count_body(alloc: Global, key: Ty) -> Result<Box<Expr>, Allo
 
 /// The elements of the first parameter where the second is true.
 pub(crate) fn filter_body(alloc: Global, ty: Ty) -> Result<Box<Expr>, AllocError>
-    ensures { IfOk result (λ e. (ts : List TypeTree) → ty ≡ item (argument 0 ts) → e.value ≡ plain_body calls.Filter ts) }
+    ensures { IfOk result (λ e. (ts : List TypeTree) → ty ≡ item (argument 0 ts)
+        → e.value ≡ plain_body calls.Filter ts) }
 {
     let builder = fresh_builder(alloc, BuildTy::List(Box::new(alloc, ty)?))?;
     let mask = field_of(alloc, 1, 4)?;

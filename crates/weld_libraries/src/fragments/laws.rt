@@ -14,11 +14,14 @@ use weld_meaning::laws::the_walk_is_linear_use;
 /// The program of a call on arguments of types that fit it is a program, it is accepted, and it is of
 /// the type of the call's answer.
 pub fn fragments_are_accepted()
-    ensures program { (call : Call) (types : List TypeTree) → HasItsOperator call → FitsCall call types → AreValueTypes types
+    ensures program { (call : Call) (types : List TypeTree) → HasItsOperator call
+        → FitsCall call types → AreValueTypes types
         → IsProgram (fragment call types).params (fragment call types).body }
-    ensures accepted { (call : Call) (types : List TypeTree) → HasItsOperator call → FitsCall call types → AreValueTypes types
+    ensures accepted { (call : Call) (types : List TypeTree) → HasItsOperator call
+        → FitsCall call types → AreValueTypes types
         → IsAccepted (fragment call types) }
-    ensures typed { (call : Call) (types : List TypeTree) → HasItsOperator call → FitsCall call types → AreValueTypes types
+    ensures typed { (call : Call) (types : List TypeTree) → HasItsOperator call
+        → FitsCall call types → AreValueTypes types
         → ProgramHas (fragment call types) (answer_of call types) }
 {
     rows_are_a_table();
@@ -28,8 +31,10 @@ pub fn fragments_are_accepted()
 /// It has as many loops as its call says, and at most 64 binders.
 #[tactic(auto, using(crate::proofs::Whole::loops_are))]
 pub fn fragments_are_small()
-    ensures loops { (call : Call) (types : List TypeTree) → loops (fragment call types).body ≡ loops_of call }
-    ensures few { (call : Call) (types : List TypeTree) → HasItsOperator call → FitsCall call types → AreValueTypes types
+    ensures loops { (call : Call) (types : List TypeTree)
+        → loops (fragment call types).body ≡ loops_of call }
+    ensures few { (call : Call) (types : List TypeTree) → HasItsOperator call → FitsCall call types
+        → AreValueTypes types
         → length (syms_of (fragment call types).params ++ bound (fragment call types).body) ≤ 64 }
 {
     rows_are_a_table();

@@ -18,7 +18,8 @@ pub(crate) fn gathered(
     body: Box<Expr>,
 ) -> Result<Box<Expr>, AllocError>
     requires { first < 100 }
-    ensures { IfOk result (λ e. e.value ≡ plain_gathered (legs_of vectors.now) builder.value first (first + 1) (first + 2) body.value) }
+    ensures { IfOk result (λ e. e.value ≡ plain_gathered (legs_of vectors.now) builder.value first
+        (first + 1) (first + 2) body.value) }
 {
     let legs = name_legs(alloc, vectors)?;
     let b = Box::new(alloc, new_binder(first, None))?;
@@ -37,7 +38,8 @@ pub(crate) fn merging(
     item: Box<Expr>,
 ) -> Result<Box<Expr>, AllocError>
     requires { first < 100 }
-    ensures { IfOk result (λ e. e.value ≡ plain_merging vectors.now builder.value first item.value) }
+    ensures { IfOk result (λ e. e.value ≡ plain_merging vectors.now builder.value first
+        item.value) }
 {
     let own = use_of(alloc, first)?;
     let body = two_of(alloc, TwoForm::Merge, own, item)?;

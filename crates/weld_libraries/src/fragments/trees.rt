@@ -93,7 +93,8 @@ pub(crate) fn three_of(
     second: Box<Expr>,
     third: Box<Expr>,
 ) -> Result<Box<Expr>, AllocError>
-    ensures { IfOk result (λ e. e.value ≡ three blank_at (view_three form) first.value second.value third.value) }
+    ensures { IfOk result (λ e. e.value ≡ three blank_at (view_three form) first.value second.value
+        third.value) }
 {
     placeless(alloc, Form::Three(form, first, second, third))
 }

@@ -28,7 +28,8 @@ impl Source {
         found: &mut Available,
         alloc: Global,
     ) -> Result<(), AllocError>
-        ensures { OnOk result (found.new ≡ found.old ++ of_name name.0 (paths_below path.now self.now)) }
+        ensures { OnOk result (found.new ≡ found.old ++ of_name name.0
+            (paths_below path.now self.now)) }
     {
         match &self.form {
             SourceForm::Value => Ok(()),
@@ -49,7 +50,8 @@ impl Sources {
         found: &mut Available,
         alloc: Global,
     ) -> Result<(), AllocError>
-        ensures { OnOk result (found.new ≡ found.old ++ of_name name.0 (paths_of_fields 0 path.now (pack_origins self.now))) }
+        ensures { OnOk result (found.new ≡ found.old ++ of_name name.0
+            (paths_of_fields 0 path.now (pack_origins self.now))) }
     {
         for (number, item) in self.items.iter().enumerate() {
             let below = path.below(number, alloc)?;

@@ -58,7 +58,8 @@ impl Source {
 
     /// What stands at the path of the struct; nothing where that is a value.
     pub fn at_path(&self, path: &[usize]) -> Option<&Source>
-        ensures { MatchOption result (at_path path.now self.now ≡ value) (λ o. o.now ≡ at_path path.now self.now) }
+        ensures { MatchOption result (at_path path.now self.now ≡ value)
+            (λ o. o.now ≡ at_path path.now self.now) }
     {
         match split(path) {
             None => Some(self),
@@ -71,7 +72,8 @@ impl Source {
 
     /// The field of that number, from 0, of the struct; nothing where that is a value.
     fn within(&self, number: usize) -> Option<&Source>
-        ensures { MatchOption result (field_within number self.now ≡ value) (λ o. o.now ≡ field_within number self.now) }
+        ensures { MatchOption result (field_within number self.now ≡ value)
+            (λ o. o.now ≡ field_within number self.now) }
     {
         match &self.form {
             SourceForm::Struct(fields) => fields.nth(number),
@@ -105,7 +107,8 @@ impl Sources {
 
     /// The origin of that number, from 0; nothing behind the last.
     fn nth(&self, number: usize) -> Option<&Source>
-        ensures { MatchOption result (origin_at number (pack_origins self.now) ≡ value) (λ o. o.now ≡ origin_at number (pack_origins self.now)) }
+        ensures { MatchOption result (origin_at number (pack_origins self.now) ≡ value)
+            (λ o. o.now ≡ origin_at number (pack_origins self.now)) }
     {
         self.items.get(number)
     }

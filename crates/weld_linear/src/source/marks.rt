@@ -93,7 +93,8 @@ impl Sources {
     #[cycle(mark)]
     #[tactic(auto, using(crate::proofs::Left::mark_left, crate::proofs::Left::no_mark_left))]
     fn mark(&self, label: Label, path: &Path, alloc: Global) -> Result<Sources, AllocError>
-        ensures { IfOk result (λ os. pack_origins os ≡ all_marked label 0 path.now (pack_origins self.now)) }
+        ensures { IfOk result (λ os. pack_origins os ≡ all_marked label 0 path.now
+            (pack_origins self.now)) }
     {
         let mut items = Vec::new(alloc);
         for (number, item) in self.items.iter().enumerate() {

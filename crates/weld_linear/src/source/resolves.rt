@@ -30,7 +30,8 @@ impl Sources {
     #[cycle(resolve)]
     #[tactic(auto, using(crate::proofs::Left::resolve_left, crate::proofs::Left::no_resolve_left))]
     fn resolve(&self, scope: &Scope, alloc: Global) -> Result<Sources, AllocError>
-        ensures { IfOk result (λ os. pack_origins os ≡ all_resolve scope.now (pack_origins self.now)) }
+        ensures { IfOk result (λ os. pack_origins os ≡ all_resolve scope.now
+            (pack_origins self.now)) }
     {
         let mut items = Vec::new(alloc);
         for item in &self.items {

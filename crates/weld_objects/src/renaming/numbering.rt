@@ -39,7 +39,8 @@ impl Numbering {
     /// Lists what a number becomes from now on. Where memory is wanting, the map stays as it was.
     #[tactic(auto, using(crate::proofs::Looked::looked_up))]
     pub fn put(&mut self, from: Sym, to: Sym) -> Result<(), AllocError>
-        ensures ok { OnOk result ((s : ℕ) → look_for s self.new ≡ (if s == from.0 then Some to.0 else look_for s self.old)) }
+        ensures ok { OnOk result ((s : ℕ) → look_for s self.new
+            ≡ (if s == from.0 then Some to.0 else look_for s self.old)) }
         ensures err { OnErr result (self.new ≡ self.old) }
     {
         self.numbers.insert(from.0, to.0)?;

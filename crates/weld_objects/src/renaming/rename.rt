@@ -20,7 +20,8 @@ pub fn rename(e: &mut Expr, by: &Numbering)
 
 #[cycle(rename)]
 fn rename_form(form: &mut Form, by: &Numbering)
-    ensures { (at : At) → view_form form.new at ≡ renamed (number_in by.now) (view_form form.old at) }
+    ensures { (at : At) → view_form form.new at ≡ renamed (number_in by.now)
+        (view_form form.old at) }
 {
     match form {
         Form::Leaf(leaf) => rename_leaf(leaf, by),

@@ -82,7 +82,8 @@ pub fn write_type(ty: &Ty, out: &mut Text) -> Result<(), AllocError>
 /// Appends two types with a comma between them.
 #[cycle(write)]
 fn write_two(first: &Ty, second: &Ty, out: &mut Text) -> Result<(), AllocError>
-    ensures { OnOk result (out.new ≡ out.old ++ (type_text first.now ++ codes "," ++ type_text second.now)) }
+    ensures { OnOk result (out.new ≡ out.old ++ (type_text first.now ++ codes ","
+        ++ type_text second.now)) }
 {
     write_type(first, out)?;
     out.push(b',')?;

@@ -15,10 +15,15 @@ ghost use Rattle.weld_read_script.specs.RequestsSound.{IsResolved, IsRequest};
 /// Where names are bound to objects that are made, arguments and shown names are such; and a call is asked for
 /// on such, as many as it takes, with an operator that it may have.
 pub fn requests_are_sound()
-    ensures resolved { (n : ℕ) (bs : List Bound) (arguments : List Argument) (rs : List Resolved) → AllByRecursion (λ b. b.object < n) bs
-        → AllByRecursion IsArgument arguments → all_resolved bs arguments ≡ Some rs → AllByRecursion (IsResolved n) rs }
-    ensures shown { (n : ℕ) (bs : List Bound) (names : List (List ℕ)) (ids : List ℕ) → AllByRecursion (λ b. b.object < n) bs
+    ensures resolved { (n : ℕ) (bs : List Bound) (arguments : List Argument) (rs : List Resolved)
+        → AllByRecursion (λ b. b.object < n) bs
+        → AllByRecursion IsArgument arguments → all_resolved bs arguments ≡ Some rs
+        → AllByRecursion (IsResolved n) rs }
+    ensures shown { (n : ℕ) (bs : List Bound) (names : List (List ℕ)) (ids : List ℕ)
+        → AllByRecursion (λ b. b.object < n) bs
         → objects_of bs names ≡ Some ids → AllByRecursion (λ id. id < n) ids }
-    ensures requests { (n : ℕ) (library call : List ℕ) (callee : Callee) (rs : List Resolved) (r : Request)
-        → callee_of library call ≡ Some callee → AllByRecursion (IsResolved n) rs → request_of callee rs ≡ Some r → IsRequest n r }
+    ensures requests { (n : ℕ) (library call : List ℕ) (callee : Callee) (rs : List Resolved)
+        (r : Request)
+        → callee_of library call ≡ Some callee → AllByRecursion (IsResolved n) rs
+        → request_of callee rs ≡ Some r → IsRequest n r }
 {}

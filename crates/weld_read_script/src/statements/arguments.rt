@@ -68,7 +68,8 @@ pub(crate) fn read_arguments(
     alloc: Global,
     parts: &[&[Token]],
 ) -> Result<Option<Arguments>, AllocError>
-    ensures { IfOk result (λ found. found ≡ all_read plain.argument_of (map (λ x. x.now) parts.now)) }
+    ensures { IfOk result (λ found. found ≡ all_read plain.argument_of
+        (map (λ x. x.now) parts.now)) }
 {
     let mut arguments = Arguments::new(alloc);
     for part in parts {

@@ -70,7 +70,8 @@ fn name_of(alloc: Global, part: &[Token]) -> Result<Option<Text>, AllocError>
 
 /// The names of the parts, where each is one.
 pub(crate) fn names_of(alloc: Global, parts: &[&[Token]]) -> Result<Option<Names>, AllocError>
-    ensures { IfOk result (λ names. names ≡ plain.all_read plain.name_of (map (λ x. x.now) parts.now)) }
+    ensures { IfOk result (λ names. names ≡ plain.all_read plain.name_of
+        (map (λ x. x.now) parts.now)) }
 {
     let mut names = Names::new(alloc);
     for part in parts {

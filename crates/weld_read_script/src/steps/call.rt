@@ -99,7 +99,8 @@ impl Known {
     fn place(&mut self, alloc: Global, objects: &[Object]) -> Result<Ids, AllocError>
         requires { length self.old.made + length objects.now < 4294967295 }
         ensures known { IfOk result (λ ids. self.new ≡ plain.with_literals self.old objects.now) }
-        ensures numbers { IfOk result (λ ids. ids ≡ plain.numbers (length self.old.made) objects.now) }
+        ensures numbers { IfOk result (λ ids. ids ≡ plain.numbers (length self.old.made)
+            objects.now) }
     {
         let mut ids = Ids::new(alloc);
         for object in objects {
@@ -159,7 +160,8 @@ impl Known {
     ) -> Result<(), LineFault>
         requires few { length self.old.made ≤ 1000 }
         requires most { self.old.calls ≤ 200 }
-        ensures { Steps (plain.after_callee self.old name arguments.now (Some callee)) result self.new }
+        ensures { Steps (plain.after_callee self.old name arguments.now (Some callee)) result
+            self.new }
     {
         rows_are_short();
         match request_of(alloc, callee, arguments)? {
@@ -179,7 +181,8 @@ impl Known {
     ) -> Result<(), LineFault>
         requires few { length self.old.made ≤ 1000 }
         requires most { self.old.calls ≤ 200 }
-        ensures { Steps (plain.after_names self.old name library.now call.now (Some arguments.now)) result self.new }
+        ensures { Steps (plain.after_names self.old name library.now call.now (Some arguments.now))
+            result self.new }
     {
         match callee_of(library, call) {
             None => Err(LineFault::Refused(Code::S4)),
@@ -198,7 +201,8 @@ impl Known {
     ) -> Result<(), LineFault>
         requires few { length self.old.made ≤ 1000 }
         requires most { self.old.calls ≤ 200 }
-        ensures { Steps (plain.after_call self.old name library.now call.now arguments.now) result self.new }
+        ensures { Steps (plain.after_call self.old name library.now call.now arguments.now) result
+            self.new }
     {
         if self.is_bound(name.as_slice()) {
             return Err(LineFault::Refused(Code::S2));

@@ -13,7 +13,8 @@ use weld_script::laws::scripts_grow;
 
 /// Whatever is known stays true of what is known behind a statement more.
 pub fn statements_keep()
-    ensures { (k next : Known) (st : Statement) → IsKnown k → IsStatement st → after k st ≡ Ok next → IsKnown next }
+    ensures { (k next : Known) (st : Statement) → IsKnown k → IsStatement st → after k st ≡ Ok next
+        → IsKnown next }
 {
     scripts_grow();
     rows_are_short();

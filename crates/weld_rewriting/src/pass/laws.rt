@@ -36,7 +36,8 @@ pub fn rules_may_be_joined()
 pub fn rules_may_follow()
     ensures falls { (n : ℕ) (r s : RootRule) → Falls r → Falls s → Falls (followed n r s) }
     ensures sound { (n : ℕ) (r s : RootRule) → IsSound r → IsSound s → IsSound (followed n r s) }
-    ensures still { (n : ℕ) (r s : RootRule) (e : ExprTree) → IsStill (followed n r s) e → IsStill r e }
+    ensures still { (n : ℕ) (r s : RootRule) (e : ExprTree) → IsStill (followed n r s) e
+        → IsStill r e }
 {
     rewriting_is_an_order();
     tidiness_is_kept();

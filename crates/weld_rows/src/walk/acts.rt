@@ -35,7 +35,8 @@ use weld_tree::{Expr, Exprs, Form};
 #[tactic(auto, using(crate::proofs::ActLemmas::no_turns))]
 pub fn act(e: &Expr, frame: &Frame, builder: &mut Owned, alloc: Global) -> Result<(), Stop>
     requires { ActFits e.now (env_of frame.now) (thing_of builder.old) }
-    ensures { Acts result (act_of e.now (env_of frame.now) (thing_of builder.old)) (thing_of builder.new) }
+    ensures { Acts result (act_of e.now (env_of frame.now) (thing_of builder.old))
+        (thing_of builder.new) }
 {
     match &e.form {
         Form::Leaf(_) => Ok(()),
@@ -55,7 +56,8 @@ pub fn act(e: &Expr, frame: &Frame, builder: &mut Owned, alloc: Global) -> Resul
 fn act_merge(e: &Expr, frame: &Frame, builder: &mut Owned, alloc: Global) -> Result<(), Stop>
     requires acts { ActFits e.now (env_of frame.now) (thing_of builder.old) }
     requires form { IsTwo e.now }
-    ensures { Acts result (act_of e.now (env_of frame.now) (thing_of builder.old)) (thing_of builder.new) }
+    ensures { Acts result (act_of e.now (env_of frame.now) (thing_of builder.old))
+        (thing_of builder.new) }
 {
     match &e.form {
         Form::Two(_, first, item) => match act_first(first, frame, builder, alloc) {
@@ -71,7 +73,8 @@ fn act_merge(e: &Expr, frame: &Frame, builder: &mut Owned, alloc: Global) -> Res
 #[inline(always)]
 fn act_first(e: &Expr, frame: &Frame, builder: &mut Owned, alloc: Global) -> Result<(), Stop>
     requires { ActFits e.now (env_of frame.now) (thing_of builder.old) }
-    ensures { Acts result (act_of e.now (env_of frame.now) (thing_of builder.old)) (thing_of builder.new) }
+    ensures { Acts result (act_of e.now (env_of frame.now) (thing_of builder.old))
+        (thing_of builder.new) }
 {
     match &e.form {
         Form::Leaf(_) => Ok(()),
@@ -85,7 +88,8 @@ fn act_first(e: &Expr, frame: &Frame, builder: &mut Owned, alloc: Global) -> Res
 fn put(item: &Expr, frame: &Frame, builder: &mut Owned, alloc: Global) -> Result<(), Stop>
     requires runs { Runs true item.now (env_of frame.now) }
     requires fits { PutFits item.now (env_of frame.now) (thing_of builder.old) }
-    ensures { Acts result (merged (thing_of builder.old) (eval_of item.now (env_of frame.now))) (thing_of builder.new) }
+    ensures { Acts result (merged (thing_of builder.old) (eval_of item.now (env_of frame.now)))
+        (thing_of builder.new) }
 {
     match tried(item, frame, alloc) {
         Ok(Some(n)) => put_number(builder, n),
@@ -123,7 +127,8 @@ pub(super) fn tried(e: &Expr, frame: &Frame, alloc: Global) -> Result<Option<Sho
 fn put_other(item: &Expr, frame: &Frame, builder: &mut Owned, alloc: Global) -> Result<(), Stop>
     requires runs { Runs true item.now (env_of frame.now) }
     requires fits { PutFits item.now (env_of frame.now) (thing_of builder.old) }
-    ensures { Acts result (merged (thing_of builder.old) (eval_of item.now (env_of frame.now))) (thing_of builder.new) }
+    ensures { Acts result (merged (thing_of builder.old) (eval_of item.now (env_of frame.now)))
+        (thing_of builder.new) }
 {
     match leaf_pair(item, frame) {
         Some(found) => put_two(builder, found.0, found.1, alloc),
@@ -136,7 +141,8 @@ fn put_other(item: &Expr, frame: &Frame, builder: &mut Owned, alloc: Global) -> 
 fn put_compound(item: &Expr, frame: &Frame, builder: &mut Owned, alloc: Global) -> Result<(), Stop>
     requires runs { Runs true item.now (env_of frame.now) }
     requires fits { PutFits item.now (env_of frame.now) (thing_of builder.old) }
-    ensures { Acts result (merged (thing_of builder.old) (eval_of item.now (env_of frame.now))) (thing_of builder.new) }
+    ensures { Acts result (merged (thing_of builder.old) (eval_of item.now (env_of frame.now)))
+        (thing_of builder.new) }
 {
     if is_pair(item) {
         put_written(item, frame, builder, alloc)
@@ -151,7 +157,8 @@ fn put_compound(item: &Expr, frame: &Frame, builder: &mut Owned, alloc: Global) 
 fn put_made(item: &Expr, frame: &Frame, builder: &mut Owned, alloc: Global) -> Result<(), Stop>
     requires runs { Runs true item.now (env_of frame.now) }
     requires fits { PutFits item.now (env_of frame.now) (thing_of builder.old) }
-    ensures { Acts result (merged (thing_of builder.old) (eval_of item.now (env_of frame.now))) (thing_of builder.new) }
+    ensures { Acts result (merged (thing_of builder.old) (eval_of item.now (env_of frame.now)))
+        (thing_of builder.new) }
 {
     match value(item, &*frame, true, alloc) {
         Ok(x) => put_held(builder, x, alloc),
@@ -166,7 +173,8 @@ fn put_written(item: &Expr, frame: &Frame, builder: &mut Owned, alloc: Global) -
     requires runs { Runs true item.now (env_of frame.now) }
     requires fits { PutFits item.now (env_of frame.now) (thing_of builder.old) }
     requires form { IsWrittenPair item.now }
-    ensures { Acts result (merged (thing_of builder.old) (eval_of item.now (env_of frame.now))) (thing_of builder.new) }
+    ensures { Acts result (merged (thing_of builder.old) (eval_of item.now (env_of frame.now)))
+        (thing_of builder.new) }
 {
     match &item.form {
         Form::Many(_, parts) => {
@@ -194,7 +202,8 @@ fn put_written(item: &Expr, frame: &Frame, builder: &mut Owned, alloc: Global) -
 fn act_if(e: &Expr, frame: &Frame, builder: &mut Owned, alloc: Global) -> Result<(), Stop>
     requires acts { ActFits e.now (env_of frame.now) (thing_of builder.old) }
     requires form { IsTriple e.now }
-    ensures { Acts result (act_of e.now (env_of frame.now) (thing_of builder.old)) (thing_of builder.new) }
+    ensures { Acts result (act_of e.now (env_of frame.now) (thing_of builder.old))
+        (thing_of builder.new) }
 {
     match &e.form {
         Form::Three(_, condition, then, otherwise) => {
@@ -218,7 +227,8 @@ fn act_if(e: &Expr, frame: &Frame, builder: &mut Owned, alloc: Global) -> Result
 fn act_let(e: &Expr, frame: &Frame, builder: &mut Owned, alloc: Global) -> Result<(), Stop>
     requires acts { ActFits e.now (env_of frame.now) (thing_of builder.old) }
     requires form { IsLet e.now }
-    ensures { Acts result (act_of e.now (env_of frame.now) (thing_of builder.old)) (thing_of builder.new) }
+    ensures { Acts result (act_of e.now (env_of frame.now) (thing_of builder.old))
+        (thing_of builder.new) }
 {
     match &e.form {
         Form::Let(binder, first, body) => match tried(first, frame, alloc) {
@@ -239,7 +249,8 @@ fn act_let(e: &Expr, frame: &Frame, builder: &mut Owned, alloc: Global) -> Resul
 fn act_let_value(e: &Expr, frame: &Frame, builder: &mut Owned, alloc: Global) -> Result<(), Stop>
     requires acts { ActFits e.now (env_of frame.now) (thing_of builder.old) }
     requires form { IsLet e.now }
-    ensures { Acts result (act_of e.now (env_of frame.now) (thing_of builder.old)) (thing_of builder.new) }
+    ensures { Acts result (act_of e.now (env_of frame.now) (thing_of builder.old))
+        (thing_of builder.new) }
 {
     match &e.form {
         Form::Let(binder, first, body) => {
@@ -262,7 +273,8 @@ fn act_let_value(e: &Expr, frame: &Frame, builder: &mut Owned, alloc: Global) ->
 fn act_loop(e: &Expr, frame: &Frame, builder: &mut Owned, alloc: Global) -> Result<(), Stop>
     requires acts { ActFits e.now (env_of frame.now) (thing_of builder.old) }
     requires form { IsLoop e.now }
-    ensures { Acts result (act_of e.now (env_of frame.now) (thing_of builder.old)) (thing_of builder.new) }
+    ensures { Acts result (act_of e.now (env_of frame.now) (thing_of builder.old))
+        (thing_of builder.new) }
 {
     match &e.form {
         Form::For(legs, _, _, _, _, _) => match eval_legs(legs, &*frame, true, alloc) {
@@ -287,7 +299,8 @@ fn act_over(
     requires form { IsLoop e.now }
     requires legs { LegsAre e.now (env_of frame.now) (leg_lists vectors.now) }
     requires vectors { AreVectors vectors.now }
-    ensures { Acts result (act_of e.now (env_of frame.now) (thing_of builder.old)) (thing_of builder.new) }
+    ensures { Acts result (act_of e.now (env_of frame.now) (thing_of builder.old))
+        (thing_of builder.new) }
 {
     match &e.form {
         Form::For(_, start, _, _, _, _) => {
@@ -321,7 +334,8 @@ fn act_over(
 fn act_struct(e: &Expr, frame: &Frame, builder: &mut Owned, alloc: Global) -> Result<(), Stop>
     requires acts { ActFits e.now (env_of frame.now) (thing_of builder.old) }
     requires form { IsMany e.now }
-    ensures { Acts result (act_of e.now (env_of frame.now) (thing_of builder.old)) (thing_of builder.new) }
+    ensures { Acts result (act_of e.now (env_of frame.now) (thing_of builder.old))
+        (thing_of builder.new) }
 {
     match &e.form {
         Form::Many(_, parts) => match builder {
@@ -342,8 +356,10 @@ fn act_fields(
     fields: &mut Fields,
     alloc: Global,
 ) -> Result<(), Stop>
-    requires { ActsFit (pack_exprs (drop_items number parts.now)) (env_of frame.now) (things_of fields.old) }
-    ensures { ActAll result (act_all (pack_exprs (drop_items number parts.now)) (env_of frame.now) (things_of fields.old)) (things_of fields.new) }
+    requires { ActsFit (pack_exprs (drop_items number parts.now)) (env_of frame.now)
+        (things_of fields.old) }
+    ensures { ActAll result (act_all (pack_exprs (drop_items number parts.now)) (env_of frame.now)
+        (things_of fields.old)) (things_of fields.new) }
 {
     match fields {
         Fields::End => Ok(()),

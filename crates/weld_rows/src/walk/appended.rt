@@ -35,9 +35,11 @@ pub(super) fn append_rows(
     builder: &mut Owned,
     alloc: Global,
 ) -> Result<(), Stop>
-    requires rows { HoldsRange e.now (env_of frame.now) (lists_of legs.now) from to (thing_of builder.old) }
+    requires rows { HoldsRange e.now (env_of frame.now) (lists_of legs.now) from to
+        (thing_of builder.old) }
     requires form { IsLoop e.now }
-    ensures { Acts result (range_over e.now (env_of frame.now) (lists_of legs.now) from to (thing_of builder.old)) (thing_of builder.new) }
+    ensures { Acts result (range_over e.now (env_of frame.now) (lists_of legs.now) from to
+        (thing_of builder.old)) (thing_of builder.new) }
 {
     for number in from..to {
         match append_row(e, &*frame, &*legs, number, builder, alloc) {
@@ -60,9 +62,11 @@ fn append_row(
     alloc: Global,
 ) -> Result<(), Stop>
     requires there { number < length_of (rows_in (lists_of legs.now)) }
-    requires holds { HoldsRow e.now (env_of frame.now) (thing_of builder.old) (row_in (lists_of legs.now) number) }
+    requires holds { HoldsRow e.now (env_of frame.now) (thing_of builder.old)
+        (row_in (lists_of legs.now) number) }
     requires form { IsLoop e.now }
-    ensures { RowAnswer result e.now (env_of frame.now) (number, row_in (lists_of legs.now) number) (thing_of builder.old) (thing_of builder.new) }
+    ensures { RowAnswer result e.now (env_of frame.now) (number, row_in (lists_of legs.now) number)
+        (thing_of builder.old) (thing_of builder.new) }
 {
     match &e.form {
         Form::For(_, _, own_binder, count_binder, row_binder, body) => {
@@ -87,7 +91,8 @@ fn append_row(
 fn append_body(body: &Expr, frame: &Frame, builder: &mut Owned, alloc: Global) -> Result<(), Stop>
     requires runs { Runs false body.now (env_of frame.now) }
     requires joins { Joins body.now (env_of frame.now) (thing_of builder.old) }
-    ensures { BodyAnswer result body.now (env_of frame.now) (thing_of builder.old) (thing_of builder.new) }
+    ensures { BodyAnswer result body.now (env_of frame.now) (thing_of builder.old)
+        (thing_of builder.new) }
 {
     match value(body, &*frame, false, alloc) {
         Ok(merged) => append(builder, merged, alloc),

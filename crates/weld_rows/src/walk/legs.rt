@@ -30,7 +30,8 @@ pub(super) fn eval_legs<'a>(
     alloc: Global,
 ) -> Result<Vec<Held<'a>>, Stop>
     requires { LegsRun in_place (pack_legs legs.now) (env_of frame.now) }
-    ensures lists { Answers (λ vectors. leg_lists vectors.items) result (eval_legs_of (pack_legs legs.now) (env_of frame.now)) }
+    ensures lists { Answers (λ vectors. leg_lists vectors.items) result
+        (eval_legs_of (pack_legs legs.now) (env_of frame.now)) }
     ensures vectors { IfOk result (λ vectors. AreVectors vectors.items) }
 {
     let mut vectors = Vec::new(alloc);
@@ -56,7 +57,8 @@ fn eval_leg<'a>(
     alloc: Global,
 ) -> Result<Held<'a>, Stop>
     requires { LegRuns in_place (view_leg leg.now) (env_of frame.now) }
-    ensures elements { Answers elements_in result (eval_leg_of (view_leg leg.now) (env_of frame.now)) }
+    ensures elements { Answers elements_in result (eval_leg_of (view_leg leg.now)
+        (env_of frame.now)) }
     ensures vector { IfOk result (λ x. IsVector (held_of x)) }
 {
     match leg {
@@ -79,7 +81,8 @@ fn eval_strided<'a>(
 ) -> Result<Held<'a>, Stop>
     requires runs { LegRuns in_place (view_leg leg.now) (env_of frame.now) }
     requires form { IsStrided (view_leg leg.now) }
-    ensures elements { Answers elements_in result (eval_leg_of (view_leg leg.now) (env_of frame.now)) }
+    ensures elements { Answers elements_in result (eval_leg_of (view_leg leg.now)
+        (env_of frame.now)) }
     ensures vector { IfOk result (λ x. IsVector (held_of x)) }
 {
     match leg {

@@ -44,10 +44,12 @@ pub fn hand_through(
     builder: &mut Owned,
     alloc: Global,
 ) -> Result<(), Stop>
-    requires rows { HoldsRange e.now (env_of frame.now) (lists_of legs.now) from to (thing_of builder.old) }
+    requires rows { HoldsRange e.now (env_of frame.now) (lists_of legs.now) from to
+        (thing_of builder.old) }
     requires direct { in_place ≡ true → AreDirect e.now }
     requires form { IsLoop e.now }
-    ensures { Acts result (range_over e.now (env_of frame.now) (lists_of legs.now) from to (thing_of builder.old)) (thing_of builder.new) }
+    ensures { Acts result (range_over e.now (env_of frame.now) (lists_of legs.now) from to
+        (thing_of builder.old)) (thing_of builder.new) }
 {
     if in_place {
         run_rows(e, frame, legs, from, to, builder, alloc)
@@ -69,10 +71,12 @@ fn run_rows(
     builder: &mut Owned,
     alloc: Global,
 ) -> Result<(), Stop>
-    requires rows { HoldsRange e.now (env_of frame.now) (lists_of legs.now) from to (thing_of builder.old) }
+    requires rows { HoldsRange e.now (env_of frame.now) (lists_of legs.now) from to
+        (thing_of builder.old) }
     requires direct { AreDirect e.now }
     requires form { IsLoop e.now }
-    ensures { Acts result (range_over e.now (env_of frame.now) (lists_of legs.now) from to (thing_of builder.old)) (thing_of builder.new) }
+    ensures { Acts result (range_over e.now (env_of frame.now) (lists_of legs.now) from to
+        (thing_of builder.old)) (thing_of builder.new) }
 {
     let own = match bare_thing(builder, alloc) {
         Ok(own) => own,
@@ -96,10 +100,12 @@ fn run_blocks(
     builder: &mut Owned,
     alloc: Global,
 ) -> Result<(), Stop>
-    requires on { RangeOn e.now (env_of frame.now) (lists_of legs.now) from to (thing_of builder.old) (thing_of own.now) from (thing_of builder.old) }
+    requires on { RangeOn e.now (env_of frame.now) (lists_of legs.now) from to
+        (thing_of builder.old) (thing_of own.now) from (thing_of builder.old) }
     requires direct { AreDirect e.now }
     requires form { IsLoop e.now }
-    ensures { Acts result (range_over e.now (env_of frame.now) (lists_of legs.now) from to (thing_of builder.old)) (thing_of builder.new) }
+    ensures { Acts result (range_over e.now (env_of frame.now) (lists_of legs.now) from to
+        (thing_of builder.old)) (thing_of builder.new) }
 {
     let mut reached = from;
     let mut tries = to - from >= FEW;
@@ -136,10 +142,12 @@ fn run_block(
     builder: &mut Owned,
     alloc: Global,
 ) -> Result<bool, Stop>
-    requires on { RangeOn e.now (env_of frame.now) (lists_of legs.now) from to (thing_of builder.old) (thing_of own.now) from (thing_of builder.old) }
+    requires on { RangeOn e.now (env_of frame.now) (lists_of legs.now) from to
+        (thing_of builder.old) (thing_of own.now) from (thing_of builder.old) }
     requires direct { AreDirect e.now }
     requires form { IsLoop e.now }
-    ensures { Acts result (range_over e.now (env_of frame.now) (lists_of legs.now) from to (thing_of builder.old)) (thing_of builder.new) }
+    ensures { Acts result (range_over e.now (env_of frame.now) (lists_of legs.now) from to
+        (thing_of builder.old)) (thing_of builder.new) }
 {
     if tries {
         try_block(e, frame, own, legs, from, to, builder, alloc)
@@ -161,10 +169,12 @@ fn try_block(
     builder: &mut Owned,
     alloc: Global,
 ) -> Result<bool, Stop>
-    requires on { RangeOn e.now (env_of frame.now) (lists_of legs.now) from to (thing_of builder.old) (thing_of own.now) from (thing_of builder.old) }
+    requires on { RangeOn e.now (env_of frame.now) (lists_of legs.now) from to
+        (thing_of builder.old) (thing_of own.now) from (thing_of builder.old) }
     requires direct { AreDirect e.now }
     requires form { IsLoop e.now }
-    ensures { Acts result (range_over e.now (env_of frame.now) (lists_of legs.now) from to (thing_of builder.old)) (thing_of builder.new) }
+    ensures { Acts result (range_over e.now (env_of frame.now) (lists_of legs.now) from to
+        (thing_of builder.old)) (thing_of builder.new) }
 {
     match block_of(e, &*frame, own, &*legs, from, to - from, alloc) {
         Some(deed) => do_block(e, frame, own, legs, from, to, deed, builder),
@@ -184,10 +194,12 @@ fn walk_block(
     builder: &mut Owned,
     alloc: Global,
 ) -> Result<bool, Stop>
-    requires on { RangeOn e.now (env_of frame.now) (lists_of legs.now) from to (thing_of builder.old) (thing_of own.now) from (thing_of builder.old) }
+    requires on { RangeOn e.now (env_of frame.now) (lists_of legs.now) from to
+        (thing_of builder.old) (thing_of own.now) from (thing_of builder.old) }
     requires direct { AreDirect e.now }
     requires form { IsLoop e.now }
-    ensures { Acts result (range_over e.now (env_of frame.now) (lists_of legs.now) from to (thing_of builder.old)) (thing_of builder.new) }
+    ensures { Acts result (range_over e.now (env_of frame.now) (lists_of legs.now) from to
+        (thing_of builder.old)) (thing_of builder.new) }
 {
     match walk_rows(e, frame, own, legs, from, to, builder, alloc) {
         Ok(()) => Ok(false),
@@ -208,10 +220,12 @@ fn walk_rows(
     builder: &mut Owned,
     alloc: Global,
 ) -> Result<(), Stop>
-    requires on { RangeOn e.now (env_of frame.now) (lists_of legs.now) from to (thing_of builder.old) (thing_of own.now) from (thing_of builder.old) }
+    requires on { RangeOn e.now (env_of frame.now) (lists_of legs.now) from to
+        (thing_of builder.old) (thing_of own.now) from (thing_of builder.old) }
     requires direct { AreDirect e.now }
     requires form { IsLoop e.now }
-    ensures { Acts result (range_over e.now (env_of frame.now) (lists_of legs.now) from to (thing_of builder.old)) (thing_of builder.new) }
+    ensures { Acts result (range_over e.now (env_of frame.now) (lists_of legs.now) from to
+        (thing_of builder.old)) (thing_of builder.new) }
 {
     for number in from..to {
         match run_row(e, &*frame, own, &*legs, number, builder, alloc) {
@@ -234,8 +248,10 @@ fn run_row(
     alloc: Global,
 ) -> Result<(), Stop>
     requires there { number < length_of (rows_in (lists_of legs.now)) }
-    requires fits { RowActFits e.now (env_of frame.now) (thing_of own.now) (number, row_in (lists_of legs.now) number) (thing_of builder.old) }
-    ensures { Acts result (row_act e.now (env_of frame.now) (thing_of own.now) (number, row_in (lists_of legs.now) number) (thing_of builder.old)) (thing_of builder.new) }
+    requires fits { RowActFits e.now (env_of frame.now) (thing_of own.now)
+        (number, row_in (lists_of legs.now) number) (thing_of builder.old) }
+    ensures { Acts result (row_act e.now (env_of frame.now) (thing_of own.now)
+        (number, row_in (lists_of legs.now) number) (thing_of builder.old)) (thing_of builder.new) }
 {
     match &e.form {
         Form::For(_, _, own_binder, count_binder, row_binder, body) => {

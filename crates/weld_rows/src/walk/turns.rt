@@ -73,7 +73,8 @@ pub fn run_turns<'a>(
     requires state { HoldsState e.now (env_of frame.now) (view_val start) }
     requires direct { in_place ≡ true → AreDirect e.now }
     requires form { IsIterate e.now }
-    ensures { Answers held_of result (turns_from e.now (env_of frame.now) turn_limit (view_val start)) }
+    ensures { Answers held_of result (turns_from e.now (env_of frame.now) turn_limit
+        (view_val start)) }
 {
     match turns_in_slots(e, &*frame, &start, alloc) {
         Some(result) => return result,

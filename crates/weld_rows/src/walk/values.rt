@@ -269,7 +269,8 @@ fn value_of_many<'a>(
 #[tactic(auto, using(crate::proofs::Parts::part_runs_at, crate::proofs::Parts::rest_runs, weld_eval_plain::proofs::Parts::part_done, weld_eval_plain::proofs::Parts::part_faults, weld_eval_plain::proofs::Parts::no_part_left))]
 fn things(parts: &Exprs, frame: &Frame, in_place: bool, alloc: Global) -> Result<Vec<Owned>, Stop>
     requires { AllRun in_place (pack_exprs parts.now) (env_of frame.now) }
-    ensures { Answers (λ things. pack_things (all_of things.items)) result (eval_all (pack_exprs parts.now) (env_of frame.now)) }
+    ensures { Answers (λ things. pack_things (all_of things.items)) result
+        (eval_all (pack_exprs parts.now) (env_of frame.now)) }
 {
     let mut things = Vec::new(alloc);
     for part in parts.as_slice() {
@@ -377,12 +378,14 @@ fn fill<'a>(
     builder: Held,
     alloc: Global,
 ) -> Result<Held<'a>, Stop>
-    requires rows { HoldsRange e.now (env_of frame.now) (leg_lists vectors.now) 0 count (held_of builder) }
+    requires rows { HoldsRange e.now (env_of frame.now) (leg_lists vectors.now) 0 count
+        (held_of builder) }
     requires direct { in_place ≡ true → AreDirect e.now }
     requires form { IsLoop e.now }
     requires legs { length_of vectors.now ≤ legs_count e.now }
     requires vectors { AreVectors vectors.now }
-    ensures { Answers held_of result (range_over e.now (env_of frame.now) (leg_lists vectors.now) 0 count (held_of builder.entry)) }
+    ensures { Answers held_of result (range_over e.now (env_of frame.now) (leg_lists vectors.now) 0
+        count (held_of builder.entry)) }
 {
     let mut builder = match into_owned(builder, alloc) {
         Ok(builder) => builder,
@@ -418,13 +421,15 @@ pub(super) fn reach(
     builder: &mut Owned,
     alloc: Global,
 ) -> Result<(), Stop>
-    requires rows { HoldsRange e.now (env_of frame.now) (leg_lists vectors.now) 0 count (thing_of builder.old) }
+    requires rows { HoldsRange e.now (env_of frame.now) (leg_lists vectors.now) 0 count
+        (thing_of builder.old) }
     requires direct { in_place ≡ true → AreDirect e.now }
     requires form { IsLoop e.now }
     requires left { left ≤ length_of vectors.now }
     requires legs { lists_of legs.now ≡ drop_items left (leg_lists vectors.now) }
     requires vectors { AreVectors vectors.now }
-    ensures { Acts result (range_over e.now (env_of frame.now) (leg_lists vectors.now) 0 count (thing_of builder.old)) (thing_of builder.new) }
+    ensures { Acts result (range_over e.now (env_of frame.now) (leg_lists vectors.now) 0 count
+        (thing_of builder.old)) (thing_of builder.new) }
 {
     if left == 0 {
         hand_through(e, frame, legs, 0, count, in_place, builder, alloc)

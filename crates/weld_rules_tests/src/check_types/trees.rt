@@ -12,7 +12,8 @@ use weld_tree::{
 
 /// A node of this form in that column of the first line, its type not known.
 pub fn node(alloc: Global, form: Form, column: u32) -> Result<Box<Expr>, AllocError>
-    ensures { IfOk result (λ e. e.value ≡ view_form form (record { place = record { line = 1; column = column }; ty = Blank })) }
+    ensures { IfOk result (λ e. e.value ≡ view_form form
+        (record { place = record { line = 1; column = column }; ty = Blank })) }
 {
     let place = Place { line: 1, column };
     let ty = Known::Blank;

@@ -34,7 +34,8 @@ pub fn node(alloc: Global, form: Form, place: Place) -> Result<Box<Expr>, AllocE
 
 /// The form of `appender[i64]`.
 pub fn appender(alloc: Global) -> Result<Form, AllocError>
-    ensures { IfOk result (λ form. (a : At) → view_form form a ≡ leaf a (fresh (list (scalar I64)))) }
+    ensures { IfOk result (λ form. (a : At) → view_form form a
+        ≡ leaf a (fresh (list (scalar I64)))) }
 {
     let ty = Box::new(alloc, Ty::scalar(Kind::I64))?;
     Ok(Form::Leaf(LeafForm::Builder(BuildTy::List(ty))))

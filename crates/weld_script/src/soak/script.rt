@@ -14,7 +14,8 @@ use weld_tree::{Ty, Tys};
 
 /// The table's declaration.
 fn table(alloc: Global) -> Result<Declared, AllocError>
-    ensures { IfOk result (λ declared. declared ≡ Table ((107 ∷ []) ∷ (120 ∷ []) ∷ (121 ∷ []) ∷ []) (number_type ∷ number_type ∷ number_type ∷ [])) }
+    ensures { IfOk result (λ declared. declared ≡ Table ((107 ∷ []) ∷ (120 ∷ []) ∷ (121 ∷ []) ∷ [])
+        (number_type ∷ number_type ∷ number_type ∷ [])) }
 {
     let mut names = Names::new(alloc);
     names.push(Text::copy_of(alloc, b"k")?)?;

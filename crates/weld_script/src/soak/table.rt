@@ -35,9 +35,12 @@ fn draw_below(bound: u64, number: u64) -> i64
 /// One row more, by three draws: the generator's number after them.
 fn add_row(columns: &mut Columns, number: u64) -> Result<u64, AllocError>
     requires { number < 2147483648 }
-    ensures k { OnOk result (columns.new.k ≡ columns.old.k ++ pos (draw_below 8 (next_number number)) ∷ []) }
-    ensures x { OnOk result (columns.new.x ≡ columns.old.x ++ pos (draw_below 100 (next_number (next_number number))) ∷ []) }
-    ensures y { OnOk result (columns.new.y ≡ columns.old.y ++ pos (draw_below 100 (next_number (next_number (next_number number)))) ∷ []) }
+    ensures k { OnOk result (columns.new.k ≡ columns.old.k
+        ++ pos (draw_below 8 (next_number number)) ∷ []) }
+    ensures x { OnOk result (columns.new.x ≡ columns.old.x
+        ++ pos (draw_below 100 (next_number (next_number number))) ∷ []) }
+    ensures y { OnOk result (columns.new.y ≡ columns.old.y
+        ++ pos (draw_below 100 (next_number (next_number (next_number number)))) ∷ []) }
     ensures number { IfOk result (λ n. n ≡ next_number (next_number (next_number number))) }
     ensures small { IfOk result (λ n. n < 2147483648) }
 {

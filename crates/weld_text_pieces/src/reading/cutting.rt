@@ -46,7 +46,8 @@ pub(crate) fn cut_pieces<'a>(
     cut_at: CutAt,
 ) -> Result<Vec<&'a [u8]>, AllocError>
     ensures some { IfOk result (λ pieces. 0 < length pieces.items) }
-    ensures pieces { IfOk result (λ pieces. text.now ≡ with_commas (map (λ p. p.now) pieces.items)) }
+    ensures pieces { IfOk result (λ pieces. text.now ≡ with_commas
+        (map (λ p. p.now) pieces.items)) }
 {
     let mut pieces = Vec::new(alloc);
     let mut rest = text;

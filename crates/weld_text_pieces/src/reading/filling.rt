@@ -136,11 +136,13 @@ fn fill_halves<R: Threads + Sync, P: Send, F: FillsPlaces<P>>(
 {
     let mut front = || -> bool
         requires { IsSync R.row × IsSend P.row × IsSync F.row }
-        ensures { result ≡ true → ArePlaced (F.form fills.entry.now) F.value first.entry.now low.exit.now }
+        ensures { result ≡ true → ArePlaced (F.form fills.entry.now) F.value first.entry.now
+            low.exit.now }
     { fill_pieces(rt, fills, first, first_counts, low) };
     let mut back = || -> bool
         requires { IsSync R.row × IsSend P.row × IsSync F.row }
-        ensures { result ≡ true → ArePlaced (F.form fills.entry.now) F.value last.entry.now high.exit.now }
+        ensures { result ≡ true → ArePlaced (F.form fills.entry.now) F.value last.entry.now
+            high.exit.now }
     { fill_pieces(rt, fills, last, last_counts, high) };
     let (is_first, is_last) = join_mut(rt, &mut front, &mut back);
     is_first && is_last
@@ -155,7 +157,8 @@ pub(crate) fn read_filled<T: Cell + Send + Default>(
     workers: u32,
 ) -> Result<Option<Items<T>>, AllocError>
     requires { 0 < workers }
-    ensures { IfOk result (λ found. IfSome found (λ items. AreValues (scalar T.kind) text.now (map T.value items))) }
+    ensures { IfOk result (λ found. IfSome found (λ items. AreValues (scalar T.kind) text.now
+        (map T.value items))) }
 {
     scalars_join_at_commas();
     let pieces = cut_pieces(alloc, text, text.len() / workers as usize, CutAt::Comma)?;

@@ -32,7 +32,8 @@ fn read_column(
     workers: u32,
 ) -> Result<Option<Column>, AllocError>
     requires { 0 < workers }
-    ensures { IfOk result (λ found. IfSome found (λ column. AreValues (scalar kind) text.now (view_column column))) }
+    ensures { IfOk result (λ found. IfSome found (λ column. AreValues (scalar kind) text.now
+        (view_column column))) }
 {
     match kind {
         Kind::Bool => Ok(match read_filled::<bool>(rt, alloc, text, workers)? {
@@ -83,7 +84,8 @@ fn read_nested_list(
     workers: u32,
 ) -> Result<Option<Val>, AllocError>
     requires { 0 < workers }
-    ensures { IfOk result (λ found. IfSome found (λ v. ReadsAs content.now (vec item.now) (view_val v))) }
+    ensures { IfOk result (λ found. IfSome found (λ v. ReadsAs content.now (vec item.now)
+        (view_val v))) }
 {
     plain_values_in_brackets_read_as_lists();
     if !is_shallow(item) {

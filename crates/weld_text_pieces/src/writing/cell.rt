@@ -20,7 +20,8 @@ pub(crate) trait Cell: Copy + Drop {
     fn write_before(self, bytes: &mut [u8], end: usize) -> usize
         requires room { (21 ≤ end) × (end ≤ length bytes.old) }
         ensures begin { (result < end) × (end ≤ result + 21) }
-        ensures written { drop result bytes.new ≡ 44 ∷ shown_scalar (value self) ++ drop end bytes.old };
+        ensures written { drop result bytes.new ≡ 44 ∷ shown_scalar (value self)
+            ++ drop end bytes.old };
 }
 
 /// Writes a byte right before this place, and answers where it stands.
@@ -51,7 +52,8 @@ fn put_number(number: i64, bytes: &mut [u8], end: usize) -> usize
 fn put_natural(number: u64, bytes: &mut [u8], end: usize) -> usize
     requires room { (21 ≤ end) × (end ≤ length bytes.old) }
     ensures begin { (result < end) × (end ≤ result + 21) }
-    ensures written { drop result bytes.new ≡ 44 ∷ signed_decimal (pos number) ++ drop end bytes.old }
+    ensures written { drop result bytes.new ≡ 44 ∷ signed_decimal (pos number)
+        ++ drop end bytes.old }
 {
     let digits = write_digits(number, bytes, end);
     put_before(b',', bytes, digits)

@@ -18,7 +18,8 @@ fn write_pieces<T: Cell + Sync>(
     size: usize,
 ) -> Result<Vec<Text>, AllocError>
     requires { 0 < size }
-    ensures { IfOk result (λ texts. flat_map (λ text. text) texts.items ≡ led 44 shown_scalar (map T.value items.now)) }
+    ensures { IfOk result (λ texts. flat_map (λ text. text) texts.items
+        ≡ led 44 shown_scalar (map T.value items.now)) }
 {
     let texts: Result<Vec<Text>, AllocError> = items
         .par_chunks(size)

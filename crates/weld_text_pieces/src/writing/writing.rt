@@ -28,7 +28,8 @@ fn append_many<T: Cell + Sync>(
 ) -> Result<bool, AllocError>
     requires { 0 < workers }
     ensures { IfOk result (λ is_done. MatchBool is_done
-        ((0 < length items.now) × (out.new ≡ out.old ++ shown_list shown_scalar (map T.value items.now)))
+        ((0 < length items.now) × (out.new ≡ out.old ++ shown_list shown_scalar
+        (map T.value items.now)))
         (out.new ≡ out.old)) }
 {
     if items.len() < SHORT {
@@ -101,7 +102,8 @@ fn append_struct(
 ) -> Result<(), AllocError>
     requires typed { HaveValues (pack fields.now) (values vals.now) }
     requires some_worker { 0 < workers }
-    ensures { OnOk result (out.new ≡ out.old ++ (show_fields (pack fields.now) 123 (values vals.now) ++ codes "}")) }
+    ensures { OnOk result (out.new ≡ out.old ++ (show_fields (pack fields.now) 123 (values vals.now)
+        ++ codes "}")) }
 {
     let types = fields.as_slice();
     let mut lead = b'{';

@@ -98,7 +98,8 @@ pub(crate) fn nodes_of(e: &Expr, levels: u32) -> Nodes
 #[cycle(nodes)]
 #[tactic(auto, using(crate::proofs::Left::deep_left, crate::proofs::Left::no_deep_left, crate::proofs::Left::lets_left, crate::proofs::Left::no_lets_left))]
 fn nodes_in(es: &Exprs, levels: u32, found: Nodes) -> Nodes
-    ensures too_deep { result.too_deep ≡ depth.first_deep_in levels found.too_deep (pack_exprs es.now) }
+    ensures too_deep { result.too_deep ≡ depth.first_deep_in levels found.too_deep
+        (pack_exprs es.now) }
     ensures lets { result.lets ≡ min (found.lets + lets.lets_in (pack_exprs es.now)) u64.MAX }
 {
     let mut first = found.too_deep;
@@ -128,7 +129,8 @@ fn nodes_in_leg(leg: &Leg, levels: u32) -> Nodes
 #[cycle(nodes)]
 #[tactic(auto, using(crate::proofs::Left::leg_deep_left, crate::proofs::Left::no_leg_deep_left, crate::proofs::Left::leg_lets_left, crate::proofs::Left::no_leg_lets_left))]
 fn nodes_in_legs(legs: &Legs, levels: u32, found: Nodes) -> Nodes
-    ensures too_deep { result.too_deep ≡ depth.first_deep_in_legs levels found.too_deep (pack_legs legs.now) }
+    ensures too_deep { result.too_deep ≡ depth.first_deep_in_legs levels found.too_deep
+        (pack_legs legs.now) }
     ensures lets { result.lets ≡ min (found.lets + lets.lets_in_legs (pack_legs legs.now)) u64.MAX }
 {
     let mut first = found.too_deep;

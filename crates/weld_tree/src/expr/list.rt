@@ -106,7 +106,8 @@ impl Legs {
     #[tactic(auto, using(crate::proofs::Parts::legs_parts))]
     pub fn as_slice(&self) -> &[Leg]
         ensures value { map view_leg result.now ≡ self.now }
-        ensures parts { All (λ leg. leg_nodes (view_leg leg) ≤ legs_nodes (pack_legs self.now)) result.now }
+        ensures parts { All (λ leg. leg_nodes (view_leg leg) ≤ legs_nodes (pack_legs self.now))
+            result.now }
     {
         self.items.as_slice()
     }
@@ -115,7 +116,8 @@ impl Legs {
     pub fn as_mut_slice(&mut self) -> &mut [Leg]
         ensures* writes_back { sem 𝓛 (LendsLegs self.entry result) }
         ensures value { map view_leg result.now ≡ self.old }
-        ensures parts { All (λ leg. leg_nodes (view_leg leg) ≤ legs_nodes (pack_legs self.old)) result.now }
+        ensures parts { All (λ leg. leg_nodes (view_leg leg) ≤ legs_nodes (pack_legs self.old))
+            result.now }
     {
         self.items.as_mut_slice()
     }

@@ -24,7 +24,8 @@ pub fn row_type(
     place: Place,
     alloc: Global,
 ) -> Result<Ty, Refusal>
-    ensures { Says result (at_node place (row_by (elements (pack vectors.now)) (pack bounds.now) builder.now)) }
+    ensures { Says result (at_node place (row_by (elements (pack vectors.now)) (pack bounds.now)
+        builder.now)) }
 {
     let elements = match elements(vectors.as_slice(), alloc) {
         Ok(Some(elements)) => elements,
@@ -43,7 +44,8 @@ pub fn row_type(
 /// The types of the elements of these vectors, if each is one.
 #[tactic(auto, using(crate::proofs::Elements::element_left, crate::proofs::Elements::no_element_left, crate::proofs::Elements::element_missing))]
 fn elements(vectors: &[Ty], alloc: Global) -> Result<Option<Tys>, AllocError>
-    ensures { IfOk result (λ found. MatchOption found (elements (pack vectors.now) ≡ breaks Y23) (λ ts. elements (pack vectors.now) ≡ fits (pack ts))) }
+    ensures { IfOk result (λ found. MatchOption found (elements (pack vectors.now) ≡ breaks Y23)
+        (λ ts. elements (pack vectors.now) ≡ fits (pack ts))) }
 {
     let mut items = Tys::new(alloc);
     for vector in vectors {
@@ -57,7 +59,8 @@ fn elements(vectors: &[Ty], alloc: Global) -> Result<Option<Tys>, AllocError>
 
 /// The type of the vector's elements, if it is a vector.
 fn element(ty: &Ty) -> Option<&Ty>
-    ensures { MatchOption result ((later : Judged _) → with_element ty.now later ≡ breaks Y23) (λ t. ty.now ≡ vec t.now) }
+    ensures { MatchOption result ((later : Judged _) → with_element ty.now later ≡ breaks Y23)
+        (λ t. ty.now ≡ vec t.now) }
 {
     match &ty.form {
         TyForm::Vec(item) => Some(item),
@@ -93,7 +96,9 @@ pub fn check_loop_notes(
     builder_type: &Ty,
     row_type: &Ty,
 ) -> Result<(), Refusal>
-    ensures { (later : Found TypeTree) → Allows result (noted builder.now.note builder.now builder_type.now (noted number.now.note number.now place_type (noted row.now.note row.now row_type.now later))) later }
+    ensures { (later : Found TypeTree) → Allows result (noted builder.now.note builder.now
+        builder_type.now (noted number.now.note number.now place_type
+        (noted row.now.note row.now row_type.now later))) later }
 {
     check_note(builder, builder_type)?;
     let place_type = Ty::scalar(Kind::I64);
@@ -103,7 +108,8 @@ pub fn check_loop_notes(
 
 /// The body of a loop has the type of its builder.
 pub fn check_loop_body(body: &Ty, builder: &Ty, place: Place) -> Result<(), Refusal>
-    ensures { (later : Found TypeTree) → Allows result (demand_at (same_type body.now builder.now) Y26 place later) later }
+    ensures { (later : Found TypeTree) → Allows result (demand_at (same_type body.now builder.now)
+        Y26 place later) later }
 {
     if same(body, builder) {
         Ok(())
@@ -114,7 +120,8 @@ pub fn check_loop_body(body: &Ty, builder: &Ty, place: Place) -> Result<(), Refu
 
 /// The state of turns is builder-free.
 pub fn check_state(state: &Ty, place: Place) -> Result<(), Refusal>
-    ensures { (later : Found TypeTree) → Allows result (demand_at (is_builder_free state.now) Y27 place later) later }
+    ensures { (later : Found TypeTree) → Allows result (demand_at (is_builder_free state.now) Y27
+        place later) later }
 {
     if is_builder_free(state) {
         Ok(())
@@ -125,7 +132,8 @@ pub fn check_state(state: &Ty, place: Place) -> Result<(), Refusal>
 
 /// The body of turns has the type of the state and a truth value.
 pub fn check_turn(turn: &Ty, state: &Ty, place: Place) -> Result<(), Refusal>
-    ensures { (later : Found TypeTree) → Allows result (demand_at (same_type turn.now (pair_of state.now truth_type)) Y27 place later) later }
+    ensures { (later : Found TypeTree) → Allows result (demand_at
+        (same_type turn.now (pair_of state.now truth_type)) Y27 place later) later }
 {
     if is_turn(turn, state) {
         Ok(())
@@ -161,7 +169,8 @@ fn are_of_turn(fields: &[Ty], state: &Ty) -> bool
 
 /// The type of a program's body is builder-free.
 pub fn check_answer(ty: &Ty, place: Place) -> Result<(), Refusal>
-    ensures { (later : Found TypeTree) → Allows result (demand_at (is_builder_free ty.now) Y3 place later) later }
+    ensures { (later : Found TypeTree) → Allows result (demand_at (is_builder_free ty.now) Y3 place
+        later) later }
 {
     if is_builder_free(ty) {
         Ok(())

@@ -8,7 +8,8 @@ use weld_tree::{Binder, Code, Refusal, Ty};
 
 /// The written type of a binder, if there is one, is well formed and is the type found.
 pub fn check_note(binder: &Binder, found: &Ty) -> Result<(), Refusal>
-    ensures { (later : Found TypeTree) → Allows result (noted binder.now.note binder.now found.now later) later }
+    ensures { (later : Found TypeTree) → Allows result (noted binder.now.note binder.now found.now
+        later) later }
 {
     let Some(note) = &binder.note else {
         return Ok(());
@@ -25,7 +26,8 @@ pub fn check_note(binder: &Binder, found: &Ty) -> Result<(), Refusal>
 
 /// The type of a parameter is well formed and builder-free.
 pub fn check_param(param: &Binder) -> Result<(), Refusal>
-    ensures { (later : Found TypeTree) → Allows result (param_type param.now.note param.now later) later }
+    ensures { (later : Found TypeTree) → Allows result (param_type param.now.note param.now later)
+        later }
 {
     let Some(ty) = &param.note else {
         return Err(Refusal::At(Code::Y1, param.note_place));

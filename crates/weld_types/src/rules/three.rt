@@ -18,7 +18,8 @@ pub fn three_type(
     place: Place,
     alloc: Global,
 ) -> Result<Ty, Refusal>
-    ensures { Says result (at_node place (three_type (view_three three) first.now second.now third.now)) }
+    ensures { Says result (at_node place (three_type (view_three three) first.now second.now
+        third.now)) }
 {
     match three {
         ThreeForm::If => if_type(first, second, third, place, alloc),

@@ -75,7 +75,8 @@ pub(super) fn use_chain(
 
 /// The builders at and below the path of a name of this origin.
 fn wanted(chain: &Builder, real: &Source, alloc: Global) -> Result<Available, AllocError>
-    ensures { IfOk result (λ found. found ≡ of_name chain.now.name.0 (paths_below chain.now.path (at_path chain.now.path real.now))) }
+    ensures { IfOk result (λ found. found ≡ of_name chain.now.name.0
+        (paths_below chain.now.path (at_path chain.now.path real.now))) }
 {
     match real.at_path(chain.path.as_slice()) {
         None => Ok(Available::new(alloc)),
@@ -85,7 +86,8 @@ fn wanted(chain: &Builder, real: &Source, alloc: Global) -> Result<Available, Al
 
 /// The origin, by the names, of a name of this origin followed by field accesses.
 fn answer_of(chain: &Builder, real: &Source, alloc: Global) -> Result<Source, AllocError>
-    ensures { IfOk result (λ o. o ≡ follow chain.now.path (named_below chain.now.name.0 [] real.now)) }
+    ensures { IfOk result (λ o. o ≡ follow chain.now.path
+        (named_below chain.now.name.0 [] real.now)) }
 {
     let whole = real.paths_of(chain.name, alloc)?;
     whole.follow(chain.path.as_slice(), alloc)
