@@ -17,7 +17,8 @@ impl Random {
     }
 }
 
-const JOBS: [(&str, &str, usize); 9] = [
+const JOBS: [(&str, &str, usize); 10] = [
+    ("passthrough", "|v: vec[i64]| v", 8_000_000),
     ("squares", "|v: vec[i64]| result(for(v, merger[i64,+], |b,i,x| merge(b, x * x)))", 8_000_000),
     ("guarded", "|v: vec[i64]| result(for(v, merger[i64,+], |b,i,x| if(x > 3L, merge(b, x), b)))", 8_000_000),
     ("dot", "|v: vec[i64], w: vec[i64]| result(for(zip(v, w), merger[i64,+], |b,i,x| merge(b, x.$0 * x.$1)))", 4_000_000),
@@ -48,7 +49,7 @@ fn make(name: &str, rows: usize) {
     out.extend(b"\n%%\n");
     let mut small = |r: &mut Random| { let d = r.below(6) as u32 + 3; r.below(10u64.pow(d)) as i64 - 10 };
     match name {
-        "squares" | "guarded" => numbers(&mut out, rows, || small(&mut r)),
+        "passthrough" | "squares" | "guarded" => numbers(&mut out, rows, || small(&mut r)),
         "dot" => { numbers(&mut out, rows, || small(&mut r)); numbers(&mut out, rows, || small(&mut r)) }
         "dict10" => { numbers(&mut out, rows, || r.below(10) as i64); numbers(&mut out, rows, || small(&mut r)) }
         "dict100k" | "groups" => { numbers(&mut out, rows, || r.below(100_000) as i64); numbers(&mut out, rows, || small(&mut r)) }
@@ -115,6 +116,12 @@ fn run(name: &str) {
     r.at += 4;
     let mut out = Vec::new();
     match name {
+        "passthrough" => {
+            let v = r.numbers();
+            out.push(b'[');
+            for (i, x) in v.iter().enumerate() { if i > 0 { out.push(b','); } write!(out, "{x}").unwrap(); }
+            out.extend(b"]\n");
+        }
         "squares" => { let v = r.numbers(); let mut s = 0i64; for &x in &v { s = s.wrapping_add(x.wrapping_mul(x)); } writeln!(out, "{s}").unwrap() }
         "guarded" => { let v = r.numbers(); let mut s = 0i64; for &x in &v { if x > 3 { s = s.wrapping_add(x); } } writeln!(out, "{s}").unwrap() }
         "dot" => { let v = r.numbers(); let w = r.numbers(); let mut s = 0i64; for (&x, &y) in v.iter().zip(&w) { s = s.wrapping_add(x.wrapping_mul(y)); } writeln!(out, "{s}").unwrap() }

@@ -33,8 +33,12 @@ pub(crate) fn run_rows(
     requires vectors { AreVectors vectors.now }
     requires holds { HoldsRange node.now (env_of frame.now) (leg_lists vectors.now) tile.lo tile.hi
         (thing_of builder.old) }
-    ensures { RangeAnswer result (record { node = node.now; names = env_of frame.now; lists =
-        leg_lists vectors.now; start = thing_of builder.old }) tile.lo tile.hi
+    ensures { RangeAnswer result (record {
+      node = node.now;
+      names = env_of frame.now;
+      lists = leg_lists vectors.now;
+      start = thing_of builder.old;
+    }) tile.lo tile.hi
         (thing_of builder.old) (thing_of builder.new) }
 {
     match make_room(node, tile, builder) {
@@ -55,8 +59,12 @@ fn run_in_room(
     requires vectors { AreVectors vectors.now }
     requires holds { HoldsRange node.now (env_of frame.now) (leg_lists vectors.now) tile.lo tile.hi
         (thing_of builder.old) }
-    ensures { RangeAnswer result (record { node = node.now; names = env_of frame.now; lists =
-        leg_lists vectors.now; start = thing_of builder.old }) tile.lo tile.hi
+    ensures { RangeAnswer result (record {
+      node = node.now;
+      names = env_of frame.now;
+      lists = leg_lists vectors.now;
+      start = thing_of builder.old;
+    }) tile.lo tile.hi
         (thing_of builder.old) (thing_of builder.new) }
 {
     let end = no_legs();
@@ -89,8 +97,12 @@ fn run_tile_rows(
     requires holds { HoldsRange node.now (env_of frame.now)
         (leg_lists (take left vectors.now) ++ lists_of legs.now) tile.lo tile.hi
         (thing_of builder.old) }
-    ensures { RangeAnswer result (record { node = node.now; names = env_of frame.now; lists =
-        leg_lists (take left vectors.now) ++ lists_of legs.now; start = thing_of builder.old })
+    ensures { RangeAnswer result (record {
+      node = node.now;
+      names = env_of frame.now;
+      lists = leg_lists (take left vectors.now) ++ lists_of legs.now;
+      start = thing_of builder.old;
+    })
         tile.lo tile.hi (thing_of builder.old) (thing_of builder.new) }
 {
     if left == 0 {
@@ -121,8 +133,12 @@ fn run_legs(
 ) -> Result<(), Stop>
     requires { HoldsRange node.now (env_of frame.now) (lists_of legs.now) tile.lo tile.hi
         (thing_of builder.old) }
-    ensures { RangeAnswer result (record { node = node.now; names = env_of frame.now; lists =
-        lists_of legs.now; start = thing_of builder.old }) tile.lo tile.hi (thing_of builder.old)
+    ensures { RangeAnswer result (record {
+      node = node.now;
+      names = env_of frame.now;
+      lists = lists_of legs.now;
+      start = thing_of builder.old;
+    }) tile.lo tile.hi (thing_of builder.old)
         (thing_of builder.new) }
 {
     let from = tile.lo as usize;

@@ -128,8 +128,12 @@ fn over_pile<'a>(
     requires holds { HoldsRange node.now (env_of frame.now)
         (loop_lists node.now (env_of frame.now) (things_of pile.now)) tile.lo tile.hi
         (thing_of part.old) }
-    ensures { RangeAnswer result (record { node = node.now; names = env_of frame.now; lists =
-        loop_lists node.now (env_of frame.now) (things_of pile.now); start = thing_of part.old })
+    ensures { RangeAnswer result (record {
+      node = node.now;
+      names = env_of frame.now;
+      lists = loop_lists node.now (env_of frame.now) (things_of pile.now);
+      start = thing_of part.old;
+    })
         tile.lo tile.hi (thing_of part.old) (thing_of part.new) }
 {
     match vectors_of(node, pile, frame, alloc) {

@@ -39,8 +39,12 @@ pub fn run_lanes(
 ) -> Result<bool, AllocError>
     requires rows { HoldsRange node.now (env_of frame.now) (lists_of legs.now) from to
         (thing_of builder.old) }
-    ensures { LanesAnswer result (record { node = node.now; names = env_of frame.now; lists =
-        lists_of legs.now; start = thing_of builder.old }) from to (thing_of builder.old)
+    ensures { LanesAnswer result (record {
+      node = node.now;
+      names = env_of frame.now;
+      lists = lists_of legs.now;
+      start = thing_of builder.old;
+    }) from to (thing_of builder.old)
         (thing_of builder.new) }
 {
     if to - from < FEW {
@@ -73,8 +77,12 @@ fn run_kind<L: Word>(
 ) -> Result<bool, AllocError>
     requires rows { HoldsRange node.now (env_of frame.now) (lists_of legs.now) from to
         (thing_of builder.old) }
-    ensures { LanesAnswer result (record { node = node.now; names = env_of frame.now; lists =
-        lists_of legs.now; start = thing_of builder.old }) from to (thing_of builder.old)
+    ensures { LanesAnswer result (record {
+      node = node.now;
+      names = env_of frame.now;
+      lists = lists_of legs.now;
+      start = thing_of builder.old;
+    }) from to (thing_of builder.old)
         (thing_of builder.new) }
 {
     let columns = match columns_of::<L>(legs, to) {
@@ -117,8 +125,12 @@ fn run_columns<L: Word>(
     requires kind { names.now.kind ≡ L.kind }
     requires columns { AreRows L.kind names.now.is_pair (lists_of legs.now)
         (map L.number columns.now.first.now) (map L.number columns.now.second.now) to }
-    ensures { LanesAnswer result (record { node = node.now; names = env_of frame.now; lists =
-        lists_of legs.now; start = thing_of builder.old }) from to (thing_of builder.old)
+    ensures { LanesAnswer result (record {
+      node = node.now;
+      names = env_of frame.now;
+      lists = lists_of legs.now;
+      start = thing_of builder.old;
+    }) from to (thing_of builder.old)
         (thing_of builder.new) }
 {
     let made = match lower(*names, body, alloc)? {

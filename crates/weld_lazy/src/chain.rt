@@ -37,8 +37,11 @@ impl Chain {
         requires count { length program.now.params ≡ length deps.now }
         requires room { self.old.next + suc (length (bound program.now.body)) < 4294967295 }
         ensures lets { OnOk result (self.new.lets ≡ self.old.lets
-            ++ (self.old.next, placed_body (suc self.old.next)
-            (map (number_in self.old.numbers) deps.now) program.now) ∷ []) }
+            ++ (
+              self.old.next,
+              placed_body (suc self.old.next)
+                  (map (number_in self.old.numbers) deps.now) program.now,
+            ) ∷ []) }
         ensures next { OnOk result (self.new.next ≡ suc self.old.next + length
             (bound program.now.body)) }
         ensures numbers { OnOk result ((k : ℕ) → number_in self.new.numbers k

@@ -34,8 +34,12 @@ pub fn run_range(
     requires rows { HoldsRange node.now (env_of frame.now) (lists_of legs.now) from to
         (thing_of builder.old) }
     requires direct { is_direct ≡ true → AreDirect node.now }
-    ensures { RangeAnswer result (record { node = node.now; names = env_of frame.now; lists =
-        lists_of legs.now; start = thing_of builder.old }) from to (thing_of builder.old)
+    ensures { RangeAnswer result (record {
+      node = node.now;
+      names = env_of frame.now;
+      lists = lists_of legs.now;
+      start = thing_of builder.old;
+    }) from to (thing_of builder.old)
         (thing_of builder.new) }
 {
     hand_through(node, frame, legs, from, to, is_direct, builder, alloc)

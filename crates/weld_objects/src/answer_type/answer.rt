@@ -140,8 +140,8 @@ fn let_under(
     body: &Expr,
     scope: &Scope,
 ) -> Result<Ty, AllocError>
-    ensures { IfOk result (λ ty. ty ≡ answered body.now ((binder.now.sym.0, answered value.now
-        scope.now) ∷ scope.now)) }
+    ensures { IfOk result (λ ty. ty ≡ answered body.now
+        ((binder.now.sym.0, answered value.now scope.now) ∷ scope.now)) }
 {
     let ty = answer(alloc, value, scope)?;
     answer(alloc, body, &Scope::bound(binder.sym, &ty, &*scope))
