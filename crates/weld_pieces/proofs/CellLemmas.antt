@@ -228,7 +228,7 @@ pub more_numbers : (k : Kind) (ws : List ℤ) (i : ℕ) → i < length ws
 more_numbers k ws i l = rw (take_more ws i (pos 0) l, map-append, map-append) refl
 
 -- what is left of a list, from a place on
-rest_at : (xs : List ℤ) (i : ℕ) → i < length xs → drop i xs ≡ slice_index_or xs i (pos 0) ∷ drop (suc i) xs
+pub rest_at : (xs : List ℤ) (i : ℕ) → i < length xs → drop i xs ≡ slice_index_or xs i (pos 0) ∷ drop (suc i) xs
 rest_at [] i l = absurd (omega arith)
 rest_at (x ∷ xs) zero l = refl
 rest_at (x ∷ xs) (suc i) l = rest_at xs i (omega arith)

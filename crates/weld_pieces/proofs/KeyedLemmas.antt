@@ -17,7 +17,7 @@ use Rattle.weld_pieces.proofs.MapLemmas.{numbers_merged, values_merged, numbers_
 abbrev pub Hashing : Type 0
 Hashing = BuildHasherDefault FoldHasher
 
-some_kind : (a b : Kind) → Some a ≡ Some b → a ≡ b
+pub some_kind : (a b : Kind) → Some a ≡ Some b → a ≡ b
 some_kind a b e = cc
 
 pub number_done : (f : Option ℤ → ℤ → ℤ) (before : KeyMap ℤ) (k key_kind : Kind) (m : HashMap ℤ ℤ Hashing) (ds : List (ℤ × ℤ)) (key x : ℤ) → before ≡ maps.Numbers k m → kind_of_keys before ≡ Some key_kind → bits key ≡ key → wide_bits x ≡ x

@@ -7,6 +7,7 @@ pub mod KeyLaws
 pub mod KeyMapView
 pub mod Keyed
 pub mod KeyedView
+pub mod Many
 pub mod Total
 pub mod Totals
 pub mod Word

@@ -8,6 +8,7 @@ ghost use Rattle.weld_builders.specs.Part.{join_cells};
 ghost use Rattle.weld_builders.specs.Range.{AllInRange};
 
 use crate::list::ListPart;
+use crate::many::merge_cells;
 use crate::number::{combine_words, to_word, wide};
 use crate::part::Part;
 use std::alloc::{AllocError, Global};
@@ -51,7 +52,7 @@ impl Model for CellsPart {
 }
 
 impl CellsPart {
-    ghost use Rattle.std.specs.Prelude.{◌≡◌, IfOk, map, length};
+    ghost use Rattle.std.specs.Prelude.{◌≡◌, IfOk, map, length, zip};
     ghost use Rattle.weld_data.specs.Value.{number};
     ghost use Rattle.weld_data.specs.View.{view_column};
     ghost use Rattle.weld_data.specs.Kind.{IsInteger, IsNarrow, InRange};
@@ -60,6 +61,7 @@ impl CellsPart {
     ghost use Rattle.weld_builders.specs.Range.{AllInRange};
     ghost use Rattle.weld_pieces.specs.Total.{Cells};
     ghost use Rattle.weld_pieces.specs.Answer.{CellAnswer};
+    ghost use Rattle.weld_pieces.specs.Many.{merged_cells, CellsAnswer};
     ghost use Rattle.weld_pieces.specs.Word.{word};
 
     /// So many cells with the neutral number of the operator.
@@ -123,6 +125,21 @@ impl CellsPart {
                 Ok(())
             }
         }
+    }
+
+    /// Merges numbers of the cells' kind into the cells at indexes, from 0, the first one first. It
+    /// faults exactly where one of the indexes is outside, what stands before it being merged. It takes
+    /// no memory.
+    pub fn merge_numbers(&mut self, indexes: &[i64], numbers: &[i64]) -> Result<(), Stop>
+        requires narrow { IsNarrow self.old.kind }
+        requires in_range { AllInRange self.old.kind numbers.now }
+        requires count { length indexes.now ≡ length numbers.now }
+        ensures op { self.new.op ≡ self.old.op }
+        ensures kind { self.new.kind ≡ self.old.kind }
+        ensures cells { CellsAnswer result (merged_cells self.old.op self.old.kind self.old.cells
+            (zip indexes.now numbers.now)) self.new.cells }
+    {
+        merge_cells(self.op, self.kind, &mut self.cells, indexes, numbers)
     }
 
     /// Appends what later cells, as many and of the same operator and kind, have merged. It takes no memory.
@@ -198,7 +215,7 @@ fn list_of(alloc: Global, kind: Kind, words: &[i64]) -> Result<ListPart, AllocEr
 
 /// The place that an index names among so many cells.
 #[inline(always)]
-fn place_of(index: i64, count: usize) -> Option<usize>
+pub(crate) fn place_of(index: i64, count: usize) -> Option<usize>
     ensures { MatchOption result (IsOutside index count)
         (λ place. (index ≡ pos place) × (place < count)) }
 {

@@ -12,6 +12,7 @@ ghost use Rattle.weld_pieces.specs.KeyedView.{numbers_in, IsKeyed};
 
 use crate::key::Key;
 use crate::key_map::KeyMap;
+use crate::many::many_in;
 use crate::number::narrow;
 use crate::ordered::{merge_all, merge_at};
 use crate::pairs::{kept_pairs, key_of, plain_pairs};
@@ -46,13 +47,14 @@ impl Model for KeyedPart {
 }
 
 impl KeyedPart {
-    ghost use Rattle.std.specs.Prelude.{◌≡◌, Some, None, IsTrue, IfOk, OnOk, OnErr};
+    ghost use Rattle.std.specs.Prelude.{◌≡◌, Some, None, IsTrue, IfOk, OnOk, OnErr, length, zip};
     ghost use Rattle.std.specs.FinMap as finite;
     ghost use Rattle.weld_data.specs.Value.{number};
     ghost use Rattle.weld_data.specs.View.{view_val};
-    ghost use Rattle.weld_data.specs.Kind.{IsInteger, InRange};
+    ghost use Rattle.weld_data.specs.Kind.{IsInteger, IsNarrow, InRange};
     ghost use Rattle.weld_builders.specs.Part.{combined, merge_key, join_maps};
-    ghost use Rattle.weld_pieces.specs.Keyed.{Keyed, KeysAreKept, HasOneKeyType, itself, shown, CanKeep};
+    ghost use Rattle.weld_builders.specs.Range.{AllInRange};
+    ghost use Rattle.weld_pieces.specs.Keyed.{Keyed, KeysAreKept, HasOneKeyType, itself, shown, CanKeep, by_value, merged_from};
     ghost use Rattle.weld_data.specs.Order.{IsKey};
     ghost use Rattle.weld_pieces.specs.Kept.{IsKeptKey, IsNarrowKey};
 
@@ -129,6 +131,28 @@ impl KeyedPart {
         ensures kind { self.new.kind ≡ self.old.kind }
     {
         number_in(&mut self.map, self.op, self.kind, key_kind, key, x)
+    }
+
+    /// Merges numbers at keys that are numbers, the first one first. It takes memory for new keys alone;
+    /// where that is wanting, it has merged some of them.
+    pub fn merge_numbers(
+        &mut self,
+        key_kind: Kind,
+        keys: &[i64],
+        numbers: &[i64],
+    ) -> Result<(), AllocError>
+        requires kept { self.old.key ≡ Some key_kind }
+        requires keys { AllInRange key_kind keys.now }
+        requires narrow { IsNarrow self.old.kind }
+        requires in_range { AllInRange self.old.kind numbers.now }
+        requires count { length keys.now ≡ length numbers.now }
+        ensures ok { OnOk result (self.new.numbers ≡ merged_from (combined self.old.op self.old.kind)
+            self.old.numbers (by_value (number key_kind) (zip keys.now numbers.now))) }
+        ensures key { self.new.key ≡ self.old.key }
+        ensures op { self.new.op ≡ self.old.op }
+        ensures kind { self.new.kind ≡ self.old.kind }
+    {
+        many_in(&mut self.map, self.op, self.kind, key_kind, keys, numbers)
     }
 
     /// Merges a number at a key that is kept as a value. Memory is as for a key that is a number.

@@ -10,6 +10,7 @@ pub mod key_map;
 pub mod keyed;
 pub mod laws;
 pub mod list;
+mod many;
 mod number;
 mod ordered;
 mod pairs;
