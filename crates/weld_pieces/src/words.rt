@@ -10,7 +10,7 @@ ghost use Rattle.weld_builders.specs.Range.{AllInRange};
 use std::alloc::AllocError;
 
 /// A number of one kind, whose numbers all lie within an i64, as an array keeps it.
-pub(crate) trait Kept: Copy + Default {
+pub(crate) trait FromWord: Copy + Default {
     ghost use Rattle.std.specs.Prelude.{◌≡◌};
     ghost use Rattle.weld_data.specs.Kind.{IsNarrow, InRange};
     ghost use Rattle.weld_data.specs.Value.{Value, number};
@@ -26,7 +26,7 @@ pub(crate) trait Kept: Copy + Default {
         ensures { value result ≡ number kind x };
 }
 
-impl Kept for bool {
+impl FromWord for bool {
     ghost kind = { kinds.Bool };
 
     ghost value = { λ b. number kinds.Bool (truth b) };
@@ -37,7 +37,7 @@ impl Kept for bool {
     }
 }
 
-impl Kept for i8 {
+impl FromWord for i8 {
     ghost kind = { kinds.I8 };
 
     ghost value = { number kinds.I8 };
@@ -48,7 +48,7 @@ impl Kept for i8 {
     }
 }
 
-impl Kept for i16 {
+impl FromWord for i16 {
     ghost kind = { kinds.I16 };
 
     ghost value = { number kinds.I16 };
@@ -59,7 +59,7 @@ impl Kept for i16 {
     }
 }
 
-impl Kept for i32 {
+impl FromWord for i32 {
     ghost kind = { kinds.I32 };
 
     ghost value = { number kinds.I32 };
@@ -70,7 +70,7 @@ impl Kept for i32 {
     }
 }
 
-impl Kept for u8 {
+impl FromWord for u8 {
     ghost kind = { kinds.U8 };
 
     ghost value = { λ n. number kinds.U8 (pos n) };
@@ -81,7 +81,7 @@ impl Kept for u8 {
     }
 }
 
-impl Kept for u16 {
+impl FromWord for u16 {
     ghost kind = { kinds.U16 };
 
     ghost value = { λ n. number kinds.U16 (pos n) };
@@ -92,7 +92,7 @@ impl Kept for u16 {
     }
 }
 
-impl Kept for u32 {
+impl FromWord for u32 {
     ghost kind = { kinds.U32 };
 
     ghost value = { λ n. number kinds.U32 (pos n) };
@@ -104,7 +104,7 @@ impl Kept for u32 {
 }
 
 /// Appends the numbers in words, the first one first: room for all is made at once.
-pub(crate) fn append_words<T: Kept>(own: &mut Vec<T>, words: &[i64]) -> Result<(), AllocError>
+pub(crate) fn append_words<T: FromWord>(own: &mut Vec<T>, words: &[i64]) -> Result<(), AllocError>
     requires narrow { IsNarrow T.kind }
     requires in_range { AllInRange T.kind words.now }
     ensures { OnOk result (map T.value own.new.items ≡ map T.value own.old.items
@@ -121,7 +121,7 @@ pub(crate) fn append_words<T: Kept>(own: &mut Vec<T>, words: &[i64]) -> Result<(
 }
 
 /// Writes the numbers in words over as many others.
-fn write_words<T: Kept>(room: &mut [T], words: &[i64])
+fn write_words<T: FromWord>(room: &mut [T], words: &[i64])
     requires narrow { IsNarrow T.kind }
     requires in_range { AllInRange T.kind words.now }
     requires long { length words.now ≡ length room.old }
