@@ -1,4 +1,5 @@
 mod CellsLemmas
 mod KeyLemmas
 mod ManyLemmas
+mod PairLemmas
 mod TotalsLemmas

@@ -5,7 +5,7 @@ use Rattle.weld_data.specs.declared.kind.Kind.{Kind}
 use Rattle.weld_data.specs.declared.op.MergeOp.{MergeOp}
 use Rattle.weld_data.specs.Operation.{combination}
 use Rattle.weld_data.specs.Value.{Value, number}
-use Rattle.weld_builders.specs.Outcome.{done, and_then}
+use Rattle.weld_builders.specs.Outcome.{done}
 use Rattle.weld_builders.specs.Part.{list_part, total_part}
 use Rattle.weld_pieces.specs.Total.{Total, part_of_total, combined_all}
 use Rattle.weld_built.specs.Merges.{merge_all, TakesNumbers}

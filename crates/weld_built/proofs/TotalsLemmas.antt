@@ -6,10 +6,10 @@ use Rattle.weld_data.specs.declared.num.Num.{Num}
 use Rattle.weld_data.specs.declared.op.MergeOp.{MergeOp}
 use Rattle.weld_data.specs.Operation.{combination}
 use Rattle.weld_data.specs.Order.{IsNumber}
-use Rattle.weld_data.specs.Value.{Value, number, list, struct, dict, Values, no_values, and_value, values}
-use Rattle.weld_builders.specs.Outcome.{Outcome, done, and_then, map_out}
-use Rattle.weld_builders.specs.Part.{Part, Totals, totals_part, kinds_of, as_numbers, as_fields, merge_totals, join_totals, merge_part}
-use Rattle.weld_pieces.specs.Kept.{IsNumberOf, AreNumbersOf, IsStructOfNumbers}
+use Rattle.weld_data.specs.Value.{Value, number, list, struct, dict, no_values, and_value, values}
+use Rattle.weld_builders.specs.Outcome.{done, and_then, map_out}
+use Rattle.weld_builders.specs.Part.{Totals, totals_part, kinds_of, as_numbers, merge_totals, join_totals, merge_part}
+use Rattle.weld_pieces.specs.Kept.{AreNumbersOf, IsStructOfNumbers}
 use Rattle.weld_pieces.specs.Totals.{total_in, totals_in, number_in}
 use Rattle.weld_built.specs.Fields.{AreSomeNumbers}
 

@@ -6,15 +6,15 @@ ghost use Rattle.weld_builders.specs.Part.{shape_of, bare, merge_part, after_par
 ghost use Rattle.weld_builders.specs.Range.{AllInRange, IsInRange};
 ghost use Rattle.weld_built.specs.Merges.{merge_all, TakesNumbers};
 ghost use Rattle.weld_built.specs.Logged.{IsItemOf, HasResult};
-ghost use Rattle.weld_built.specs.Pair.{pair};
 ghost use Rattle.weld_built.specs.State.{MergeAnswer, part_of_state, IsState};
 
-use crate::cells::{Cells, copy_of_cells, finish_cells, join_cells, merge_cell, shape_of_cells};
+use crate::cells::{Cells, copy_of_cells, finish_cells, join_cells, shape_of_cells};
 use crate::fitting::number_of;
-use crate::groups::{join_groups, push_item};
-use crate::keyed::{join_keyed, merge_number, merge_value};
+use crate::groups::join_groups;
+use crate::keyed::join_keyed;
 use crate::list;
-use crate::totals::{merge_fields, merge_two};
+use crate::pairs::{pair_into, pairs_into, values_into};
+use crate::totals::merge_fields;
 use std::alloc::{AllocError, Global};
 use std::marker::Model;
 use weld_data::{Kind, MergeOp, Num, Stop, Val};
@@ -31,7 +31,7 @@ pub struct Built {
 
 /// What was merged. The memory that may be wanted lies beside it.
 #[derive(Drop)]
-enum State {
+pub(crate) enum State {
     Total(TotalPart),
     Totals(Global, TotalsPart),
     List(Global, ListPart),
@@ -56,15 +56,15 @@ impl Model for Built {
 }
 
 impl Built {
-    ghost use Rattle.std.specs.Prelude.{◌≡◌, map, IfOk, OnOk};
+    ghost use Rattle.std.specs.Prelude.{◌≡◌, map, length, zip, IfOk, OnOk};
     ghost use Rattle.weld_data.specs.Kind.{IsInteger, IsNarrow, InRange};
     ghost use Rattle.weld_data.specs.Value.{number};
     ghost use Rattle.weld_data.specs.View.{view_val};
     ghost use Rattle.weld_builders.specs.Part.{total_part, list_shape, total_shape, cells_shape, keyed_shape, groups_shape, start_part, shape_of, bare, merge_part, after_part, result_of};
     ghost use Rattle.weld_builders.specs.Range.{AllInRange, IsInRange};
-    ghost use Rattle.weld_built.specs.Merges.{merge_all, TakesNumbers};
+    ghost use Rattle.weld_built.specs.Merges.{merge_all, TakesNumbers, TakesPairs};
     ghost use Rattle.weld_built.specs.Logged.{IsItemOf, HasResult};
-    ghost use Rattle.weld_built.specs.Pair.{pair};
+    ghost use Rattle.weld_built.specs.Pair.{pair, number_pairs};
     ghost use Rattle.weld_built.specs.State.{MergeAnswer};
     ghost use Rattle.weld_pieces.specs.Totals.{part_of_totals};
 
@@ -197,6 +197,27 @@ impl Built {
             (pair (number key_kind key) (number kind x))) self.new }
     {
         pair_into(&mut self.state, key_kind, key, kind, x)
+    }
+
+    /// Merges items that are structs of two numbers, which are given side by side, the first one first.
+    /// It faults exactly where one of them does, and makes no values where the builder keeps numbers so.
+    pub fn merge_pairs(
+        &mut self,
+        key_kind: Kind,
+        keys: &[i64],
+        kind: Kind,
+        numbers: &[i64],
+    ) -> Result<(), Stop>
+        requires narrow_key { IsNarrow key_kind }
+        requires keys { AllInRange key_kind keys.now }
+        requires narrow { IsNarrow kind }
+        requires numbers { AllInRange kind numbers.now }
+        requires count { length keys.now ≡ length numbers.now }
+        requires items { TakesPairs self.old key_kind kind }
+        ensures { MergeAnswer result (merge_all self.old
+            (number_pairs key_kind kind (zip keys.now numbers.now))) self.new }
+    {
+        pairs_into(&mut self.state, key_kind, keys, kind, numbers)
     }
 
     /// Merges an item that is a struct of a value and a number that lies within an i64, as a number at
@@ -340,71 +361,6 @@ fn numbers_into(state: &mut State, kind: Kind, items: &[i64]) -> Result<(), Stop
             Err(_) => return Err(Stop::Memory),
         },
         _ => unreachable!(),
-    }
-}
-
-/// Merges a struct of two numbers.
-#[inline(always)]
-fn pair_into(state: &mut State, key_kind: Kind, key: i64, kind: Kind, x: i64) -> Result<(), Stop>
-    requires state { IsState state.old }
-    requires key { InRange key_kind key }
-    requires number { InRange kind x }
-    requires item { IsItemOf (part_of_state state.old) (pair (number key_kind key)
-        (number kind x)) }
-    ensures answer { MergeAnswer result (merge_part (part_of_state state.old)
-        (pair (number key_kind key) (number kind x))) (part_of_state state.new) }
-    ensures state { IsState state.new }
-{
-    match state {
-        State::Cells(cells) => return merge_cell(cells, key, i128::from(x)),
-        State::Keyed(alloc, part) => match merge_number(
-            *alloc,
-            part,
-            key_kind,
-            key,
-            i128::from(x),
-        ) {
-            Ok(()) => return Ok(()),
-            Err(_) => return Err(Stop::Memory),
-        },
-        _ => return values_into(state, number_of(key_kind, key), number_of(kind, x)),
-    }
-}
-
-/// Merges a struct of two values.
-fn values_into(state: &mut State, first: Val, second: Val) -> Result<(), Stop>
-    requires state { IsState state.old }
-    requires item { IsItemOf (part_of_state state.old) (pair (view_val first) (view_val second)) }
-    ensures answer { MergeAnswer result (merge_part (part_of_state state.old)
-        (pair (view_val first) (view_val second))) (part_of_state state.new) }
-    ensures state { IsState state.new }
-{
-    match state {
-        State::Total(_) => unreachable!(),
-        State::Totals(_, totals) => {
-            merge_two(totals, first, second);
-            return Ok(());
-        }
-        State::List(alloc, items) => match list::push_pair(*alloc, items, first, second) {
-            Ok(()) => return Ok(()),
-            Err(_) => return Err(Stop::Memory),
-        },
-        State::Cells(cells) => {
-            let index = as_number(first);
-            let number = as_number(second);
-            return merge_cell(cells, index.value as i64, number.value);
-        }
-        State::Keyed(alloc, part) => {
-            let number = as_number(second);
-            match merge_value(*alloc, part, first, number.value) {
-                Ok(()) => return Ok(()),
-                Err(_) => return Err(Stop::Memory),
-            }
-        }
-        State::Groups(alloc, part) => match push_item(*alloc, part, first, second) {
-            Ok(()) => return Ok(()),
-            Err(_) => return Err(Stop::Memory),
-        },
     }
 }
 

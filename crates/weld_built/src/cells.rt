@@ -1,14 +1,15 @@
 //! Cells, for which memory is taken at the first merge.
 
-ghost use Rattle.std.specs.Prelude.{◌≡◌, IfOk, length};
-ghost use Rattle.weld_data.specs.Kind.{InRange, IsInteger};
+ghost use Rattle.std.specs.Prelude.{◌≡◌, IfOk, length, zip};
+ghost use Rattle.weld_data.specs.Kind.{InRange, IsInteger, IsNarrow};
 ghost use Rattle.weld_data.specs.Value.{number};
 ghost use Rattle.weld_data.specs.View.{view_val};
 ghost use Rattle.weld_data.specs.declared.kind.Kind.TheVariants as kinds;
 ghost use Rattle.weld_builders.specs.Part.{shape_of, cells_shape, merge_part, after_part, result_of};
-ghost use Rattle.weld_builders.specs.Range.{IsInRange};
+ghost use Rattle.weld_builders.specs.Range.{AllInRange, IsInRange};
 ghost use Rattle.weld_pieces.specs.Total.{part_of_cells};
-ghost use Rattle.weld_built.specs.Pair.{pair};
+ghost use Rattle.weld_built.specs.Merges.{merge_all};
+ghost use Rattle.weld_built.specs.Pair.{pair, number_pairs};
 ghost use Rattle.weld_built.specs.CellsState.{part_of_cells_state, kind_of_cells, AreFormed};
 ghost use Rattle.weld_built.specs.State.{MergeAnswer};
 
@@ -44,6 +45,33 @@ pub(crate) fn merge_cell(cells: &mut Cells, index: i64, x: i128) -> Result<(), S
             };
             let answer = part.merge_wide(index, x);
             *cells = Cells::Kept(part);
+            answer
+        }
+    }
+}
+
+/// Merges numbers into the cells at indexes, the first one first. It faults exactly where one of the
+/// indexes is outside.
+#[tactic(auto, using(crate::proofs::CellsLemmas::cells_merged))]
+pub(crate) fn merge_cells(cells: &mut Cells, indexes: &[i64], numbers: &[i64]) -> Result<(), Stop>
+    requires formed { AreFormed cells.old }
+    requires narrow { IsNarrow (kind_of_cells cells.old) }
+    requires in_range { AllInRange (kind_of_cells cells.old) numbers.now }
+    requires count { length indexes.now ≡ length numbers.now }
+    ensures answer { MergeAnswer result (merge_all (part_of_cells_state cells.old)
+        (number_pairs kinds.I64 (kind_of_cells cells.old) (zip indexes.now numbers.now)))
+        (part_of_cells_state cells.new) }
+    ensures formed { AreFormed cells.new }
+{
+    match cells {
+        Cells::Kept(part) => part.merge_numbers(indexes, numbers),
+        Cells::Bare(alloc, shape) => {
+            let mut made = match CellsPart::neutral(*alloc, shape.op, shape.kind, shape.count) {
+                Ok(made) => made,
+                Err(_) => return Err(Stop::Memory),
+            };
+            let answer = made.merge_numbers(indexes, numbers);
+            *cells = Cells::Kept(made);
             answer
         }
     }

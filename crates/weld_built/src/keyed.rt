@@ -1,12 +1,14 @@
 //! Numbers by keys.
 
-ghost use Rattle.std.specs.Prelude.{◌≡◌, None, OnOk};
-ghost use Rattle.weld_data.specs.Kind.{InRange};
+ghost use Rattle.std.specs.Prelude.{◌≡◌, Some, None, OnOk, length, zip};
+ghost use Rattle.weld_data.specs.Kind.{InRange, IsNarrow};
 ghost use Rattle.weld_data.specs.Order.{IsKey};
 ghost use Rattle.weld_data.specs.Value.{number};
 ghost use Rattle.weld_data.specs.View.{view_val};
 ghost use Rattle.weld_builders.specs.Part.{combined, merge_key, join_maps};
+ghost use Rattle.weld_builders.specs.Range.{AllInRange};
 ghost use Rattle.weld_pieces.specs.Kept.{IsKeptKey};
+ghost use Rattle.weld_pieces.specs.Keyed.{by_value, merged_from};
 ghost use Rattle.weld_built.specs.State.{AreKeys};
 
 use crate::fitting::{are_alike, best_for_key, keeps, keeps_key, number_of};
@@ -36,6 +38,108 @@ pub(crate) fn merge_number(
         return part.merge_number(key_kind, key, x);
     }
     merge_value(alloc, part, number_of(key_kind, key), x)
+}
+
+/// Merges numbers at keys that are numbers, the first one first.
+pub(crate) fn merge_numbers(
+    alloc: Global,
+    part: &mut KeyedPart,
+    key_kind: Kind,
+    keys: &[i64],
+    numbers: &[i64],
+) -> Result<(), AllocError>
+    requires keys { AreKeys part.old.key part.old.numbers }
+    requires narrow_key { IsNarrow key_kind }
+    requires keys_in_range { AllInRange key_kind keys.now }
+    requires narrow { IsNarrow part.old.kind }
+    requires numbers { AllInRange part.old.kind numbers.now }
+    requires count { length keys.now ≡ length numbers.now }
+    ensures ok { OnOk result (part.new.numbers ≡ merged_from (combined part.old.op part.old.kind)
+        part.old.numbers (by_value (number key_kind) (zip keys.now numbers.now))) }
+    ensures keys { AreKeys part.new.key part.new.numbers }
+    ensures op { part.new.op ≡ part.old.op }
+    ensures kind { part.new.kind ≡ part.old.kind }
+{
+    make_ready_for(alloc, part, key_kind);
+    if keeps(part.key(), key_kind) {
+        return merge_kept(alloc, part, key_kind, keys, numbers);
+    }
+    merge_each(alloc, part, key_kind, keys, numbers)
+}
+
+/// Keeps keys that are numbers of the kind where there are no keys yet. It takes no memory.
+fn make_ready_for(alloc: Global, part: &mut KeyedPart, key_kind: Kind)
+    requires keys { AreKeys part.old.key part.old.numbers }
+    requires narrow_key { IsNarrow key_kind }
+    ensures numbers { part.new.numbers ≡ part.old.numbers }
+    ensures keys { AreKeys part.new.key part.new.numbers }
+    ensures op { part.new.op ≡ part.old.op }
+    ensures kind { part.new.kind ≡ part.old.kind }
+{
+    if part.is_empty() && !keeps(part.key(), key_kind) {
+        let shape = part.shape();
+        *part = KeyedPart::empty(alloc, Some(key_kind), shape.op, shape.kind);
+    }
+}
+
+/// Merges numbers at keys that are kept as they come. Where memory is wanting, nothing is left.
+fn merge_kept(
+    alloc: Global,
+    part: &mut KeyedPart,
+    key_kind: Kind,
+    keys: &[i64],
+    numbers: &[i64],
+) -> Result<(), AllocError>
+    requires keys { AreKeys part.old.key part.old.numbers }
+    requires kept { part.old.key ≡ Some key_kind }
+    requires narrow_key { IsNarrow key_kind }
+    requires keys_in_range { AllInRange key_kind keys.now }
+    requires narrow { IsNarrow part.old.kind }
+    requires numbers { AllInRange part.old.kind numbers.now }
+    requires count { length keys.now ≡ length numbers.now }
+    ensures ok { OnOk result (part.new.numbers ≡ merged_from (combined part.old.op part.old.kind)
+        part.old.numbers (by_value (number key_kind) (zip keys.now numbers.now))) }
+    ensures keys { AreKeys part.new.key part.new.numbers }
+    ensures op { part.new.op ≡ part.old.op }
+    ensures kind { part.new.kind ≡ part.old.kind }
+{
+    match part.merge_numbers(key_kind, keys, numbers) {
+        Ok(()) => Ok(()),
+        Err(e) => {
+            let shape = part.shape();
+            *part = KeyedPart::empty(alloc, None, shape.op, shape.kind);
+            Err(e)
+        }
+    }
+}
+
+/// Merges numbers at keys that are numbers, however the keys are kept.
+fn merge_each(
+    alloc: Global,
+    part: &mut KeyedPart,
+    key_kind: Kind,
+    keys: &[i64],
+    numbers: &[i64],
+) -> Result<(), AllocError>
+    requires keys { AreKeys part.old.key part.old.numbers }
+    requires narrow_key { IsNarrow key_kind }
+    requires keys_in_range { AllInRange key_kind keys.now }
+    requires narrow { IsNarrow part.old.kind }
+    requires numbers { AllInRange part.old.kind numbers.now }
+    requires count { length keys.now ≡ length numbers.now }
+    ensures ok { OnOk result (part.new.numbers ≡ merged_from (combined part.old.op part.old.kind)
+        part.old.numbers (by_value (number key_kind) (zip keys.now numbers.now))) }
+    ensures keys { AreKeys part.new.key part.new.numbers }
+    ensures op { part.new.op ≡ part.old.op }
+    ensures kind { part.new.kind ≡ part.old.kind }
+{
+    for i in 0..keys.len() {
+        match merge_number(alloc, part, key_kind, keys[i], i128::from(numbers[i])) {
+            Ok(()) => {}
+            Err(e) => return Err(e),
+        }
+    }
+    Ok(())
 }
 
 /// Merges a number at a key.

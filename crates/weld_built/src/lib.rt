@@ -10,6 +10,7 @@ mod fitting;
 mod groups;
 mod keyed;
 mod list;
+mod pairs;
 pub mod totals;
 
 pub use built::Built;
