@@ -8,6 +8,7 @@ ghost use Rattle.weld_meaning.specs.Evaluation.{found};
 ghost use Rattle.weld_meaning.specs.Meaning.{with_arguments};
 ghost use Rattle.weld_meaning.specs.Thing.{plain};
 ghost use Rattle.weld_eval.specs.Answers.{Answers};
+ghost use Rattle.weld_eval.specs.Elements.{view_element};
 ghost use Rattle.weld_eval.specs.FrameView.{env_of};
 ghost use Rattle.weld_eval.specs.RowView.{row_value};
 ghost use Rattle.weld_eval.specs.SlotView.{slot_thing};
@@ -17,6 +18,7 @@ use crate::names::Names;
 use crate::row::RowAt;
 use crate::short::Short;
 use crate::thing::{Held, Owned, copy_thing};
+use crate::values::Element;
 use std::alloc::Global;
 use weld_data::{Stop, Val, Vals};
 use weld_tree::{Binders, Sym};
@@ -52,8 +54,8 @@ pub fn bind<'a>(name: Sym, held: &'a Held<'a>, rest: &'a Frame<'a>) -> Frame<'a>
     }
 }
 
-/// The thing of a name that is in scope: a value is lent, a builder copied, a number or a row of a
-/// loop made into a value.
+/// The thing of a name that is in scope: a value is lent, also one that is the row of a loop over one
+/// leg; a builder is copied, a number or another row of a loop made into a value.
 #[tactic(auto, using(crate::proofs::Below::is_below, crate::proofs::Below::answers_among, crate::proofs::Below::answers_below))]
 pub fn find<'a>(frame: &'a Frame<'a>, name: Sym, alloc: Global) -> Result<Held<'a>, Stop>
     requires { IsSome (look_for name.0 (env_of frame.now)) }
@@ -112,13 +114,27 @@ fn lend<'a>(x: &'a Owned, alloc: Global) -> Result<Held<'a>, Stop>
     }
 }
 
-/// A row as a thing.
-fn build<'a>(row: &RowAt, alloc: Global) -> Result<Held<'a>, Stop>
+/// A row as a thing: the element of one leg is lent where it stands, the struct of more is built.
+fn build<'a>(row: &'a RowAt<'a>, alloc: Global) -> Result<Held<'a>, Stop>
     ensures { Answers held_of result (done (plain (row_value row.now))) }
 {
+    if row.is_element() {
+        return Ok(lent_element(row.element()));
+    }
     match row.to_value(alloc) {
         Ok(v) => Ok(Held::Made(Owned::Value(v))),
         Err(_) => Err(Stop::Memory),
+    }
+}
+
+/// An element as a thing. It takes no memory.
+#[inline]
+pub fn lent_element<'a>(element: Element<'a>) -> Held<'a>
+    ensures { held_of result ≡ plain (view_element element.entry) }
+{
+    match element {
+        Element::Lent(v) => Held::Lent(v),
+        Element::Number(n) => Held::Made(Owned::Value(Val::Num(n))),
     }
 }
 

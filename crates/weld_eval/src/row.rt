@@ -5,7 +5,7 @@ ghost use Rattle.weld_eval.specs.LegsView.{lists_of};
 ghost use Rattle.weld_eval.specs.RowLists.{has_row};
 
 use crate::legs::{
-    Legs, element_in, field_in, number_field_in, number_in_legs, pair_in_legs, value_in,
+    Legs, element_in, field_in, is_one_leg, number_field_in, number_in_legs, pair_in_legs, value_in,
 };
 use crate::short::Short;
 use crate::values::Element;
@@ -42,6 +42,14 @@ impl<'a> RowAt<'a> {
         ensures row { slice_get (rows_in (lists_of legs.now)) number ≡ Some (row_value result) }
     {
         RowAt { legs, number }
+    }
+
+    /// Whether the row is the element of one leg. It takes no memory.
+    #[inline]
+    pub fn is_element(&self) -> bool
+        ensures { result ≡ is_one (lists_of self.now.legs.now) }
+    {
+        is_one_leg(self.legs)
     }
 
     /// The row of a loop of one leg: the element, lent or a number. It takes no memory.
