@@ -44,3 +44,11 @@ number_fits d c n s e h = subst (λ (x : Deed). FitsThrough (do_of x) (DeedFits 
 
 pub number_acts : {T : Type 0} (r : Result T Stop) (d : Deed) (c : Numbers) (n : ℕ) (s t : Thing) → d ≡ deed.Number c → Acts r (done_through (number_done c) 0 n s) t → Acts r (done_through (do_of d) 0 n s) t
 number_acts r d c n s t e h = subst (λ (x : Deed). Acts r (done_through (do_of x) 0 n s) t) (sym e) h
+
+-- ---- two numbers on each row
+
+pub pair_fits : (d : Deed) (c m : Numbers) (n : ℕ) (s : Thing) → d ≡ deed.Pair c m → FitsThrough (do_of d) (DeedFits d) 0 n s → FitsThrough (pair_done c m) (PairFits c m) 0 n s
+pair_fits d c m n s e h = subst (λ (x : Deed). FitsThrough (do_of x) (DeedFits x) 0 n s) e h
+
+pub pair_acts : {T : Type 0} (r : Result T Stop) (d : Deed) (c m : Numbers) (n : ℕ) (s t : Thing) → d ≡ deed.Pair c m → Acts r (done_through (pair_done c m) 0 n s) t → Acts r (done_through (do_of d) 0 n s) t
+pair_acts r d c m n s t e h = subst (λ (x : Deed). Acts r (done_through (do_of x) 0 n s) t) (sym e) h

@@ -13,5 +13,6 @@ mod Words
 mod WorkLemmas
 mod DeedForms
 mod FieldLemmas
+mod ManyPairs
 mod ManyPuts
 mod ThroughLemmas

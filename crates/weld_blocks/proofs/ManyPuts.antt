@@ -70,7 +70,7 @@ put_none c (suc n) (building p) h less = (p, refl)
 put_none c (suc n) (several ts) h less = absurd h.0.1
 
 -- the numbers from a place on
-rest_from : (xs : List ℤ) (j : ℕ) → j < length xs → drop j xs ≡ get_or xs j (pos 0) ∷ drop (suc j) xs
+pub rest_from : (xs : List ℤ) (j : ℕ) → j < length xs → drop j xs ≡ get_or xs j (pos 0) ∷ drop (suc j) xs
 rest_from [] j l = absurd (omega arith)
 rest_from (x ∷ xs) zero l = refl
 rest_from (x ∷ xs) (suc j) l = rest_from xs j (omega arith)

@@ -1,5 +1,5 @@
 -- Numbers in words.
-use Rattle.std.proofs.Common.{◌≡◌, ℤ, pos, Option, Some, None, Result, Ok, Err, sym, ap, subst, ◌∙◌}
+use Rattle.std.proofs.Common.{◌≡◌, ℤ, pos, Some, None, sym, ap, subst, ◌∙◌}
 use Rattle.std.specs.Ordering.{int_eq}
 use Rattle.weld_data.specs.declared.kind.Kind.{Kind}
 use Rattle.weld_data.specs.declared.op.BinOp.{BinOp}

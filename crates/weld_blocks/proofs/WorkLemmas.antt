@@ -5,13 +5,13 @@ use Rattle.std.proofs.Math.Seq.{take-append_seam}
 use Rattle.std.proofs.lemmas.Bool.{cases_lt}
 use Rattle.std.proofs.lemmas.Bool.Decides.{Decides-int_eq}
 use Rattle.std.proofs.lemmas.Option.{slice_get-map}
-use Rattle.std.proofs.lemmas.List.{get_or_past, get_or-take, get_or-drop, get_or-replicate}
+use Rattle.std.proofs.lemmas.List.{get_or_past, get_or-replicate}
 use Rattle.std.specs.Ordering.{int_eq}
 use Rattle.weld_data.specs.declared.kind.Kind.{Kind}
 use Rattle.weld_data.specs.declared.kind.Kind.TheVariants as kinds
 use Rattle.weld_data.specs.declared.op.BinOp.{BinOp}
 use Rattle.weld_data.specs.declared.op.BinOp.TheVariants as ops
-use Rattle.weld_data.specs.Kind.{IsNarrow, InRange}
+use Rattle.weld_data.specs.Kind.{InRange}
 use Rattle.weld_data.specs.Operation.{TakesKind, operation, answer_kind}
 use Rattle.weld_data.specs.Wrapped.{wrapped}
 use Rattle.weld_data.specs.Value.{Value, number}

@@ -1,7 +1,7 @@
 //! Items that are merged into a builder in place.
 
 ghost use Rattle.weld_builders.specs.Outcome.{done};
-ghost use Rattle.std.specs.Prelude.{◌≡◌, ◌<◌, IfOk};
+ghost use Rattle.std.specs.Prelude.{◌≡◌, ◌<◌, ◌≤◌, IfOk};
 ghost use Rattle.weld_data.specs.Kind.{IsNarrow, InRange};
 ghost use Rattle.weld_data.specs.Value.{number};
 ghost use Rattle.weld_data.specs.View.{view_val};
@@ -12,7 +12,7 @@ ghost use Rattle.weld_eval.specs.ShortView.{view_short, IsWord};
 ghost use Rattle.weld_eval.specs.ThingView.{thing_of, held_of};
 ghost use Rattle.weld_eval.specs.Takes.{IsPlain};
 ghost use Rattle.weld_built.specs.Pair.{pair};
-ghost use Rattle.weld_blocks.specs.Does.{number_done, NumberFits};
+ghost use Rattle.weld_blocks.specs.Does.{number_done, NumberFits, pair_done, PairFits};
 ghost use Rattle.weld_blocks.specs.Through.{FitsThrough, done_through};
 ghost use Rattle.weld_blocks.specs.Numbers.{count_of, number_at};
 ghost use Rattle.weld_blocks.specs.Puts.{IsPut, PutsThing};
@@ -70,6 +70,52 @@ pub fn put_numbers(numbers: &Numbers, count: usize, builder: &mut Owned) -> Resu
     match builder {
         Owned::Built(built) => built.merge_numbers(numbers.kind, &numbers.items[..count]),
         _ => unreachable!(),
+    }
+}
+
+/// Merges the first of these pairs of numbers, so many, one after another, their kinds being such whose numbers lie within an i64.
+#[tactic(auto, using(crate::proofs::ManyPairs::pairs_on))]
+pub fn put_pairs(
+    keys: &Numbers,
+    numbers: &Numbers,
+    count: usize,
+    builder: &mut Owned,
+) -> Result<(), Stop>
+    requires narrow_key { IsNarrow keys.now.kind }
+    requires narrow { IsNarrow numbers.now.kind }
+    requires fits { FitsThrough (pair_done keys.now numbers.now) (PairFits keys.now numbers.now)
+        0 count (thing_of builder.old) }
+    ensures { Acts result (done_through (pair_done keys.now numbers.now) 0 count
+        (thing_of builder.old)) (thing_of builder.new) }
+{
+    if count == 0 {
+        return Ok(());
+    }
+    let rows = rows_of(count, keys.len(), numbers.len());
+    match builder {
+        Owned::Built(built) => built.merge_pairs(
+            keys.kind,
+            &keys.items[..rows],
+            numbers.kind,
+            &numbers.items[..rows],
+        ),
+        _ => unreachable!(),
+    }
+}
+
+/// How many rows there are of which both numbers are at hand: after a fault none need be there.
+fn rows_of(count: usize, keys: usize, numbers: usize) -> usize
+    ensures asked { result ≤ count }
+    ensures keys { result ≤ keys }
+    ensures numbers { result ≤ numbers }
+    ensures all { result < count → result < keys → result < numbers → ⊥ }
+{
+    if count <= keys && count <= numbers {
+        count
+    } else if keys <= numbers {
+        keys
+    } else {
+        numbers
     }
 }
 

@@ -8,16 +8,16 @@ ghost use Rattle.weld_blocks.specs.Choices.{IsChoice};
 ghost use Rattle.weld_blocks.specs.Deeds.{DeedFits, DeedsFit, do_of, do_all, DoesAll};
 ghost use Rattle.weld_blocks.specs.Does.{DoesAs};
 ghost use Rattle.weld_blocks.specs.Through.{FitsThrough, done_through};
-ghost use Rattle.weld_blocks.specs.declared.deed.Deed.TheVariants.{Nothing as DoesNothing, Number as OfNumber, Fields as OfFields};
+ghost use Rattle.weld_blocks.specs.declared.deed.Deed.TheVariants.{Nothing as DoesNothing, Number as OfNumber, Pair as OfPair, Fields as OfFields};
 
 use crate::deed::{AnyDeed, Deed, Deeds, Does, EachGuarded, EachNumber, EachPair};
 use crate::numbers::Numbers;
-use crate::puts::put_numbers;
+use crate::puts::{put_numbers, put_pairs};
 use weld_data::Stop;
 use weld_eval::thing::{Fields, Owned};
 
 /// Does it on the first rows of the block, so many, one after another.
-#[tactic(auto, using(crate::proofs::DeedForms::pair_as, crate::proofs::DeedForms::any_as, crate::proofs::ThroughLemmas::nothing_through))]
+#[tactic(auto, using(crate::proofs::DeedForms::any_as, crate::proofs::ThroughLemmas::nothing_through))]
 pub fn do_through(deed: &Deed, count: usize, builder: &mut Owned) -> Result<(), Stop>
     requires { FitsThrough (do_of deed.now) (DeedFits deed.now) 0 count (thing_of builder.old) }
     ensures { Acts result (done_through (do_of deed.now) 0 count (thing_of builder.old))
@@ -26,10 +26,7 @@ pub fn do_through(deed: &Deed, count: usize, builder: &mut Owned) -> Result<(), 
     match deed {
         Deed::Nothing => Ok(()),
         Deed::Number(numbers) => do_number(deed, numbers, count, builder),
-        Deed::Pair(keys, numbers) => {
-            let each = EachPair { keys, numbers };
-            do_each(deed, &each, count, builder)
-        }
+        Deed::Pair(keys, numbers) => do_pair(deed, keys, numbers, count, builder),
         Deed::Struct(_) => do_each(deed, &AnyDeed { deed }, count, builder),
         Deed::Choice(truths, then, otherwise) => {
             do_choice(deed, truths, then, otherwise, count, builder)
@@ -51,6 +48,29 @@ fn do_number(deed: &Deed, numbers: &Numbers, count: usize, builder: &mut Owned) 
         put_numbers(numbers, count, builder)
     } else {
         let each = EachNumber { numbers };
+        do_each(deed, &each, count, builder)
+    }
+}
+
+/// The same of two numbers on each row: all at once where their kinds allow it.
+#[tactic(auto, using(crate::proofs::DeedForms::pair_as, crate::proofs::DeedForms::pair_fits, crate::proofs::DeedForms::pair_acts))]
+fn do_pair(
+    deed: &Deed,
+    keys: &Numbers,
+    numbers: &Numbers,
+    count: usize,
+    builder: &mut Owned,
+) -> Result<(), Stop>
+    requires fits { FitsThrough (do_of deed.now) (DeedFits deed.now) 0 count
+        (thing_of builder.old) }
+    requires pair { deed.now ≡ OfPair keys.now numbers.now }
+    ensures { Acts result (done_through (do_of deed.now) 0 count (thing_of builder.old))
+        (thing_of builder.new) }
+{
+    if keys.kind.is_narrow() && numbers.kind.is_narrow() {
+        put_pairs(keys, numbers, count, builder)
+    } else {
+        let each = EachPair { keys, numbers };
         do_each(deed, &each, count, builder)
     }
 }

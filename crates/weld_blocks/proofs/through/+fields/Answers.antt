@@ -1,9 +1,6 @@
 use Rattle.std.proofs.Common.{ap, subst, arith}
 use Rattle.weld_eval.specs.ThingView.{thing_of, things_of}
 use Rattle.weld_blocks.specs.Calm.{IsCalm, AreCalm}
-use Rattle.weld_blocks.specs.Deeds.{DeedFits, do_of}
-use Rattle.weld_blocks.specs.Through.{FitsThrough}
-use Rattle.weld_blocks.specs.declared.deed.Deed.{Deed}
 use Rattle.weld_blocks.proofs.FieldLemmas.{fewer, fewer_within, fewer_fields, first_calm, first_ready, others_ready, none_left, first_stopped, others_done, struct_ready, struct_done}
 use Rattle.weld_blocks.proofs.through.+fields.Goals as goal
 
