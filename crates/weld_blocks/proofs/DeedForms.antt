@@ -10,6 +10,7 @@ use Rattle.weld_blocks.specs.declared.deed.Deed.{Deed}
 use Rattle.weld_blocks.specs.declared.deed.Deed as deed
 use Rattle.weld_blocks.specs.declared.numbers.Numbers.{Numbers}
 use Rattle.weld_blocks.specs.Choices.{IsChoice}
+use Rattle.weld_blocks.specs.Chosen.{pair_guarded, PairGuardedFits}
 use Rattle.weld_blocks.specs.Through.{done_through, FitsThrough}
 
 pub any_as : (d : Deed) → DoesAs (do_of d) (DeedFits d) d
@@ -32,6 +33,18 @@ guarded_as (deed.Choice' x a y b z) c n t e h p q =
     (subst (λ (u : Deed). As (deed.Choice' c a u b z)) (sym (h.1 ∙ p))
     (subst (λ (u : Deed). As (deed.Choice' c a (deed.Number n) b u)) (sym (h.2 ∙ q)) (record { same = λ j s. refl; can = λ j s k. (k.0, k.1, k.2) })))
 guarded_as (deed.Fields ds) c n t e h p q = absurd h
+
+pub pair_guarded_as : (d : Deed) (c k n : Numbers) (t e : Deed) → IsChoice d c t e → t ≡ deed.Pair k n → e ≡ deed.Nothing → DoesAs (pair_guarded c k n) (PairGuardedFits c k n) d
+pair_guarded_as deed.Nothing c k n t e h p q = absurd h
+pair_guarded_as (deed.Number x) c k n t e h p q = absurd h
+pair_guarded_as (deed.Pair x y) c k n t e h p q = absurd h
+pair_guarded_as (deed.Struct cs) c k n t e h p q = absurd h
+pair_guarded_as (deed.Choice' x a y b z) c k n t e h p q =
+    let As = DoesAs (pair_guarded c k n) (PairGuardedFits c k n) in
+    subst (λ (u : Numbers). As (deed.Choice' u a y b z)) (sym h.0)
+    (subst (λ (u : Deed). As (deed.Choice' c a u b z)) (sym (h.1 ∙ p))
+    (subst (λ (u : Deed). As (deed.Choice' c a (deed.Pair k n) b u)) (sym (h.2 ∙ q)) (record { same = λ j s. refl; can = λ j s f. (f.0, f.1, f.2) })))
+pair_guarded_as (deed.Fields ds) c k n t e h p q = absurd h
 
 -- an answer of what is done so is one of the deed
 pub acts_as : {T : Type 0} (r : Result T Stop) (o p : Outcome Thing) (t : Thing) → o ≡ p → Acts r o t → Acts r p t

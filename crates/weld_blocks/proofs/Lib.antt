@@ -1,4 +1,5 @@
 mod BodyLemmas
+mod ChosenLemmas
 mod ColumnLemmas
 mod Doing
 mod Gathering

@@ -29,23 +29,32 @@ pairs_on c d (suc n) (plain v) h less = absurd h.0.2
 pairs_on c d (suc n) (building p) h less = (p, refl)
 pairs_on c d (suc n) (several ts) h less = absurd h.0.2
 
+pub part_is : (a b : Part) → building a ≡ building b → a ≡ b
+part_is a b q = cc
+
 two_kinds : (op : MergeOp) (xs : Totals) (k m : Kind) (x y : ℤ) → IsItemOf (totals_part op xs) (pair (number k x) (number m y)) → kinds_of xs ≡ k ∷ m ∷ []
 two_kinds op [] k m x y h = absurd h
 two_kinds op (a ∷ []) k m x y h = absurd h.1
 two_kinds op (a ∷ b ∷ []) k m x y h = λ j. sym h.0.0 j ∷ sym h.1.0.0 j ∷ []
 two_kinds op (a ∷ b ∷ e ∷ xs) k m x y h = absurd h.1.1
 
-pub pairs_taken : (c d : Numbers) (n : ℕ) (s : Thing) (p : Part) → s ≡ building p → FitsThrough (pair_done c d) (PairFits c d) 0 n s → 0 < n → TakesPairs p c.kind d.kind
-pairs_taken c d zero s p e h less = absurd (omega (arith, less))
-pairs_taken c d (suc n) s p e h less = by p (subst (λ (t : Thing). IsPut t (pair (number_at c 0) (number_at d 0))) e h.0.2)
+-- what takes one pair is a builder that takes others
+pub item_taken : (c d : Numbers) (j : ℕ) (s : Thing) → IsPut s (pair (number_at c j) (number_at d j)) → (p : Part) × (s ≡ building p) × TakesPairs p c.kind d.kind
+item_taken c d j (plain v) h = absurd h
+item_taken c d j (building p) h = (p, refl, by p h)
   where
-    by : (q : Part) → IsPut (building q) (pair (number_at c 0) (number_at d 0)) → TakesPairs q c.kind d.kind
+    by : (q : Part) → IsPut (building q) (pair (number_at c j) (number_at d j)) → TakesPairs q c.kind d.kind
     by (list_part vs) k = tt
     by (total_part op m y) k = absurd k
     by (totals_part op xs) k = two_kinds op xs c.kind d.kind _ _ k
     by (cells_part op m xs) k = (k.0.0, k.1.0)
     by (keyed_part op m o) k = k.1.0
     by (groups_part m) k = tt
+item_taken c d j (several ts) h = absurd h
+
+pub pairs_taken : (c d : Numbers) (n : ℕ) (s : Thing) (p : Part) → s ≡ building p → FitsThrough (pair_done c d) (PairFits c d) 0 n s → 0 < n → TakesPairs p c.kind d.kind
+pairs_taken c d zero s p e h less = absurd (omega (arith, less))
+pairs_taken c d (suc n) s p e h less = let taken = item_taken c d 0 s h.0.2 in subst (λ (q : Part). TakesPairs q c.kind d.kind) (part_is _ p (sym taken.1 ∙ e)) taken.2
 
 -- merged row by row they are merged as a list, which ends where there is a fault
 as_list : (c d : Numbers) (j n : ℕ) (p : Part) → IsNarrow c.kind → IsNarrow d.kind → FitsThrough (pair_done c d) (PairFits c d) j n (building p)

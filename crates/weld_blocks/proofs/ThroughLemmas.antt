@@ -1,12 +1,14 @@
 -- What is done on rows one after another.
-use Rattle.std.proofs.Common.{◌≡◌, ℕ, zero, suc, ◌+◌, ◌-◌, ◌<◌, ◌≤◌, Err, refl, sym, ap, subst, ◌∙◌, arith, add-one}
+use Rattle.std.proofs.Common.{◌≡◌, ℕ, zero, suc, ◌+◌, ◌-◌, ◌<◌, ◌≤◌, Result, Err, refl, sym, ap, subst, ◌∙◌, arith, add-one}
 use Rattle.weld_data.specs.declared.stop.Stop.{Stop}
 use Rattle.weld_data.specs.declared.stop.Stop.TheVariants.{Fault, Memory}
 use Rattle.weld_builders.specs.Outcome.{Outcome, done, and_then}
 use Rattle.weld_meaning.specs.Thing.{Thing}
 use Rattle.weld_acts.specs.Act.{Acts}
-use Rattle.weld_blocks.specs.Deeds.{do_of}
+use Rattle.weld_blocks.specs.Deeds.{do_of, DeedFits}
+use Rattle.weld_blocks.specs.Does.{DoesAs}
 use Rattle.weld_blocks.specs.Through.{done_through, FitsThrough, HasCome}
+use Rattle.weld_blocks.specs.declared.deed.Deed.{Deed}
 use Rattle.weld_blocks.specs.declared.deed.Deed as deed
 
 pub nothing_through : (n : ℕ) (s : Thing) → done_through (do_of deed.Nothing) 0 n s ≡ done s
@@ -44,3 +46,19 @@ come_stops T U Memory does fits count start j s t u less h q = tt
 pub come_end : (does : ℕ → Thing → Outcome Thing) (fits : ℕ → Thing → Type 0) (count : ℕ) (start : Thing) (j : ℕ) (s : Thing) → count ≤ j → HasCome does fits count start j (count - j) s → done_through does 0 count start ≡ done s
 come_end does fits count start j s more h =
     let none : count - j ≡ 0 = omega arith in h.same ∙ ap (λ n. done_through does j n s) none
+
+-- ---- what is done as the deed is
+
+fits_from : (does : ℕ → Thing → Outcome Thing) (fits : ℕ → Thing → Type 0) (d : Deed) (j n : ℕ) (s : Thing) → DoesAs does fits d → FitsThrough (do_of d) (DeedFits d) j n s → FitsThrough does fits j n s
+fits_from does fits d j zero s how h = tt
+fits_from does fits d j (suc n) s how h = (how.can j s h.0, λ t e. fits_from does fits d (suc j) n t how (h.1 t (sym (how.same j s) ∙ e)))
+
+done_from : (does : ℕ → Thing → Outcome Thing) (fits : ℕ → Thing → Type 0) (d : Deed) (j n : ℕ) (s : Thing) → DoesAs does fits d → done_through does j n s ≡ done_through (do_of d) j n s
+done_from does fits d j zero s how = refl
+done_from does fits d j (suc n) s how = λ i. and_then (how.same j s i) (λ t. done_from does fits d (suc j) n t how i)
+
+pub fits_as : (does : ℕ → Thing → Outcome Thing) (fits : ℕ → Thing → Type 0) (d : Deed) (n : ℕ) (s : Thing) → DoesAs does fits d → FitsThrough (do_of d) (DeedFits d) 0 n s → FitsThrough does fits 0 n s
+fits_as does fits d n s how h = fits_from does fits d 0 n s how h
+
+pub acts_as : {T : Type 0} (r : Result T Stop) (does : ℕ → Thing → Outcome Thing) (fits : ℕ → Thing → Type 0) (d : Deed) (n : ℕ) (s t : Thing) → DoesAs does fits d → Acts r (done_through does 0 n s) t → Acts r (done_through (do_of d) 0 n s) t
+acts_as r does fits d n s t how h = subst (λ (o : Outcome Thing). Acts r o t) (done_from does fits d 0 n s how) h

@@ -1,6 +1,7 @@
 pub mod Block
 pub mod Calm
 pub mod Choices
+pub mod Chosen
 pub mod Deeds
 pub mod Does
 pub mod Numbers

@@ -1,10 +1,11 @@
 //! Blocks of the rows of a loop: what its body merges is worked out for many rows at once, each expression for all of them
-//! before the next, and then merged row by row.
+//! before the next, and then merged in the order of the rows.
 #![tactic(auto)]
 
 mod arithmetic;
 pub mod body;
 mod choices;
+mod chosen;
 pub mod columns;
 pub mod deed;
 mod gather;

@@ -1,15 +1,19 @@
 //! What is done on all rows of a block, by a loop for its form, which is looked at once.
 
-ghost use Rattle.std.specs.Prelude.{◌≡◌, ◌<◌, true};
+ghost use Rattle.std.specs.Prelude.{◌≡◌, ◌<◌, ◌≤◌, true};
+ghost use Rattle.weld_data.specs.Kind.{IsNarrow};
 ghost use Rattle.weld_acts.specs.Act.{Acts};
 ghost use Rattle.weld_eval.specs.ThingView.{thing_of, things_of};
 ghost use Rattle.weld_blocks.specs.Calm.{IsCalm, AreCalm};
 ghost use Rattle.weld_blocks.specs.Choices.{IsChoice};
+ghost use Rattle.weld_blocks.specs.Chosen.{pair_guarded, PairGuardedFits};
 ghost use Rattle.weld_blocks.specs.Deeds.{DeedFits, DeedsFit, do_of, do_all, DoesAll};
 ghost use Rattle.weld_blocks.specs.Does.{DoesAs};
+ghost use Rattle.weld_blocks.specs.Numbers.{count_of};
 ghost use Rattle.weld_blocks.specs.Through.{FitsThrough, done_through};
 ghost use Rattle.weld_blocks.specs.declared.deed.Deed.TheVariants.{Nothing as DoesNothing, Number as OfNumber, Pair as OfPair, Fields as OfFields};
 
+use crate::chosen::put_chosen;
 use crate::deed::{AnyDeed, Deed, Deeds, Does, EachGuarded, EachNumber, EachPair};
 use crate::numbers::Numbers;
 use crate::puts::{put_numbers, put_pairs};
@@ -165,8 +169,8 @@ fn is_calm(deed: &Deed) -> bool
 }
 
 /// The same where a truth value says what is done: a loop of its own where that is a merge of a
-/// number or nothing.
-#[tactic(auto, using(crate::proofs::DeedForms::guarded_as, crate::proofs::DeedForms::any_as))]
+/// number, or of two, or nothing.
+#[tactic(auto, using(crate::proofs::DeedForms::guarded_as, crate::proofs::DeedForms::pair_guarded_as, crate::proofs::DeedForms::any_as))]
 fn do_choice(
     deed: &Deed,
     truths: &Numbers,
@@ -186,8 +190,44 @@ fn do_choice(
             let each = EachGuarded { truths, numbers };
             do_each(deed, &each, count, builder)
         }
+        Deed::Pair(keys, numbers) if is_nothing(otherwise) => {
+            do_chosen(deed, truths, keys, numbers, count, builder)
+        }
         _ => do_each(deed, &AnyDeed { deed }, count, builder),
     }
+}
+
+/// The same of two numbers or nothing: those that are chosen all at once where their kinds allow it.
+#[tactic(auto, using(crate::proofs::DeedForms::any_as, crate::proofs::ThroughLemmas::fits_as, crate::proofs::ThroughLemmas::acts_as))]
+fn do_chosen(
+    deed: &Deed,
+    truths: &Numbers,
+    keys: &Numbers,
+    numbers: &Numbers,
+    count: usize,
+    builder: &mut Owned,
+) -> Result<(), Stop>
+    requires fits { FitsThrough (do_of deed.now) (DeedFits deed.now) 0 count
+        (thing_of builder.old) }
+    requires each { DoesAs (pair_guarded truths.now keys.now numbers.now)
+        (PairGuardedFits truths.now keys.now numbers.now) deed.now }
+    ensures { Acts result (done_through (do_of deed.now) 0 count (thing_of builder.old))
+        (thing_of builder.new) }
+{
+    let _deed = deed;
+    if has_words(keys, count) && has_words(numbers, count) && truths.len() >= count {
+        put_chosen(truths, keys, numbers, count, builder)
+    } else {
+        do_each(deed, &AnyDeed { deed }, count, builder)
+    }
+}
+
+/// Whether there are so many numbers, and of a kind whose numbers lie within an i64.
+fn has_words(numbers: &Numbers, count: usize) -> bool
+    ensures count { result ≡ true → count ≤ count_of numbers.now }
+    ensures narrow { result ≡ true → IsNarrow numbers.now.kind }
+{
+    numbers.kind.is_narrow() && numbers.len() >= count
 }
 
 /// Whether it does nothing.
