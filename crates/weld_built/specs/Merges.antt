@@ -1,5 +1,5 @@
 -- Several items merged one after another.
-use Rattle.std.specs.Prelude.{◌≡◌, List, [], ◌∷◌}
+use Rattle.std.specs.Prelude.{◌≡◌, Bool, true, false, List, [], ◌∷◌, Result, Ok, Err}
 use Rattle.weld_data.specs.declared.kind.Kind.{Kind}
 use Rattle.weld_data.specs.declared.kind.Kind.TheVariants as kinds
 use Rattle.weld_data.specs.Value.{Value}
@@ -28,3 +28,9 @@ TakesPairs (totals_part op xs) key kind = kinds_of xs ≡ key ∷ kind ∷ []
 TakesPairs (cells_part op k xs) key kind = (key ≡ kinds.I64) × (kind ≡ k)
 TakesPairs (keyed_part op k m) key kind = kind ≡ k
 TakesPairs (groups_part m) key kind = Unit {0}
+
+-- what it answers that appends all or nothing: true, that what is there then is so; false, that nothing has changed; want of memory says nothing
+abbrev pub MayAppend : {X E : Type 0} → Result Bool E → X → (X → Type 0) → X → Type 0
+MayAppend (Ok true) old All new = All new
+MayAppend (Ok false) old All new = new ≡ old
+MayAppend (Err e) old All new = Unit {0}

@@ -4,7 +4,8 @@ ghost use Rattle.weld_data.specs.Value.{number};
 ghost use Rattle.weld_data.specs.View.{view_val};
 ghost use Rattle.weld_builders.specs.Part.{shape_of, bare, merge_part, after_part, result_of};
 ghost use Rattle.weld_builders.specs.Range.{AllInRange, IsInRange};
-ghost use Rattle.weld_built.specs.Merges.{merge_all, TakesNumbers};
+ghost use Rattle.weld_builders.specs.Outcome.{done};
+ghost use Rattle.weld_built.specs.Merges.{merge_all, TakesNumbers, MayAppend};
 ghost use Rattle.weld_built.specs.Logged.{IsItemOf, HasResult};
 ghost use Rattle.weld_built.specs.State.{MergeAnswer, part_of_state, IsState};
 
@@ -13,6 +14,7 @@ use crate::fitting::number_of;
 use crate::groups::join_groups;
 use crate::keyed::join_keyed;
 use crate::list;
+use crate::own::Own;
 use crate::pairs::{pair_into, pairs_into, values_into};
 use crate::totals::merge_fields;
 use std::alloc::{AllocError, Global};
@@ -62,7 +64,8 @@ impl Built {
     ghost use Rattle.weld_data.specs.View.{view_val};
     ghost use Rattle.weld_builders.specs.Part.{total_part, list_shape, total_shape, cells_shape, keyed_shape, groups_shape, start_part, shape_of, bare, merge_part, after_part, result_of};
     ghost use Rattle.weld_builders.specs.Range.{AllInRange, IsInRange};
-    ghost use Rattle.weld_built.specs.Merges.{merge_all, TakesNumbers, TakesPairs};
+    ghost use Rattle.weld_builders.specs.Outcome.{done};
+    ghost use Rattle.weld_built.specs.Merges.{merge_all, TakesNumbers, TakesPairs, MayAppend};
     ghost use Rattle.weld_built.specs.Logged.{IsItemOf, HasResult};
     ghost use Rattle.weld_built.specs.Pair.{pair, number_pairs};
     ghost use Rattle.weld_built.specs.State.{MergeAnswer};
@@ -184,6 +187,15 @@ impl Built {
         ensures { MergeAnswer result (merge_all self.old (map (number kind) items.now)) self.new }
     {
         numbers_into(&mut self.state, kind, items)
+    }
+
+    /// Appends items that are numbers in the width of their kind, the first one first, where the builder
+    /// is a list that keeps them so; it tells whether it is. Else nothing changes.
+    pub fn append_own<T: Own>(&mut self, numbers: &[T]) -> Result<bool, AllocError>
+        ensures { MayAppend result self.old
+            (λ all. merge_all self.old (map T.value numbers.now) ≡ done all) self.new }
+    {
+        own_into(&mut self.state, numbers)
     }
 
     /// Merges an item that is a struct of two numbers that lie within an i64, as a number at an index
@@ -361,6 +373,24 @@ fn numbers_into(state: &mut State, kind: Kind, items: &[i64]) -> Result<(), Stop
             Err(_) => return Err(Stop::Memory),
         },
         _ => unreachable!(),
+    }
+}
+
+/// Appends numbers in the width of their kind.
+#[tactic(auto, using(crate::proofs::ManyLemmas::merged_list))]
+fn own_into<T: Own>(state: &mut State, numbers: &[T]) -> Result<bool, AllocError>
+    requires { IsState state.old }
+    ensures answer { MayAppend result (part_of_state state.old)
+        (λ all. merge_all (part_of_state state.old) (map T.value numbers.now) ≡ done all)
+        (part_of_state state.new) }
+    ensures state { IsState state.new }
+{
+    match state {
+        State::List(_, list) => match T::append(list, numbers) {
+            Ok(told) => return Ok(told),
+            Err(e) => return Err(e),
+        },
+        _ => return Ok(false),
     }
 }
 

@@ -10,6 +10,7 @@ mod fitting;
 mod groups;
 mod keyed;
 mod list;
+pub mod own;
 mod pairs;
 pub mod totals;
 
