@@ -1,5 +1,5 @@
 -- The rows of legs of numbers.
-use Rattle.std.proofs.Common.{Bor, ◌≡◌, ℕ, zero, suc, ◌<◌, ◌≤◌, false, true, ℤ, List, [], ◌∷◌, ◌++◌, length, map, get_or, slice_get, Option, Some, option_to_list, refl, sym, ap, subst, ◌∙◌, arith}
+use Rattle.std.proofs.Common.{Bor, ◌≡◌, ℕ, zero, suc, ◌<◌, ◌≤◌, false, true, ℤ, List, [], ◌∷◌, ◌++◌, length, map, get_or, slice_get, Option, Some, option_to_list, refl, ap, ◌∙◌, arith}
 use Rattle.std.proofs.lemmas.List.{length-map}
 use Rattle.weld_data.specs.declared.kind.Kind.{Kind}
 use Rattle.weld_data.specs.declared.value.Column.{Column}

@@ -1,5 +1,5 @@
 -- What the rows of a loop merge whose body steps mean.
-use Rattle.std.proofs.Common.{◌≡◌, ℕ, ◌<◌, ◌==◌, Bool, true, false, if◌then◌else◌, ℤ, List, ◌∷◌, map, Option, Some, IfSome, refl, sym, ap, subst, ◌∙◌}
+use Rattle.std.proofs.Common.{◌≡◌, ℕ, ◌==◌, Bool, false, if◌then◌else◌, ℤ, List, ◌∷◌, map, Option, Some, IfSome, refl, sym, ap, subst, ◌∙◌}
 use Rattle.std.proofs.lemmas.Bool.{eq-eqb}
 use Rattle.weld_data.specs.declared.kind.Kind.{Kind}
 use Rattle.weld_data.specs.Value.{Value, number}
@@ -16,10 +16,10 @@ use Rattle.weld_meaning.specs.Typing.{HasType, body_types}
 use Rattle.weld_eval.specs.Fit.{IsFit}
 use Rattle.weld_eval.specs.RowLists.{row_in}
 use Rattle.weld_eval.proofs.LoopSteps.{named_body}
-use Rattle.weld_eval_plain.specs.Rows.{row_step, RowIs}
+use Rattle.weld_eval_plain.specs.Rows.{row_step}
 use Rattle.weld_lanes.specs.Answers.{at, row_answer}
 use Rattle.weld_lanes.specs.declared.steps.LaneProgram.{LaneProgram}
-use Rattle.weld_lane_form.specs.Bodies.{Lowered, Stands, row_value, TakesNumber, MeansBody}
+use Rattle.weld_lane_form.specs.Bodies.{Stands, row_value, TakesNumber, MeansBody}
 use Rattle.weld_lane_form.specs.Made.{lowered_by, MayMeanBody}
 use Rattle.weld_lane_form.specs.declared.making.LaneBody.{LaneBody}
 use Rattle.weld_lane_form.specs.declared.making.LoopNames.{LoopNames}

@@ -1,17 +1,17 @@
 -- Numbers that rows merge one after another are merged as a list.
-use Rattle.std.proofs.Common.{◌≡◌, ℕ, zero, suc, ◌+◌, ◌-◌, ◌<◌, ◌≤◌, ℤ, List, [], ◌∷◌, length, map, Result, Ok, Err, refl, sym, ap, subst, ◌∙◌, arith}
+use Rattle.std.proofs.Common.{◌≡◌, ℕ, zero, suc, ◌+◌, ◌-◌, ◌<◌, ◌≤◌, ℤ, List, [], ◌∷◌, length, map, Bool, true, false, Result, Ok, Err, refl, sym, ap, subst, ◌∙◌, arith}
 use Rattle.weld_data.specs.declared.kind.Kind.{Kind}
 use Rattle.weld_data.specs.declared.stop.Stop.{Stop}
 use Rattle.weld_data.specs.declared.stop.Stop.TheVariants.{Fault}
 use Rattle.weld_data.specs.Kind.{InRange}
 use Rattle.weld_data.specs.Value.{Value, number}
-use Rattle.weld_tree.specs.TypeTree.{TypeTree, BuildTree, scalar, vec, struct, dict, build, list, total, keyed, cells, groups}
+use Rattle.weld_tree.specs.TypeTree.{TypeTree, BuildTree, scalar, build, list, total, keyed, cells, groups}
 use Rattle.weld_tree.specs.Types.{takes}
 use Rattle.weld_tree.specs.ExprTree.{ExprTree}
 use Rattle.weld_builders.specs.Outcome.{Outcome, done, fault, and_then, map_out}
 use Rattle.weld_builders.specs.Part.{Part, list_part, total_part, totals_part, cells_part, keyed_part, groups_part, merge_part}
 use Rattle.weld_builders.specs.Range.{AllInRange}
-use Rattle.weld_built.specs.Merges.{merge_all, TakesNumbers}
+use Rattle.weld_built.specs.Merges.{merge_all, TakesNumbers, MayAppend}
 use Rattle.weld_built.specs.State.{MergeAnswer}
 use Rattle.weld_meaning.specs.Evaluation.{Env, rows_of}
 use Rattle.weld_meaning.specs.Thing.{Thing, plain, building, several}
@@ -21,7 +21,6 @@ use Rattle.weld_eval.specs.declared.thing.Owned.TheVariants as owned
 use Rattle.weld_eval.specs.RowLists.{row_in}
 use Rattle.weld_eval.specs.ThingView.{thing_of}
 use Rattle.weld_eval.proofs.RowLists.{row_of_rows}
-use Rattle.weld_eval_plain.specs.Rows.{row_step}
 use Rattle.weld_acts.specs.Ranges.{HoldsRange, range_over}
 use Rattle.weld_acts.proofs.RangeSteps.{range_row, one_of_range, none_left}
 use Rattle.weld_lanes.specs.Answers.{at}
@@ -188,3 +187,17 @@ piece_done r x n env lists k m g from to s p q xs is e a h rows less built long 
 
 pub piece_in_range : (n : ExprTree) (env : Env) (lists : List (List Value)) (k m : Kind) (g : ℕ → ℤ) (from to : ℕ) (s : Thing) (xs : List ℤ) → m ≡ k → HoldsRange n env lists from to s → MergesRows n env lists k g to → length xs ≡ to - from → AreFrom g from (to - from) xs → AllInRange m xs
 piece_in_range n env lists k m g from to s xs e h r long are = subst (λ (j : Kind). AllInRange j xs) (sym e) (numbers_in_range n env lists k g from to s xs h r long are)
+
+-- ---- numbers in the width of their kind
+
+-- they are merged as their words are
+pub merged_as_words : {T : Type 0} (f : T → ℤ) (k : Kind) (p q : Part) (xs : List T) → merge_all p (map (λ x. number k (f x)) xs) ≡ done q → merge_all p (map (number k) (map f xs)) ≡ done q
+merged_as_words {T} f k p q xs h = ap (merge_all p) (same xs) ∙ h
+  where
+    same : (ys : List T) → map (number k) (map f ys) ≡ map (λ y. number k (f y)) ys
+    same [] = refl
+    same (y ∷ ys) = ap (λ zs. number k (f y) ∷ zs) (same ys)
+
+pub all_appended : {X : Type 0} (E : Type 0) (told : Bool) (old new : X) (All : X → Type 0) → told ≡ true → MayAppend {E = E} (Ok told) old All new → All new
+all_appended E true old new All e h = h
+all_appended E false old new All e h = absurd (let no : false ≡ true = e in cc)

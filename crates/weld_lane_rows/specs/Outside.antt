@@ -1,5 +1,5 @@
 -- Names of a loop, and of numbers that are the same on all its rows.
-use Rattle.std.specs.Prelude.{◌≡◌, ℕ, ◌==◌, Bool, true, false, ◌||◌, not, ℤ, List, slice_get, Some}
+use Rattle.std.specs.Prelude.{◌≡◌, ℕ, ◌==◌, false, ℤ, List, slice_get, Some}
 use Rattle.weld_data.specs.declared.kind.Kind.{Kind}
 use Rattle.weld_data.specs.Value.{number}
 use Rattle.weld_tree.specs.declared.sym.Sym.{Sym}

@@ -10,9 +10,9 @@ ghost use Rattle.weld_eval.specs.ThingView.{thing_of};
 ghost use Rattle.weld_lanes.specs.Answers.{room_of};
 ghost use Rattle.weld_lane_rows.specs.Rows.{answer_at, AreFrom, MergesRows};
 
-use crate::words::Word;
+use crate::words::{Word, merge_numbers};
 use std::alloc::{AllocError, Global};
-use weld_data::{Kind, Stop};
+use weld_data::Stop;
 use weld_eval::frame::Frame;
 use weld_eval::legs::Legs;
 use weld_eval::thing::Owned;
@@ -103,8 +103,11 @@ fn run_in_room<L: Word>(
     let mut reached = from;
     'pieces: while reached < to {
         let end = piece_end(reached, to);
-        let numbers = piece_numbers(lanes, scratch, answers, words, reached, end);
-        merge_piece(node, frame, legs, lanes, numbers, reached, end, builder)?;
+        let numbers = piece_numbers(lanes, scratch, answers, reached, end);
+        let room = &mut words[..end - reached];
+        merge_piece(
+            node, frame, legs, lanes, numbers, room, reached, end, builder,
+        )?;
         reached = end;
     }
     Ok(())
@@ -120,33 +123,31 @@ fn piece_end(from: usize, to: usize) -> usize
     if to - from < PIECE { to } else { from + PIECE }
 }
 
-/// What the steps answer on the rows of a piece, in words.
+/// What the steps answer on the rows of a piece, in the width of their kind.
 fn piece_numbers<'a, L: Word>(
     lanes: &Lanes<L>,
     scratch: &mut Scratch<L>,
     answers: &'a mut [L],
-    words: &'a mut [i64],
     from: usize,
     to: usize,
-) -> &'a [i64]
+) -> &'a [L]
     requires ordered { from ≤ to }
     requires kind { lanes.now.program.now.kind ≡ L.kind }
     requires first { to ≤ length lanes.now.first.now }
     requires second { to ≤ length lanes.now.second.now }
     requires room { room_of (length lanes.now.program.now.steps.items) ≤ scratch.old }
     requires answers { to - from ≤ length answers.old }
-    requires words { to - from ≤ length words.old }
     ensures room { scratch.new ≡ scratch.old }
     ensures long { length result.now ≡ to - from }
     ensures are { AreFrom (answer_at L.number L.kind lanes.now.program.now lanes.now.uniforms.now
-        lanes.now.first.now lanes.now.second.now) from (to - from) result.now }
+        lanes.now.first.now lanes.now.second.now) from (to - from) (map L.number result.now) }
 {
     let out = &mut answers[..to - from];
     piece_answers(lanes, scratch, out, from, to);
-    L::words(&*out, &mut words[..to - from])
+    out
 }
 
-/// The same in the width of their kind.
+/// The same, written into the room.
 fn piece_answers<L: Word>(
     lanes: &Lanes<L>,
     scratch: &mut Scratch<L>,
@@ -175,7 +176,8 @@ fn merge_piece<L: Word>(
     frame: &Frame,
     legs: &Legs,
     lanes: &Lanes<L>,
-    numbers: &[i64],
+    numbers: &[L],
+    room: &mut [i64],
     from: usize,
     to: usize,
     builder: &mut Owned,
@@ -187,8 +189,9 @@ fn merge_piece<L: Word>(
         (answer_at L.number L.kind lanes.now.program.now lanes.now.uniforms.now lanes.now.first.now
         lanes.now.second.now) to }
     requires long { length numbers.now ≡ to - from }
+    requires room { length room.old ≡ to - from }
     requires are { AreFrom (answer_at L.number L.kind lanes.now.program.now lanes.now.uniforms.now
-        lanes.now.first.now lanes.now.second.now) from (to - from) numbers.now }
+        lanes.now.first.now lanes.now.second.now) from (to - from) (map L.number numbers.now) }
     ensures { OnOk result (range_over node.now (env_of frame.now) (lists_of legs.now) from to
         (thing_of builder.old) ≡ done (thing_of builder.new)) }
 {
@@ -197,7 +200,7 @@ fn merge_piece<L: Word>(
     let _legs = legs;
     let _lanes = lanes;
     match builder {
-        Owned::Built(built) => match built.merge_numbers(L::kind_of(), numbers) {
+        Owned::Built(built) => match merge_numbers(built, numbers, room) {
             Ok(()) => Ok(()),
             Err(Stop::Memory) => Err(AllocError),
             Err(Stop::Fault) => unreachable!(),

@@ -1,8 +1,14 @@
 //! Numbers of lanes as words of 64 bits.
 
 ghost use Rattle.std.specs.Prelude.{◌≡◌, ◌+◌, ◌<◌, ◌≤◌, length, map};
+ghost use Rattle.weld_data.specs.Value.{number as value_of};
+ghost use Rattle.weld_builders.specs.Range.{AllInRange};
+ghost use Rattle.weld_built.specs.Merges.{merge_all, TakesNumbers};
+ghost use Rattle.weld_built.specs.State.{MergeAnswer};
 
-use weld_data::{Column, Kind};
+use std::alloc::AllocError;
+use weld_built::Built;
+use weld_data::{Column, Kind, Stop};
 use weld_lanes::Lane;
 
 /// A number of a kind whose numbers all lie within an i64.
@@ -20,6 +26,8 @@ pub trait Word: Narrow {
     ghost use Rattle.weld_data.specs.Kind.{IsNarrow};
     ghost use Rattle.weld_data.specs.Value.{number as value_of};
     ghost use Rattle.weld_data.specs.View.{view_column};
+    ghost use Rattle.weld_builders.specs.Outcome.{done};
+    ghost use Rattle.weld_built.specs.Merges.{merge_all, MayAppend};
 
     /// The kind. It takes no memory.
     fn kind_of() -> Kind
@@ -35,6 +43,12 @@ pub trait Word: Narrow {
     fn words<'a>(numbers: &'a [Self], room: &'a mut [i64]) -> &'a [i64]
         requires { length numbers.now ≡ length room.old }
         ensures { result.now ≡ map Self.number numbers.now };
+
+    /// Appends numbers to a builder that is a list which keeps them in the width of their kind, where
+    /// that is less than a word; tells whether it did. Else nothing changes.
+    fn append(built: &mut Built, numbers: &[Self]) -> Result<bool, AllocError>
+        ensures { MayAppend result built.old (λ all. merge_all built.old
+            (map (λ x. value_of Self.kind (Self.number x)) numbers.now) ≡ done all) built.new };
 }
 
 impl Narrow for i64 {
@@ -59,6 +73,10 @@ impl Word for i64 {
 
     fn words<'a>(numbers: &'a [i64], _room: &'a mut [i64]) -> &'a [i64] {
         numbers
+    }
+
+    fn append(_built: &mut Built, _numbers: &[i64]) -> Result<bool, AllocError> {
+        Ok(false)
     }
 }
 
@@ -86,6 +104,10 @@ impl Word for i32 {
         widen(numbers, room);
         room
     }
+
+    fn append(built: &mut Built, numbers: &[i32]) -> Result<bool, AllocError> {
+        built.append_own(numbers)
+    }
 }
 
 impl Narrow for u8 {
@@ -111,6 +133,10 @@ impl Word for u8 {
     fn words<'a>(numbers: &'a [u8], room: &'a mut [i64]) -> &'a [i64] {
         widen(numbers, room);
         room
+    }
+
+    fn append(built: &mut Built, numbers: &[u8]) -> Result<bool, AllocError> {
+        built.append_own(numbers)
     }
 }
 
@@ -138,6 +164,10 @@ impl Word for u32 {
         widen(numbers, room);
         room
     }
+
+    fn append(built: &mut Built, numbers: &[u32]) -> Result<bool, AllocError> {
+        built.append_own(numbers)
+    }
 }
 
 /// Writes each number as a word.
@@ -147,5 +177,25 @@ fn widen<L: Narrow>(numbers: &[L], room: &mut [i64])
 {
     for place in 0..numbers.len() {
         room[place] = numbers[place].to_word();
+    }
+}
+
+/// Merges numbers into a builder, the first one first: in the width of their kind where it keeps them
+/// so, else as words.
+pub(crate) fn merge_numbers<L: Word>(
+    built: &mut Built,
+    numbers: &[L],
+    room: &mut [i64],
+) -> Result<(), Stop>
+    requires room { length numbers.now ≡ length room.old }
+    requires in_range { AllInRange L.kind (map L.number numbers.now) }
+    requires items { TakesNumbers built.old L.kind }
+    ensures { MergeAnswer result (merge_all built.old (map (value_of L.kind)
+        (map L.number numbers.now))) built.new }
+{
+    match L::append(built, numbers) {
+        Ok(true) => Ok(()),
+        Ok(false) => built.merge_numbers(L::kind_of(), L::words(numbers, room)),
+        Err(_) => Err(Stop::Memory),
     }
 }
