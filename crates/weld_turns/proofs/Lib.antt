@@ -1,6 +1,9 @@
+mod Copying
+mod Fillings
 mod Making
 mod Outside
 mod Runs
+mod Scoping
 mod SlotLemmas
 mod States
 mod Turning

@@ -3,12 +3,11 @@ use Rattle.std.proofs.Common.{◌≡◌, ℕ, ◌==◌, Bool, true, false, if◌
 use Rattle.weld_data.specs.declared.kind.Kind.{Kind}
 use Rattle.weld_data.specs.declared.op.BinOp.{BinOp}
 use Rattle.weld_data.specs.Value.{Value, number}
-use Rattle.weld_built.specs.Pair.{pair}
 use Rattle.weld_builders.specs.Outcome.{Outcome, done, fault, stuck, and_then, map_out}
-use Rattle.weld_tree.specs.ExprTree.{ExprTree, leaf, one, two, three, many, let_in, loop, iterate, Leaf, int, truth as truth_leaf, name, One, neg, not as not_of, cast, field, Two, binary, and as and_form, or as or_form, Three, if_else, select}
+use Rattle.weld_tree.specs.ExprTree.{ExprTree, leaf, one, two, three, many, let_in, loop, iterate, Leaf, int, truth as truth_leaf, name, neg, not as not_of, cast, field, binary, and as and_form, or as or_form, if_else, select}
 use Rattle.weld_meaning.specs.Environment.{look_for}
 use Rattle.weld_meaning.specs.Evaluation.{Env, eval, found, leaf_thing, one_thing, two_thing, three_thing, on_value, on_values, on_three, value_out, operated, negated, contrary, cast_to, truth_of, truth_value, selected, chosen}
-use Rattle.weld_meaning.specs.Thing.{Thing, plain, as_value, field_of, value_field}
+use Rattle.weld_meaning.specs.Thing.{Thing, plain}
 use Rattle.weld_turns.specs.CodeView.{Slots, shape_value, value, either_of}
 use Rattle.weld_eval.specs.ShortView.{view_short}
 use Rattle.weld_eval.specs.declared.short.Short.{Short}
@@ -17,7 +16,7 @@ use Rattle.weld_turns.specs.Scopes.{with_scope, IsFieldSlot, IsNameOf, IsTruth, 
 use Rattle.weld_turns.specs.declared.code.Code.{Code}
 use Rattle.weld_turns.specs.declared.code.Code as code
 use Rattle.weld_turns.specs.declared.code.Shape.{Shape}
-use Rattle.weld_turns.specs.declared.code.Shape.TheVariants.{One as OneSlot, Pair as TwoSlots}
+use Rattle.weld_turns.specs.declared.code.Shape.TheVariants.{One as OneSlot}
 use Rattle.weld_turns.specs.declared.code.Place.{Place}
 
 -- ---- what is done with values, on things that are values

@@ -3,7 +3,7 @@ use Rattle.std.proofs.Common.{◌≡◌, ℕ, Option, Some, None, IfSome, Bor, a
 use Rattle.weld_data.specs.Value.{Value}
 use Rattle.weld_built.specs.Pair.{pair}
 use Rattle.weld_builders.specs.Outcome.{done}
-use Rattle.weld_meaning.specs.Thing.{Thing, plain, field_of}
+use Rattle.weld_meaning.specs.Thing.{plain, field_of}
 use Rattle.weld_meaning.specs.Environment.{look_for}
 use Rattle.weld_eval.specs.FrameView.{env_of}
 use Rattle.weld_eval.specs.NamesView.{env_of_names}
@@ -13,7 +13,6 @@ use Rattle.weld_eval.specs.declared.frame.Frame.TheVariants as links
 use Rattle.weld_eval.specs.declared.frame.Slot.{Slot}
 use Rattle.weld_eval.specs.declared.names.Names.{Names}
 use Rattle.weld_eval.proofs.Below.{found_below}
-use Rattle.weld_turns.specs.Outside.{StandsFor}
 
 pub first_of_pair : (v x y : Value) (n : ℕ) → v ≡ pair x y → n ≡ 0 → field_of n (plain v) ≡ done (plain x)
 first_of_pair v x y n is none = ap (λ m. field_of m (plain v)) none ∙ ap (λ u. field_of 0 (plain u)) is

@@ -1,5 +1,5 @@
 -- Slots that are read and written.
-use Rattle.std.proofs.Common.{◌≡◌, ℕ, ℤ, subst, zero, suc, ◌+◌, ◌<◌, ◌==◌, ◌≢◌, Bool, true, false, if◌then◌else◌, List, [], ◌∷◌, length, set, get_or, slice_get, Option, Some, refl, ap, sym, ◌∙◌, arith}
+use Rattle.std.proofs.Common.{◌≡◌, ℕ, ℤ, subst, zero, suc, ◌+◌, ◌<◌, ◌==◌, Bool, true, false, if◌then◌else◌, List, [], ◌∷◌, length, set, get_or, refl, ap, sym, ◌∙◌, arith}
 use Rattle.std.proofs.lemmas.Bool.{eq-eqb, eqb-true}
 use Rattle.weld_data.specs.Value.{Value}
 use Rattle.weld_built.specs.Pair.{pair}
@@ -8,7 +8,7 @@ use Rattle.weld_eval.specs.declared.short.Short.{Short}
 use Rattle.weld_data.specs.declared.kind.Kind.{Kind}
 use Rattle.weld_builders.specs.Outcome.{done}
 use Rattle.weld_turns.specs.Answers.{IsNumberIn}
-use Rattle.weld_turns.specs.CodeView.{slot_value, slots_of, with_slot}
+use Rattle.weld_turns.specs.CodeView.{slots_of, with_slot}
 
 pub slot_is : (ss : List Short) (i : ℕ) (n : Short) → i < length ss → n ≡ get_or ss i n → slots_of ss i ≡ view_short n
 slot_is [] i n h e = absurd (omega arith)

@@ -1,11 +1,10 @@
 -- Turn after turn.
-use Rattle.std.proofs.Common.{◌≡◌, ℕ, zero, suc, ◌+◌, ◌-◌, ◌<◌, ◌≤◌, ◌∷◌, Bool, true, false, if◌then◌else◌, List, [], length, set, get_or, refl, ap, sym, subst, ◌∙◌, arith}
+use Rattle.std.proofs.Common.{◌≡◌, ℕ, suc, ◌+◌, ◌-◌, ◌<◌, ◌≤◌, ◌∷◌, Bool, true, false, if◌then◌else◌, List, [], length, set, refl, ap, sym, subst, ◌∙◌, arith}
 use Rattle.weld_data.specs.Value.{Value}
 use Rattle.weld_built.specs.Pair.{pair}
 use Rattle.weld_tree.specs.ExprTree.{ExprTree}
-use Rattle.weld_builders.specs.Outcome.{Outcome, done, fault, and_then, map_out}
+use Rattle.weld_builders.specs.Outcome.{Outcome, done, fault, and_then}
 use Rattle.weld_meaning.specs.Evaluation.{Env, eval, next_turn, truth_of, turns, turn_limit, value_out}
-use Rattle.weld_meaning.specs.Thing.{Thing, plain}
 use Rattle.weld_eval.specs.ShortView.{view_short}
 use Rattle.weld_eval.specs.declared.short.Short.{Short}
 use Rattle.weld_turns.specs.CodeView.{Slots, shape_value, slots_of, turn_value}

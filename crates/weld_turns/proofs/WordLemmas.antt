@@ -1,5 +1,5 @@
 -- Operators on words.
-use Rattle.std.proofs.Common.{◌≡◌, ℤ, pos, true, false, not, if◌then◌else◌, Option, Some, None, option_map, refl, sym, ap, subst, ◌∙◌}
+use Rattle.std.proofs.Common.{◌≡◌, ℤ, pos, true, not, if◌then◌else◌, Option, Some, None, option_map, refl, sym, ap, subst, ◌∙◌}
 use Rattle.std.specs.Ordering.{int_eq}
 use Rattle.weld_data.specs.declared.kind.Kind.{Kind}
 use Rattle.weld_data.specs.declared.kind.Kind.TheVariants as kinds
@@ -9,7 +9,7 @@ use Rattle.weld_data.specs.Lookup.{same_kind}
 use Rattle.weld_data.specs.Operation.{operation, answer_kind, truth}
 use Rattle.weld_data.specs.Value.{Value, number}
 use Rattle.weld_data.specs.Wrapped.{wrapped}
-use Rattle.weld_builders.specs.Outcome.{Outcome, done, fault, stuck, map_out, or_fault}
+use Rattle.weld_builders.specs.Outcome.{done, fault, stuck, map_out, or_fault}
 use Rattle.weld_meaning.specs.Evaluation.{operated, negated, contrary, cast_to, truth_of, truth_value}
 use Rattle.weld_eval.specs.Word.{of_word}
 use Rattle.std.specs.Prelude.{neg_ℤ, Bool}

@@ -1,5 +1,5 @@
 -- What is answered of code that is run.
-use Rattle.std.specs.Prelude.{◌≡◌, ℕ, ℤ, Bool, Option, Some, None, Result, Ok, Err, FitsSigned}
+use Rattle.std.specs.Prelude.{◌≡◌, ℤ, Bool, Option, Some, None, Result, Ok, Err, FitsSigned}
 use Rattle.std.specs.Int.{w64}
 use Rattle.weld_data.specs.declared.kind.Kind.{Kind}
 use Rattle.weld_data.specs.Kind.{InRange}
@@ -27,6 +27,12 @@ KindAndWord (Err Other) x o = Unit {0}
 abbrev pub KindAtHand : Option Kind → ℤ → Outcome Value → Type 0
 KindAtHand (Some k) x o = IsNumberIn k x o
 KindAtHand None x o = Unit {0}
+
+-- Ok says that the slots are what it comes to; a fault, that it is one; else nothing is said
+abbrev pub AreSlots : Result (Unit {0}) Halt → Slots → Outcome Slots → Type 0
+AreSlots (Ok u) f o = o ≡ done f
+AreSlots (Err Fault) f o = o ≡ fault
+AreSlots (Err Other) f o = Unit {0}
 
 -- the same of a turn: it answers whether to go on, and the next state stands in the first slots
 abbrev pub NextState : Result Bool Halt → Shape → Slots → Outcome Value → Type 0

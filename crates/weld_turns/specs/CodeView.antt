@@ -9,6 +9,8 @@ use Rattle.weld_eval.specs.ShortView.{view_short}
 use Rattle.weld_eval.specs.declared.short.Short.{Short}
 use Rattle.weld_turns.specs.declared.code.Code.{Code}
 use Rattle.weld_turns.specs.declared.code.Code as code
+use Rattle.weld_turns.specs.declared.code.Filling.{Filling}
+use Rattle.weld_turns.specs.declared.code.Filling as filling
 use Rattle.weld_turns.specs.declared.code.Turn.{Turn}
 use Rattle.weld_turns.specs.declared.code.Turn as turns
 use Rattle.weld_turns.specs.declared.code.Shape.{Shape}
@@ -54,10 +56,18 @@ value (code.Cast' k a x) f = and_then (value x f) (λ v. cast_to k v)
 value (code.Choice' a c b x d y) f = and_then (value c f) (λ u. either_of u (value x f) (value y f))
 value (code.Select' a c b x d y) f = and_then (value c f) (λ u. and_then (value x f) (λ v. and_then (value y f) (λ w. selected u v w)))
 
+-- ---- slots that are filled
+
+-- the slots once they are filled
+abbrev pub filled : Filling → Slots → Outcome Slots
+filled (filling.Put to c) f = map_out (with_slot f to) (value c f)
+filled (filling.Then' a x b y) f = and_then (filled x f) (filled y)
+filled (filling.Either' c a x b y) f = and_then (value c f) (λ v. either_of v (filled x f) (filled y f))
+
 -- ---- turns
 
 -- what a turn comes to: the struct of the next state and of whether to go on
 abbrev pub turn_value : Turn → Shape → Slots → Outcome Value
-turn_value (turns.Put' to c a rest) shape f = and_then (value c f) (λ v. turn_value rest shape (with_slot f to v))
+turn_value (turns.First' x a rest) shape f = and_then (filled x f) (λ g. turn_value rest shape g)
 turn_value (turns.Either' c a x b y) shape f = and_then (value c f) (λ v. either_of v (turn_value x shape f) (turn_value y shape f))
 turn_value (turns.End first c) shape f = and_then (value c f) (λ v. done (pair (shape_value shape first f) v))

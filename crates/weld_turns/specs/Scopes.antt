@@ -1,5 +1,5 @@
 -- The names of a body, and what code means there.
-use Rattle.std.specs.Prelude.{◌≡◌, ℕ, zero, suc, ◌+◌, ◌≤◌, Bool, List, [], ◌∷◌, Some}
+use Rattle.std.specs.Prelude.{◌≡◌, ℕ, ◌+◌, ◌≤◌, Bool, List, [], ◌∷◌, Some}
 use Rattle.weld_tree.specs.ExprTree.{ExprTree, leaf, name, make_struct}
 use Rattle.weld_builders.specs.Outcome.{Outcome, done, and_then, map_out}
 use Rattle.weld_meaning.specs.Evaluation.{Env, truth_value, many_thing}

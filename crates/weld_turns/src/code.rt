@@ -1,5 +1,8 @@
 //! What the body of an `iterate` over numbers is made to: numbers worked out from slots, and what a turn does.
 
+ghost use Rattle.std.specs.Prelude.{◌≡◌, ◌≤◌};
+ghost use Rattle.weld_turns.specs.Scopes.{room_of};
+
 use weld_data::{BinOp, Kind};
 use weld_eval::short::Short;
 
@@ -25,12 +28,24 @@ pub enum Code {
     Select(Box<Code>, Box<Code>, Box<Code>),
 }
 
-/// What a turn does: numbers put into slots, choices, and at the end the slots of the next state and whether to go on.
+/// Numbers that are put into slots, one after another.
+#[cycle(filling)]
+#[derive(Drop)]
+pub enum Filling {
+    /// A number put into a slot.
+    Put(usize, Code),
+    /// The one, and then the other.
+    Then(Box<Filling>, Box<Filling>),
+    /// By a truth value the one or the other, which alone is done.
+    Either(Code, Box<Filling>, Box<Filling>),
+}
+
+/// What a turn does: slots filled, choices, and at the end the slots of the next state and whether to go on.
 #[cycle(turn)]
 #[derive(Drop)]
 pub enum Turn {
-    /// A number put into a slot, and what follows.
-    Put(usize, Code, Box<Turn>),
+    /// Slots filled, and what follows.
+    First(Filling, Box<Turn>),
     /// By a truth value the one or the other.
     Either(Code, Box<Turn>, Box<Turn>),
     /// The first slot of the next state, and whether to go on.
@@ -42,6 +57,17 @@ pub enum Turn {
 pub enum Shape {
     One,
     Pair,
+}
+
+/// How many slots a shape takes.
+pub fn room(shape: Shape) -> usize
+    ensures exact { result ≡ room_of shape }
+    ensures few { result ≤ 2 }
+{
+    match shape {
+        Shape::One => 1,
+        Shape::Pair => 2,
+    }
 }
 
 /// Where the value of a name stands: its shape, and its first slot.

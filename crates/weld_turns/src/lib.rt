@@ -2,6 +2,8 @@
 #![tactic(auto)]
 
 pub mod code;
+mod copies;
+mod fill;
 mod make;
 mod make_turn;
 mod outer;

@@ -6,11 +6,11 @@ ghost use Rattle.weld_eval.specs.FrameView.{env_of};
 ghost use Rattle.weld_meaning.specs.Evaluation.{eval, leaf_thing, one_thing, two_thing, three_thing};
 ghost use Rattle.weld_tree.specs.ExprTree.{int, name as name_leaf, neg, not as not_of, cast, field as field_form, binary, and as and_form, or as or_form, if_else, select};
 ghost use Rattle.weld_tree.specs.ExprView.{view_leaf, view_one, view_two, view_three};
-ghost use Rattle.weld_turns.specs.Scopes.{view_scope, IsFieldSlot, IsNameOf, IsTruth, Means};
+ghost use Rattle.weld_turns.specs.Scopes.{view_scope, IsFieldSlot, IsTruth, Means};
 
 use crate::code::{Code, Place, Shape, Unmade};
 use crate::outer::{literal, outer_field, outer_number};
-use crate::scope::{Scope, place_of};
+use crate::scope::{Scope, name_of, place_of};
 use crate::slots::SLOTS;
 use std::alloc::Global;
 use weld_data::{BinOp, Kind};
@@ -120,16 +120,6 @@ fn make_one(
         },
         OneForm::Field(number) => make_field(*number, part, scope, frame),
         _ => Err(Unmade::Other),
-    }
-}
-
-/// The name that an expression is.
-pub fn name_of(e: &Expr) -> Option<Sym>
-    ensures { IfSome result (λ s. IsNameOf e.now s.0) }
-{
-    match &e.form {
-        Form::Leaf(LeafForm::Name(name)) => Some(*name),
-        _ => None,
     }
 }
 

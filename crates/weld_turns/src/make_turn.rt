@@ -8,9 +8,10 @@ ghost use Rattle.weld_tree.specs.ExprTree.{make_struct, more_exprs, no_exprs, pa
 ghost use Rattle.weld_turns.specs.declared.code.Shape.TheVariants as shapes;
 ghost use Rattle.weld_turns.specs.Scopes.{view_scope, ended, AreBelow, IsEndAt, IsNamedAt, IsStateAt, TurnMeans};
 
-use crate::code::{Place, Shape, Turn, Unmade};
-use crate::make::{make, name_of};
-use crate::scope::{Scope, place_of, with_name};
+use crate::code::{Place, Shape, Turn, Unmade, room};
+use crate::fill::fill;
+use crate::make::make;
+use crate::scope::{Scope, named_place, shape_of, state_place, with_name};
 use crate::slots::SLOTS;
 use std::alloc::Global;
 use weld_eval::frame::Frame;
@@ -106,7 +107,7 @@ fn make_fork(
     }
 }
 
-/// A `let`: another name of what stands in slots, a struct of two numbers, or a number.
+/// A `let`: another name of what stands in slots, or a value that is put into slots of its own.
 #[cycle(turn)]
 fn make_let(
     name: Sym,
@@ -124,22 +125,7 @@ fn make_let(
 {
     match named_place(value, scope) {
         Some(place) => let_alias(name, place, value, body, shape, scope, next, frame, alloc),
-        None => match &value.form {
-            Form::Many(ManyForm::Struct, parts) => {
-                let_parts(name, parts, body, shape, scope, next, frame, alloc)
-            }
-            _ => let_number(name, value, body, shape, scope, next, frame, alloc),
-        },
-    }
-}
-
-/// Where what the expression names stands, if it is a name of what stands in slots.
-fn named_place(e: &Expr, scope: &Scope) -> Option<Place>
-    ensures { IfSome result (λ place. IsNamedAt e.now (view_scope scope.now) place) }
-{
-    match name_of(e) {
-        Some(name) => place_of(scope, name),
-        None => None,
+        None => let_filled(name, value, body, shape, scope, next, frame, alloc),
     }
 }
 
@@ -166,10 +152,9 @@ fn let_alias(
     make_turn(body, shape, &inner, next, frame, alloc)
 }
 
-/// A `let` of a number, which is put into a slot.
+/// A `let` of a value that is put into slots of its own.
 #[cycle(turn)]
-#[tactic(auto, using(crate::proofs::Turning::one_below))]
-fn let_number(
+fn let_filled(
     name: Sym,
     value: &Expr,
     body: &Expr,
@@ -186,88 +171,18 @@ fn let_number(
     if next >= SLOTS {
         return Err(Unmade::Other);
     }
-    let code = match make(value, scope, frame, alloc) {
-        Ok(code) => code,
-        Err(unmade) => return Err(unmade),
-    };
     let place = Place {
-        shape: Shape::One,
+        shape: shape_of(value, scope),
         first: next,
     };
-    let inner = with_name(name, place, &*scope);
-    match boxed_turn(body, shape, &inner, next + 1, frame, alloc) {
-        Ok(rest) => Ok(Turn::Put(next, code, rest)),
-        Err(unmade) => Err(unmade),
-    }
-}
-
-/// A `let` of a struct that is written by its fields.
-#[cycle(turn)]
-fn let_parts(
-    name: Sym,
-    parts: &Exprs,
-    body: &Expr,
-    shape: Shape,
-    scope: &Scope,
-    next: usize,
-    frame: &Frame,
-    alloc: Global,
-) -> Result<Turn, Unmade>
-    requires { AreBelow (view_scope scope.now) next }
-    ensures { IfOk result (λ t. TurnMeans t shape (view_scope scope.now) (env_of frame.now)
-        (λ env. and_then (and_then (eval_all (pack_exprs parts.now) env) (many_thing make_struct))
-        (λ x. eval body.now ((name.0, x) ∷ env)))) }
-{
-    let items = parts.as_slice();
-    if items.len() == 2 {
-        let_fields(
-            name, &items[0], &items[1], body, shape, scope, next, frame, alloc,
-        )
-    } else {
-        Err(Unmade::Other)
-    }
-}
-
-/// A `let` of a struct of two numbers, which are put into slots.
-#[cycle(turn)]
-#[tactic(auto, using(crate::proofs::Turning::two_below))]
-fn let_fields(
-    name: Sym,
-    x: &Expr,
-    y: &Expr,
-    body: &Expr,
-    shape: Shape,
-    scope: &Scope,
-    next: usize,
-    frame: &Frame,
-    alloc: Global,
-) -> Result<Turn, Unmade>
-    requires { AreBelow (view_scope scope.now) next }
-    ensures { IfOk result (λ t. TurnMeans t shape (view_scope scope.now) (env_of frame.now)
-        (λ env. and_then (and_then (eval_all (more_exprs x.now (more_exprs y.now no_exprs)) env)
-        (many_thing make_struct)) (λ z. eval body.now ((name.0, z) ∷ env)))) }
-{
-    if next >= SLOTS {
-        return Err(Unmade::Other);
-    }
-    let x = match make(x, scope, frame, alloc) {
-        Ok(x) => x,
+    let after = next + room(place.shape);
+    let filling = match fill(value, place, scope, after, frame, alloc) {
+        Ok(filling) => filling,
         Err(unmade) => return Err(unmade),
     };
-    let y = match make(y, scope, frame, alloc) {
-        Ok(y) => y,
-        Err(unmade) => return Err(unmade),
-    };
-    let place = Place {
-        shape: Shape::Pair,
-        first: next,
-    };
     let inner = with_name(name, place, &*scope);
-    match boxed_turn(body, shape, &inner, next + 2, frame, alloc) {
-        Ok(rest) => match in_box(Turn::Put(next + 1, y, rest), alloc) {
-            Ok(rest) => Ok(Turn::Put(next, x, rest)),
-            Err(unmade) => Err(unmade),
-        },
+    match boxed_turn(body, shape, &inner, after, frame, alloc) {
+        Ok(rest) => Ok(Turn::First(filling, rest)),
         Err(unmade) => Err(unmade),
     }
 }
@@ -311,23 +226,7 @@ fn end_in(
 {
     match state_place(state, shape, scope) {
         Some(first) => end_named(state, first, flag, shape, scope, frame, alloc),
-        None => match shape {
-            Shape::One => end_one(state, flag, scope, next, frame, alloc),
-            Shape::Pair => end_two(state, flag, scope, next, frame, alloc),
-        },
-    }
-}
-
-/// The first slot of the place of a name that is a state, where the expression is one.
-fn state_place(e: &Expr, shape: Shape, scope: &Scope) -> Option<usize>
-    ensures { IfSome result (λ first. IsStateAt e.now shape (view_scope scope.now) first) }
-{
-    match name_of(e) {
-        Some(name) => match place_of(scope, name) {
-            Some(place) if place.shape == shape => Some(place.first),
-            _ => None,
-        },
-        None => None,
+        None => end_filled(state, flag, shape, scope, next, frame, alloc),
     }
 }
 
@@ -354,108 +253,31 @@ fn end_named(
     }
 }
 
-/// The end of a turn whose next state is one number.
-fn end_one(
+/// The end of a turn whose next state is put into slots of its own.
+fn end_filled(
     state: &Expr,
     flag: &Expr,
+    shape: Shape,
     scope: &Scope,
     next: usize,
     frame: &Frame,
     alloc: Global,
 ) -> Result<Turn, Unmade>
     requires { AreBelow (view_scope scope.now) next }
-    ensures { IfOk result (λ t. TurnMeans t shapes.One (view_scope scope.now) (env_of frame.now)
+    ensures { IfOk result (λ t. TurnMeans t shape (view_scope scope.now) (env_of frame.now)
         (λ env. and_then (eval_all (more_exprs state.now (more_exprs flag.now no_exprs)) env)
         (many_thing make_struct))) }
-{
-    let state = match make(state, scope, frame, alloc) {
-        Ok(state) => state,
-        Err(unmade) => return Err(unmade),
-    };
-    let flag = match make(flag, scope, frame, alloc) {
-        Ok(flag) => flag,
-        Err(unmade) => return Err(unmade),
-    };
-    match in_box(Turn::End(next, flag), alloc) {
-        Ok(rest) => Ok(Turn::Put(next, state, rest)),
-        Err(unmade) => Err(unmade),
-    }
-}
-
-/// The end of a turn whose next state is a struct of two numbers.
-fn end_two(
-    state: &Expr,
-    flag: &Expr,
-    scope: &Scope,
-    next: usize,
-    frame: &Frame,
-    alloc: Global,
-) -> Result<Turn, Unmade>
-    requires { AreBelow (view_scope scope.now) next }
-    ensures { IfOk result (λ t. TurnMeans t shapes.Pair (view_scope scope.now) (env_of frame.now)
-        (λ env. and_then (eval_all (more_exprs state.now (more_exprs flag.now no_exprs)) env)
-        (many_thing make_struct))) }
-{
-    match &state.form {
-        Form::Many(ManyForm::Struct, parts) => { end_parts(parts, flag, scope, next, frame, alloc) }
-        _ => Err(Unmade::Other),
-    }
-}
-
-/// The same by the list of its fields.
-#[tactic(auto, using(crate::proofs::Turning::two_fields))]
-fn end_parts(
-    parts: &Exprs,
-    flag: &Expr,
-    scope: &Scope,
-    next: usize,
-    frame: &Frame,
-    alloc: Global,
-) -> Result<Turn, Unmade>
-    requires { AreBelow (view_scope scope.now) next }
-    ensures { IfOk result (λ t. TurnMeans t shapes.Pair (view_scope scope.now) (env_of frame.now)
-        (λ env. ended (and_then (eval_all (pack_exprs parts.now) env) (many_thing make_struct))
-        (eval flag.now env))) }
-{
-    let items = parts.as_slice();
-    if items.len() == 2 {
-        end_fields(&items[0], &items[1], flag, scope, next, frame, alloc)
-    } else {
-        Err(Unmade::Other)
-    }
-}
-
-/// The same by the two fields.
-fn end_fields(
-    x: &Expr,
-    y: &Expr,
-    flag: &Expr,
-    scope: &Scope,
-    next: usize,
-    frame: &Frame,
-    alloc: Global,
-) -> Result<Turn, Unmade>
-    requires { AreBelow (view_scope scope.now) next }
-    ensures { IfOk result (λ t. TurnMeans t shapes.Pair (view_scope scope.now) (env_of frame.now)
-        (λ env. ended (and_then (eval_all (more_exprs x.now (more_exprs y.now no_exprs)) env)
-        (many_thing make_struct)) (eval flag.now env))) }
 {
     if next >= SLOTS {
         return Err(Unmade::Other);
     }
-    let x = match make(x, scope, frame, alloc) {
-        Ok(x) => x,
-        Err(unmade) => return Err(unmade),
-    };
-    let y = match make(y, scope, frame, alloc) {
-        Ok(y) => y,
+    let place = Place { shape, first: next };
+    let filling = match fill(state, place, scope, next + room(shape), frame, alloc) {
+        Ok(filling) => filling,
         Err(unmade) => return Err(unmade),
     };
     match end_at(next, flag, scope, frame, alloc) {
-        Ok(end) => match in_box(Turn::Put(next + 1, y, end), alloc) {
-            Ok(rest) => Ok(Turn::Put(next, x, rest)),
-            Err(unmade) => Err(unmade),
-        },
+        Ok(end) => Ok(Turn::First(filling, end)),
         Err(unmade) => Err(unmade),
     }
 }

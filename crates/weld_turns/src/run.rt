@@ -1,14 +1,14 @@
 //! Code that is run over slots. It takes no memory. A number is answered as its kind, and its word is left in its place.
 
-ghost use Rattle.weld_builders.specs.Outcome.{and_then};
+ghost use Rattle.weld_builders.specs.Outcome.{and_then, done, map_out};
 ghost use Rattle.weld_data.specs.Kind.{InRange};
 ghost use Rattle.weld_data.specs.Value.{number as number_value};
 ghost use Rattle.weld_eval.specs.Word.{of_word};
 ghost use Rattle.weld_meaning.specs.Evaluation.{operated, selected};
-ghost use Rattle.weld_turns.specs.Answers.{ComesToTruth, KindAndWord, KindAtHand, NextState};
-ghost use Rattle.weld_turns.specs.CodeView.{either_of, slots_of, turn_value, value, with_slot};
+ghost use Rattle.weld_turns.specs.Answers.{AreSlots, ComesToTruth, KindAndWord, KindAtHand, NextState};
+ghost use Rattle.weld_turns.specs.CodeView.{either_of, filled, slots_of, turn_value, value, with_slot};
 
-use crate::code::{Code, Halt, Shape, Turn};
+use crate::code::{Code, Filling, Halt, Shape, Turn};
 use crate::slots::{in_slot, literal_word, move_state, put_in};
 use crate::words::{contradict, convert, negate, operate, truth_in};
 use weld_data::{BinOp, Kind};
@@ -190,6 +190,52 @@ fn flag(code: &Code, slots: &[Short]) -> Result<bool, Halt>
     }
 }
 
+/// Fills slots.
+#[cycle(run_filling)]
+pub fn run_filling(filling: &Filling, slots: &mut [Short]) -> Result<(), Halt>
+    ensures { AreSlots result (slots_of slots.new) (filled filling.now (slots_of slots.old)) }
+{
+    match filling {
+        Filling::Put(to, code) => put_number(*to, code, slots),
+        Filling::Then(x, y) => match run_filling(x, slots) {
+            Ok(()) => run_filling(y, slots),
+            Err(halt) => Err(halt),
+        },
+        Filling::Either(test, x, y) => match flag(test, slots) {
+            Ok(true) => run_filling(x, slots),
+            Ok(false) => run_filling(y, slots),
+            Err(halt) => Err(halt),
+        },
+    }
+}
+
+/// Puts the number that code comes to into a slot.
+#[inline(always)]
+fn put_number(to: usize, code: &Code, slots: &mut [Short]) -> Result<(), Halt>
+    ensures { AreSlots result (slots_of slots.new) (map_out (with_slot (slots_of slots.old) to)
+        (value code.now (slots_of slots.old))) }
+{
+    let mut word = 0;
+    match number(code, slots, &mut word) {
+        Ok(kind) => put_word(to, kind, word, slots),
+        Err(halt) => Err(halt),
+    }
+}
+
+/// Puts a number that is worked out into a slot.
+#[inline(always)]
+fn put_word(to: usize, kind: Kind, word: i64, slots: &mut [Short]) -> Result<(), Halt>
+    requires { InRange kind (of_word kind word) }
+    ensures { AreSlots result (slots_of slots.new) (done (with_slot (slots_of slots.old) to
+        (number_value kind (of_word kind word)))) }
+{
+    if put_in(slots, to, kind, word) {
+        Ok(())
+    } else {
+        Err(Halt::Other)
+    }
+}
+
 /// One turn: whether to go on; the next state stands in the first slots then.
 #[cycle(run_turn)]
 pub fn run_turn(turn: &Turn, shape: Shape, slots: &mut [Short]) -> Result<bool, Halt>
@@ -197,13 +243,10 @@ pub fn run_turn(turn: &Turn, shape: Shape, slots: &mut [Short]) -> Result<bool, 
         (turn_value turn.now shape (slots_of slots.old)) }
 {
     match turn {
-        Turn::Put(to, code, rest) => {
-            let mut word = 0;
-            match number(code, slots, &mut word) {
-                Ok(kind) => put_and_go(*to, kind, word, rest, shape, slots),
-                Err(halt) => Err(halt),
-            }
-        }
+        Turn::First(filling, rest) => match run_filling(filling, slots) {
+            Ok(()) => run_turn(rest, shape, slots),
+            Err(halt) => Err(halt),
+        },
         Turn::Either(test, x, y) => match flag(test, slots) {
             Ok(true) => run_turn(x, shape, slots),
             Ok(false) => run_turn(y, shape, slots),
@@ -219,28 +262,5 @@ pub fn run_turn(turn: &Turn, shape: Shape, slots: &mut [Short]) -> Result<bool, 
             }
             Err(halt) => Err(halt),
         },
-    }
-}
-
-/// The same of a turn whose number is worked out.
-#[cycle(run_turn)]
-#[inline(always)]
-fn put_and_go(
-    to: usize,
-    kind: Kind,
-    word: i64,
-    rest: &Turn,
-    shape: Shape,
-    slots: &mut [Short],
-) -> Result<bool, Halt>
-    requires { InRange kind (of_word kind word) }
-    ensures { NextState result shape (slots_of slots.new)
-        (turn_value rest.now shape (with_slot (slots_of slots.old) to
-        (number_value kind (of_word kind word)))) }
-{
-    if put_in(slots, to, kind, word) {
-        run_turn(rest, shape, slots)
-    } else {
-        Err(Halt::Other)
     }
 }

@@ -1,11 +1,11 @@
 //! The names of a body whose values stand in slots.
 
-ghost use Rattle.std.specs.Prelude.{◌≡◌, [], ◌∷◌};
+ghost use Rattle.std.specs.Prelude.{◌≡◌, [], ◌∷◌, IfSome};
 ghost use Rattle.weld_meaning.specs.Environment.{look_for};
-ghost use Rattle.weld_turns.specs.Scopes.{view_scope};
+ghost use Rattle.weld_turns.specs.Scopes.{view_scope, IsNamedAt, IsNameOf, IsStateAt};
 
-use crate::code::Place;
-use weld_tree::Sym;
+use crate::code::{Place, Shape};
+use weld_tree::{Expr, Form, LeafForm, ManyForm, Sym};
 
 /// The names whose values stand in slots, the newest first.
 #[derive(Clone, Copy)]
@@ -42,4 +42,50 @@ pub fn with_name<'a>(name: Sym, place: Place, rest: &'a Scope<'a>) -> Scope<'a>
     ensures { view_scope result ≡ (name.0, place) ∷ view_scope rest.now }
 {
     Scope::And(name, place, rest)
+}
+
+/// The name that an expression is.
+pub fn name_of(e: &Expr) -> Option<Sym>
+    ensures { IfSome result (λ s. IsNameOf e.now s.0) }
+{
+    match &e.form {
+        Form::Leaf(LeafForm::Name(name)) => Some(*name),
+        _ => None,
+    }
+}
+
+/// Where what the expression names stands, if it is a name of what stands in slots.
+pub fn named_place(e: &Expr, scope: &Scope) -> Option<Place>
+    ensures { IfSome result (λ place. IsNamedAt e.now (view_scope scope.now) place) }
+{
+    match name_of(e) {
+        Some(name) => place_of(scope, name),
+        None => None,
+    }
+}
+
+/// The first slot of the place of a name that is of the shape, where the expression is one.
+pub fn state_place(e: &Expr, shape: Shape, scope: &Scope) -> Option<usize>
+    ensures { IfSome result (λ first. IsStateAt e.now shape (view_scope scope.now) first) }
+{
+    match name_of(e) {
+        Some(name) => match place_of(scope, name) {
+            Some(place) if place.shape == shape => Some(place.first),
+            _ => None,
+        },
+        None => None,
+    }
+}
+
+/// The shape that the value of an expression has by its look. Nothing rests on it: where it has another, no code is made.
+pub fn shape_of(e: &Expr, scope: &Scope) -> Shape {
+    match &e.form {
+        Form::Many(ManyForm::Struct, _) => Shape::Pair,
+        Form::Let(_, _, body) => shape_of(body, scope),
+        Form::Three(_, _, x, _) => shape_of(x, scope),
+        _ => match named_place(e, scope) {
+            Some(place) => place.shape,
+            None => Shape::One,
+        },
+    }
 }

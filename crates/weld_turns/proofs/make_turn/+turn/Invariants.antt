@@ -17,11 +17,5 @@ decreases-make_let l = 8 * expr_nodes l.body.now + 4
 abbrev pub decreases-let_alias : goal.decreases-let_alias
 decreases-let_alias l = 8 * expr_nodes l.body.now + 2
 
-abbrev pub decreases-let_number : goal.decreases-let_number
-decreases-let_number l = 8 * expr_nodes l.body.now + 2
-
-abbrev pub decreases-let_parts : goal.decreases-let_parts
-decreases-let_parts l = 8 * expr_nodes l.body.now + 3
-
-abbrev pub decreases-let_fields : goal.decreases-let_fields
-decreases-let_fields l = 8 * expr_nodes l.body.now + 2
+abbrev pub decreases-let_filled : goal.decreases-let_filled
+decreases-let_filled l = 8 * expr_nodes l.body.now + 2

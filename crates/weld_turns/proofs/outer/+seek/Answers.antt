@@ -1,4 +1,3 @@
-use Rattle.weld_eval.specs.FrameView.{env_of}
 use Rattle.weld_turns.proofs.Outside.{sought_below}
 use Rattle.weld_turns.proofs.outer.+seek.Goals as goal
 

@@ -1,4 +1,4 @@
-use Rattle.std.proofs.Common.{◌≡◌, ℤ, w64, ap, sym, subst, ◌∙◌}
+use Rattle.std.proofs.Common.{ℤ, w64, ap, sym, subst, ◌∙◌}
 use Rattle.std.proofs.lemmas.Int.{to_z-of_z}
 use Rattle.weld_data.specs.Value.{number}
 use Rattle.weld_builders.specs.Outcome.{done, and_then}

@@ -1,0 +1,413 @@
+//! What fills slots with the value of an expression that is a number or a struct of two.
+
+ghost use Rattle.std.specs.Prelude.{◌+◌, ◌≤◌, ◌∷◌, IfOk};
+ghost use Rattle.weld_builders.specs.Outcome.{and_then};
+ghost use Rattle.weld_eval.specs.FrameView.{env_of};
+ghost use Rattle.weld_meaning.specs.Evaluation.{chosen, eval, eval_all, many_thing, three_thing};
+ghost use Rattle.weld_tree.specs.ExprTree.{make_struct, pack_exprs, select};
+ghost use Rattle.weld_turns.specs.declared.code.Shape.TheVariants as shapes;
+ghost use Rattle.weld_turns.specs.Fillings.{Fills, Selects};
+ghost use Rattle.weld_turns.specs.Scopes.{room_of, view_scope, AreBelow, IsNamedAt};
+
+use crate::code::{Filling, Place, Shape, Unmade, room};
+use crate::copies::{boxed_copy, copied, in_box, picked};
+use crate::make::make;
+use crate::scope::{Scope, named_place, shape_of, state_place, with_name};
+use crate::slots::SLOTS;
+use std::alloc::Global;
+use weld_eval::frame::Frame;
+use weld_tree::{Expr, Exprs, Form, ManyForm, Sym, ThreeForm};
+
+/// What fills a place with the value of an expression: what it takes for itself are slots from the next one on.
+#[cycle(fill)]
+pub fn fill(
+    e: &Expr,
+    place: Place,
+    scope: &Scope,
+    next: usize,
+    frame: &Frame,
+    alloc: Global,
+) -> Result<Filling, Unmade>
+    requires below { AreBelow (view_scope scope.now) place.first }
+    requires room { place.first + room_of place.shape ≤ next }
+    ensures { IfOk result (λ t. Fills t place.shape place.first (view_scope scope.now)
+        (env_of frame.now) (eval e.now)) }
+{
+    match &e.form {
+        Form::Let(binder, value, body) => {
+            fill_let(binder.sym, value, body, place, scope, next, frame, alloc)
+        }
+        Form::Three(ThreeForm::If, test, x, y) => {
+            fill_fork(test, x, y, place, scope, next, frame, alloc)
+        }
+        _ => match place.shape {
+            Shape::One => fill_number(e, place.first, scope, frame, alloc),
+            Shape::Pair => fill_pair(e, place.first, scope, next, frame, alloc),
+        },
+    }
+}
+
+/// The same in a box.
+#[cycle(fill)]
+fn boxed_fill(
+    e: &Expr,
+    place: Place,
+    scope: &Scope,
+    next: usize,
+    frame: &Frame,
+    alloc: Global,
+) -> Result<Box<Filling>, Unmade>
+    requires below { AreBelow (view_scope scope.now) place.first }
+    requires room { place.first + room_of place.shape ≤ next }
+    ensures { IfOk result (λ t. Fills t.value place.shape place.first (view_scope scope.now)
+        (env_of frame.now) (eval e.now)) }
+{
+    match fill(e, place, scope, next, frame, alloc) {
+        Ok(filling) => match Box::new(alloc, filling) {
+            Ok(filling) => Ok(filling),
+            Err(_) => Err(Unmade::Memory),
+        },
+        Err(unmade) => Err(unmade),
+    }
+}
+
+/// A number, which is put into its slot.
+#[tactic(auto, using(crate::proofs::Fillings::number_fills))]
+fn fill_number(
+    e: &Expr,
+    first: usize,
+    scope: &Scope,
+    frame: &Frame,
+    alloc: Global,
+) -> Result<Filling, Unmade>
+    ensures { IfOk result (λ t. Fills t shapes.One first (view_scope scope.now) (env_of frame.now)
+        (eval e.now)) }
+{
+    match make(e, scope, frame, alloc) {
+        Ok(code) => Ok(Filling::Put(first, code)),
+        Err(unmade) => Err(unmade),
+    }
+}
+
+/// An `if`: one of two fillings of the place.
+#[cycle(fill)]
+#[tactic(auto, using(crate::proofs::Fillings::fork_fills))]
+fn fill_fork(
+    test: &Expr,
+    x: &Expr,
+    y: &Expr,
+    place: Place,
+    scope: &Scope,
+    next: usize,
+    frame: &Frame,
+    alloc: Global,
+) -> Result<Filling, Unmade>
+    requires below { AreBelow (view_scope scope.now) place.first }
+    requires room { place.first + room_of place.shape ≤ next }
+    ensures { IfOk result (λ t. Fills t place.shape place.first (view_scope scope.now)
+        (env_of frame.now) (λ env. and_then (eval test.now env)
+        (λ u. chosen u (eval x.now env) (eval y.now env)))) }
+{
+    let test = match make(test, scope, frame, alloc) {
+        Ok(test) => test,
+        Err(unmade) => return Err(unmade),
+    };
+    let x = match boxed_fill(x, place, scope, next, frame, alloc) {
+        Ok(x) => x,
+        Err(unmade) => return Err(unmade),
+    };
+    match boxed_fill(y, place, scope, next, frame, alloc) {
+        Ok(y) => Ok(Filling::Either(test, x, y)),
+        Err(unmade) => Err(unmade),
+    }
+}
+
+/// A struct of two numbers: its fields, one of two such structs, or its name.
+#[cycle(fill)]
+fn fill_pair(
+    e: &Expr,
+    first: usize,
+    scope: &Scope,
+    next: usize,
+    frame: &Frame,
+    alloc: Global,
+) -> Result<Filling, Unmade>
+    requires below { AreBelow (view_scope scope.now) first }
+    requires room { first + 2 ≤ next }
+    ensures { IfOk result (λ t. Fills t shapes.Pair first (view_scope scope.now) (env_of frame.now)
+        (eval e.now)) }
+{
+    match &e.form {
+        Form::Many(ManyForm::Struct, parts) => {
+            fill_fields(parts, first, scope, next, frame, alloc)
+        }
+        Form::Three(ThreeForm::Select, test, x, y) => {
+            fill_select(test, x, y, first, scope, next, frame, alloc)
+        }
+        _ => fill_named(e, first, scope, frame, alloc),
+    }
+}
+
+/// A struct that is written by its fields, where there are two.
+#[cycle(fill)]
+#[tactic(auto, using(crate::proofs::Scoping::below_more))]
+fn fill_fields(
+    parts: &Exprs,
+    first: usize,
+    scope: &Scope,
+    next: usize,
+    frame: &Frame,
+    alloc: Global,
+) -> Result<Filling, Unmade>
+    requires below { AreBelow (view_scope scope.now) first }
+    requires room { first + 2 ≤ next }
+    ensures { IfOk result (λ t. Fills t shapes.Pair first (view_scope scope.now) (env_of frame.now)
+        (λ env. and_then (eval_all (pack_exprs parts.now) env) (many_thing make_struct))) }
+{
+    let items = parts.as_slice();
+    if items.len() != 2 {
+        return Err(Unmade::Other);
+    }
+    let place = Place {
+        shape: Shape::One,
+        first,
+    };
+    let x = match boxed_fill(&items[0], place, scope, next, frame, alloc) {
+        Ok(x) => x,
+        Err(unmade) => return Err(unmade),
+    };
+    let place = Place {
+        shape: Shape::One,
+        first: first + 1,
+    };
+    match boxed_fill(&items[1], place, scope, next, frame, alloc) {
+        Ok(y) => Ok(Filling::Then(x, y)),
+        Err(unmade) => Err(unmade),
+    }
+}
+
+/// A `select` between two structs: its truth value and both of them are put into slots of their own first.
+#[cycle(fill)]
+#[tactic(auto, using(crate::proofs::Scoping::below_more))]
+fn fill_select(
+    test: &Expr,
+    x: &Expr,
+    y: &Expr,
+    first: usize,
+    scope: &Scope,
+    next: usize,
+    frame: &Frame,
+    alloc: Global,
+) -> Result<Filling, Unmade>
+    requires below { AreBelow (view_scope scope.now) first }
+    requires room { first + 2 ≤ next }
+    ensures { IfOk result (λ t. Fills t shapes.Pair first (view_scope scope.now) (env_of frame.now)
+        (λ env. and_then (eval test.now env)
+        (λ u. three_thing select u (eval x.now env) (eval y.now env)))) }
+{
+    if next >= SLOTS {
+        return Err(Unmade::Other);
+    }
+    let held = Place {
+        shape: Shape::One,
+        first: next,
+    };
+    let test = match boxed_fill(test, held, scope, next + 1, frame, alloc) {
+        Ok(test) => test,
+        Err(unmade) => return Err(unmade),
+    };
+    let rest = match fill_both(x, y, next, first, scope, frame, alloc) {
+        Ok(rest) => rest,
+        Err(unmade) => return Err(unmade),
+    };
+    match in_box(rest, alloc) {
+        Ok(rest) => Ok(Filling::Then(test, rest)),
+        Err(unmade) => Err(unmade),
+    }
+}
+
+/// The same where its truth value stands in a slot.
+#[cycle(fill)]
+#[tactic(auto, using(crate::proofs::Scoping::below_more))]
+fn fill_both(
+    x: &Expr,
+    y: &Expr,
+    held: usize,
+    first: usize,
+    scope: &Scope,
+    frame: &Frame,
+    alloc: Global,
+) -> Result<Filling, Unmade>
+    requires below { AreBelow (view_scope scope.now) first }
+    requires room { first + 2 ≤ held }
+    ensures { IfOk result (λ t. Selects t held first (view_scope scope.now)
+        (env_of frame.now) (eval x.now) (eval y.now)) }
+{
+    if held >= SLOTS {
+        return Err(Unmade::Other);
+    }
+    let place = Place {
+        shape: Shape::Pair,
+        first: held + 1,
+    };
+    let x = match boxed_fill(x, place, scope, held + 3, frame, alloc) {
+        Ok(x) => x,
+        Err(unmade) => return Err(unmade),
+    };
+    let place = Place {
+        shape: Shape::Pair,
+        first: held + 3,
+    };
+    let y = match boxed_fill(y, place, scope, held + 5, frame, alloc) {
+        Ok(y) => y,
+        Err(unmade) => return Err(unmade),
+    };
+    let pick = match picked(held, first, alloc) {
+        Ok(pick) => pick,
+        Err(unmade) => return Err(unmade),
+    };
+    match in_box(Filling::Then(y, pick), alloc) {
+        Ok(rest) => Ok(Filling::Then(x, rest)),
+        Err(unmade) => Err(unmade),
+    }
+}
+
+/// A struct that a name stands for.
+fn fill_named(
+    e: &Expr,
+    first: usize,
+    scope: &Scope,
+    frame: &Frame,
+    alloc: Global,
+) -> Result<Filling, Unmade>
+    requires { AreBelow (view_scope scope.now) first }
+    ensures { IfOk result (λ t. Fills t shapes.Pair first (view_scope scope.now) (env_of frame.now)
+        (eval e.now)) }
+{
+    let _frame = frame;
+    match state_place(e, Shape::Pair, scope) {
+        Some(from) => copied(Shape::Pair, from, first, alloc),
+        None => Err(Unmade::Other),
+    }
+}
+
+/// A `let`: another name of what stands in slots, or a value that is put into slots of its own.
+#[cycle(fill)]
+fn fill_let(
+    name: Sym,
+    value: &Expr,
+    body: &Expr,
+    place: Place,
+    scope: &Scope,
+    next: usize,
+    frame: &Frame,
+    alloc: Global,
+) -> Result<Filling, Unmade>
+    requires below { AreBelow (view_scope scope.now) place.first }
+    requires room { place.first + room_of place.shape ≤ next }
+    ensures { IfOk result (λ t. Fills t place.shape place.first (view_scope scope.now)
+        (env_of frame.now) (λ env. and_then (eval value.now env)
+        (λ x. eval body.now ((name.0, x) ∷ env)))) }
+{
+    match named_place(value, scope) {
+        Some(held) => fill_alias(name, held, value, body, place, scope, next, frame, alloc),
+        None => fill_after(name, value, body, place, scope, next, frame, alloc),
+    }
+}
+
+/// A `let` that gives another name.
+#[cycle(fill)]
+fn fill_alias(
+    name: Sym,
+    held: Place,
+    value: &Expr,
+    body: &Expr,
+    place: Place,
+    scope: &Scope,
+    next: usize,
+    frame: &Frame,
+    alloc: Global,
+) -> Result<Filling, Unmade>
+    requires named { IsNamedAt value.now (view_scope scope.now) held }
+    requires below { AreBelow (view_scope scope.now) place.first }
+    requires room { place.first + room_of place.shape ≤ next }
+    ensures { IfOk result (λ t. Fills t place.shape place.first (view_scope scope.now)
+        (env_of frame.now) (λ env. and_then (eval value.now env)
+        (λ x. eval body.now ((name.0, x) ∷ env)))) }
+{
+    let _value = value;
+    let inner = with_name(name, held, &*scope);
+    fill(body, place, &inner, next, frame, alloc)
+}
+
+/// A `let` of a value that is put into slots of its own.
+#[cycle(fill)]
+#[tactic(auto, using(crate::proofs::Scoping::below_more, crate::proofs::Scoping::held_below))]
+fn fill_after(
+    name: Sym,
+    value: &Expr,
+    body: &Expr,
+    place: Place,
+    scope: &Scope,
+    next: usize,
+    frame: &Frame,
+    alloc: Global,
+) -> Result<Filling, Unmade>
+    requires below { AreBelow (view_scope scope.now) place.first }
+    requires room { place.first + room_of place.shape ≤ next }
+    ensures { IfOk result (λ t. Fills t place.shape place.first (view_scope scope.now)
+        (env_of frame.now) (λ env. and_then (eval value.now env)
+        (λ x. eval body.now ((name.0, x) ∷ env)))) }
+{
+    if next >= SLOTS {
+        return Err(Unmade::Other);
+    }
+    let held = Place {
+        shape: shape_of(value, scope),
+        first: next,
+    };
+    let after = next + room(held.shape);
+    let value = match boxed_fill(value, held, scope, after, frame, alloc) {
+        Ok(value) => value,
+        Err(unmade) => return Err(unmade),
+    };
+    let inner = with_name(name, held, &*scope);
+    match fill_above(body, place, &inner, after, frame, alloc) {
+        Ok(body) => Ok(Filling::Then(value, body)),
+        Err(unmade) => Err(unmade),
+    }
+}
+
+/// What fills a place that lies below those of names: it fills slots above them first.
+#[cycle(fill)]
+#[tactic(auto, using(crate::proofs::Fillings::above_fills))]
+fn fill_above(
+    e: &Expr,
+    place: Place,
+    scope: &Scope,
+    next: usize,
+    frame: &Frame,
+    alloc: Global,
+) -> Result<Box<Filling>, Unmade>
+    requires below { AreBelow (view_scope scope.now) next }
+    requires room { place.first + room_of place.shape ≤ next }
+    ensures { IfOk result (λ t. Fills t.value place.shape place.first (view_scope scope.now)
+        (env_of frame.now) (eval e.now)) }
+{
+    if next >= SLOTS {
+        return Err(Unmade::Other);
+    }
+    let above = Place {
+        shape: place.shape,
+        first: next,
+    };
+    let after = next + room(place.shape);
+    let x = match boxed_fill(e, above, scope, after, frame, alloc) {
+        Ok(x) => x,
+        Err(unmade) => return Err(unmade),
+    };
+    match boxed_copy(place.shape, next, place.first, alloc) {
+        Ok(y) => in_box(Filling::Then(x, y), alloc),
+        Err(unmade) => Err(unmade),
+    }
+}
