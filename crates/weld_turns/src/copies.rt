@@ -1,6 +1,6 @@
 //! What is put into slots from other slots.
 
-ghost use Rattle.std.specs.Prelude.{◌≡◌, ◌+◌, ◌≤◌, IfOk};
+ghost use Rattle.std.specs.Prelude.{◌≡◌, ◌≢◌, ◌+◌, ◌≤◌, IfOk};
 ghost use Rattle.weld_turns.specs.declared.code.Shape.TheVariants as shapes;
 ghost use Rattle.weld_turns.specs.Fillings.{Copies, Picks};
 
@@ -21,7 +21,7 @@ pub fn in_box(filling: Filling, alloc: Global) -> Result<Box<Filling>, Unmade>
 /// What stands from one slot on is put into those from another on.
 #[tactic(auto, using(crate::proofs::Copying::one_copied))]
 pub fn copied(shape: Shape, from: usize, first: usize, alloc: Global) -> Result<Filling, Unmade>
-    requires { (from + 1 ≡ first) → ⊥ }
+    requires { from + 1 ≢ first }
     ensures { IfOk result (λ t. Copies t shape from first) }
 {
     match shape {
@@ -33,7 +33,7 @@ pub fn copied(shape: Shape, from: usize, first: usize, alloc: Global) -> Result<
 /// The same of a struct of two numbers.
 #[tactic(auto, using(crate::proofs::Copying::pair_copied))]
 fn copied_pair(from: usize, first: usize, alloc: Global) -> Result<Filling, Unmade>
-    requires { (from + 1 ≡ first) → ⊥ }
+    requires { from + 1 ≢ first }
     ensures { IfOk result (λ t. Copies t shapes.Pair from first) }
 {
     if from >= SLOTS || first >= SLOTS {
@@ -56,7 +56,7 @@ pub fn boxed_copy(
     first: usize,
     alloc: Global,
 ) -> Result<Box<Filling>, Unmade>
-    requires { (from + 1 ≡ first) → ⊥ }
+    requires { from + 1 ≢ first }
     ensures { IfOk result (λ t. Copies t.value shape from first) }
 {
     match copied(shape, from, first, alloc) {

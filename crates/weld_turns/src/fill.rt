@@ -246,19 +246,11 @@ fn fill_both(
     if held >= SLOTS {
         return Err(Unmade::Other);
     }
-    let place = Place {
-        shape: Shape::Pair,
-        first: held + 1,
-    };
-    let x = match boxed_fill(x, place, scope, held + 3, frame, alloc) {
+    let x = match boxed_pair(x, held + 1, scope, frame, alloc) {
         Ok(x) => x,
         Err(unmade) => return Err(unmade),
     };
-    let place = Place {
-        shape: Shape::Pair,
-        first: held + 3,
-    };
-    let y = match boxed_fill(y, place, scope, held + 5, frame, alloc) {
+    let y = match boxed_pair(y, held + 3, scope, frame, alloc) {
         Ok(y) => y,
         Err(unmade) => return Err(unmade),
     };
@@ -270,6 +262,29 @@ fn fill_both(
         Ok(rest) => Ok(Filling::Then(x, rest)),
         Err(unmade) => Err(unmade),
     }
+}
+
+/// What fills slots from one on with a struct, where all behind them are free.
+#[cycle(fill)]
+fn boxed_pair(
+    e: &Expr,
+    first: usize,
+    scope: &Scope,
+    frame: &Frame,
+    alloc: Global,
+) -> Result<Box<Filling>, Unmade>
+    requires { AreBelow (view_scope scope.now) first }
+    ensures { IfOk result (λ t. Fills t.value shapes.Pair first (view_scope scope.now)
+        (env_of frame.now) (eval e.now)) }
+{
+    if first >= SLOTS {
+        return Err(Unmade::Other);
+    }
+    let place = Place {
+        shape: Shape::Pair,
+        first,
+    };
+    boxed_fill(e, place, scope, first + 2, frame, alloc)
 }
 
 /// A struct that a name stands for.

@@ -37,5 +37,5 @@ fill_select-returns-in-Ok-in_box t c =
 
 pub fill_both-returns-in-Ok-in_box : goal.fill_both-returns-in-Ok-in_box
 fill_both-returns-in-Ok-in_box t c =
-    both_fill c.in-Ok.x.value c.in-Ok-boxed_fill.y.value c.in-Ok-picked.pick.value c.in-Ok-in_box.rest.value c.args.held c.args.first (view_scope c.args.scope.now) (env_of c.args.frame.now) c.args.x.now c.args.y.now
-    (λ f. ap (λ (z : Filling). filled z f) c.in-Ok-in_box.ensures) c.requires.room (below_more (view_scope c.args.scope.now) c.args.first c.args.held (omega (arith, c.requires.room)) c.requires.below) c.in-Ok.ensures c.in-Ok-boxed_fill.ensures c.in-Ok-picked.ensures
+    both_fill c.in-Ok.x.value c.in-Ok-boxed_pair.y.value c.in-Ok-picked.pick.value c.in-Ok-in_box.rest.value c.args.held c.args.first (view_scope c.args.scope.now) (env_of c.args.frame.now) c.args.x.now c.args.y.now
+    (λ f. ap (λ (z : Filling). filled z f) c.in-Ok-in_box.ensures) c.requires.room (below_more (view_scope c.args.scope.now) c.args.first c.args.held (omega (arith, c.requires.room)) c.requires.below) c.in-Ok.ensures c.in-Ok-boxed_pair.ensures c.in-Ok-picked.ensures

@@ -31,7 +31,10 @@ abbrev pub decreases-fill_above : goal.decreases-fill_above
 decreases-fill_above l = 8 * expr_nodes l.e.now + 3
 
 abbrev pub decreases-fill_select : goal.decreases-fill_select
-decreases-fill_select l = 8 * (expr_nodes l.test.now + expr_nodes l.x.now + expr_nodes l.y.now) + 4
+decreases-fill_select l = 8 * (expr_nodes l.test.now + expr_nodes l.x.now + expr_nodes l.y.now) + 5
 
 abbrev pub decreases-fill_both : goal.decreases-fill_both
-decreases-fill_both l = 8 * (expr_nodes l.x.now + expr_nodes l.y.now) + 3
+decreases-fill_both l = 8 * (expr_nodes l.x.now + expr_nodes l.y.now) + 4
+
+abbrev pub decreases-boxed_pair : goal.decreases-boxed_pair
+decreases-boxed_pair l = 8 * expr_nodes l.e.now + 3
