@@ -191,19 +191,43 @@ fn flag(code: &Code, slots: &[Short]) -> Result<bool, Halt>
 }
 
 /// Fills slots.
-#[cycle(run_filling)]
-pub fn run_filling(filling: &Filling, slots: &mut [Short]) -> Result<(), Halt>
+#[inline(always)]
+fn fill_slots(filling: &Filling, slots: &mut [Short]) -> Result<(), Halt>
     ensures { AreSlots result (slots_of slots.new) (filled filling.now (slots_of slots.old)) }
 {
     match filling {
         Filling::Put(to, code) => put_number(*to, code, slots),
-        Filling::Then(x, y) => match run_filling(x, slots) {
-            Ok(()) => run_filling(y, slots),
+        _ => run_filling(filling, slots),
+    }
+}
+
+/// The same of a part: a function of its own, so that a number is put in place and not by a call.
+#[cycle(run_filling)]
+#[inline(always)]
+fn fill_part(filling: &Filling, slots: &mut [Short]) -> Result<(), Halt>
+    ensures { AreSlots result (slots_of slots.new) (filled filling.now (slots_of slots.old)) }
+{
+    match filling {
+        Filling::Put(to, code) => put_number(*to, code, slots),
+        _ => run_filling(filling, slots),
+    }
+}
+
+/// Fills slots where that isn't one number.
+#[cycle(run_filling)]
+#[inline(never)]
+fn run_filling(filling: &Filling, slots: &mut [Short]) -> Result<(), Halt>
+    ensures { AreSlots result (slots_of slots.new) (filled filling.now (slots_of slots.old)) }
+{
+    match filling {
+        Filling::Put(_, _) => Err(Halt::Other),
+        Filling::Then(x, y) => match fill_part(x, slots) {
+            Ok(()) => fill_part(y, slots),
             Err(halt) => Err(halt),
         },
         Filling::Either(test, x, y) => match flag(test, slots) {
-            Ok(true) => run_filling(x, slots),
-            Ok(false) => run_filling(y, slots),
+            Ok(true) => fill_part(x, slots),
+            Ok(false) => fill_part(y, slots),
             Err(halt) => Err(halt),
         },
     }
@@ -243,7 +267,7 @@ pub fn run_turn(turn: &Turn, shape: Shape, slots: &mut [Short]) -> Result<bool, 
         (turn_value turn.now shape (slots_of slots.old)) }
 {
     match turn {
-        Turn::First(filling, rest) => match run_filling(filling, slots) {
+        Turn::First(filling, rest) => match fill_slots(filling, slots) {
             Ok(()) => run_turn(rest, shape, slots),
             Err(halt) => Err(halt),
         },
