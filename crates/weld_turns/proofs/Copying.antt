@@ -5,8 +5,10 @@ use Rattle.weld_built.specs.Pair.{pair}
 use Rattle.weld_builders.specs.Outcome.{Outcome, done, fault, stuck, and_then, map_out}
 use Rattle.weld_meaning.specs.Evaluation.{selected, truth_of}
 use Rattle.weld_meaning.specs.Thing.{Thing, plain}
+use Rattle.weld_eval.specs.ShortView.{view_short}
+use Rattle.weld_eval.specs.declared.short.Short.{Short}
 use Rattle.weld_turns.specs.CodeView.{Slots, with_slot, shape_value, filled, either_of}
-use Rattle.weld_turns.specs.Fillings.{Copies, IsFilled, Picks}
+use Rattle.weld_turns.specs.Fillings.{Copies, IsFilled, Picks, Puts}
 use Rattle.weld_turns.specs.declared.code.Code as code
 use Rattle.weld_turns.specs.declared.code.Filling.{Filling}
 use Rattle.weld_turns.specs.declared.code.Filling as filling
@@ -44,6 +46,19 @@ pair_copied t x y from first is p q apart f =
     subst (λ (r : Outcome Slots). IsFilled (done (plain (pair (f from) (f (suc from))))) r Pair first f) (sym to) (
       ap (λ (v : Value). done (plain (pair v (f (suc from))))) one ∙ ap (λ (v : Value). done (plain (pair (h first) v))) two,
       λ i below. beside g (first + 1) i (g (from + 1)) (λ e. omega arith) ∙ put_keeps f first (f from) i below,
+    )
+
+pub pair_put : (t x y : Filling) (m n : Short) (first : ℕ) → ((f : Slots) → filled t f ≡ and_then (filled x f) (filled y)) → x ≡ filling.Put first (code.Literal m) → y ≡ filling.Put (first + 1) (code.Literal n) → Puts t (view_short m) (view_short n) first
+pair_put t x y m n first is p q f =
+    let g : Slots = with_slot f first (view_short m) in
+    let h : Slots = with_slot g (first + 1) (view_short n) in
+    let after : suc first ≡ first + 1 = omega arith in
+    let to : filled t f ≡ done h = is f ∙ ap (λ (z : Filling). and_then (filled z f) (filled y)) p ∙ ap (λ (z : Filling). filled z g) q in
+    let one : view_short m ≡ h first = sym (beside g (first + 1) first (view_short n) (λ e. omega arith) ∙ there f first (view_short m)) in
+    let two : view_short n ≡ h (suc first) = sym (ap h after ∙ there g (first + 1) (view_short n)) in
+    subst (λ (r : Outcome Slots). IsFilled (done (plain (pair (view_short m) (view_short n)))) r Pair first f) (sym to) (
+      ap (λ (v : Value). done (plain (pair v (view_short n)))) one ∙ ap (λ (v : Value). done (plain (pair (h first) v))) two,
+      λ i below. beside g (first + 1) i (view_short n) (λ e. omega arith) ∙ put_keeps f first (view_short m) i below,
     )
 
 by_truth : (t : Outcome Bool) (v w : Value) (q r : Outcome Slots) (first : ℕ) (f : Slots) → IsFilled (done (plain v)) q Pair first f → IsFilled (done (plain w)) r Pair first f

@@ -1,14 +1,15 @@
 -- Slots that are filled with what an expression comes to.
-use Rattle.std.proofs.Common.{◌≡◌, ℕ, suc, ◌+◌, ◌≤◌, List, ◌∷◌, length, get_or, Result, Ok, Err, IfOk, refl, ap, sym, subst, ◌∙◌, arith}
+use Rattle.std.proofs.Common.{◌≡◌, ℕ, suc, ◌+◌, ◌≤◌, List, ◌∷◌, length, get_or, Some, Result, Ok, Err, IfOk, refl, ap, sym, subst, ◌∙◌, arith}
 use Rattle.weld_data.specs.Value.{Value}
 use Rattle.weld_built.specs.Pair.{pair}
 use Rattle.weld_builders.specs.Outcome.{Outcome, done, fault, stuck, and_then, map_out}
 use Rattle.weld_tree.specs.ExprTree.{ExprTree, ExprTrees, pack_exprs, make_struct, select}
+use Rattle.weld_meaning.specs.Environment.{look_for}
 use Rattle.weld_meaning.specs.Evaluation.{Env, eval, eval_all, many_thing, three_thing, chosen, selected, truth_of, value_out}
 use Rattle.weld_meaning.specs.Thing.{Thing, plain, as_value, more_things, no_things, struct_of}
 use Rattle.weld_turns.specs.CodeView.{Slots, with_slot, shape_value, value, filled, either_of}
-use Rattle.weld_turns.specs.Fillings.{AreKept, Copies, Fills, IsFilled, Picks, Selects}
-use Rattle.weld_turns.specs.Scopes.{with_scope, ended, room_of, AreBelow, IsNamedAt, IsStateAt, Means}
+use Rattle.weld_turns.specs.Fillings.{AreKept, Copies, Fills, IsFilled, Picks, Puts, Selects}
+use Rattle.weld_turns.specs.Scopes.{with_scope, ended, room_of, AreBelow, IsNamedAt, IsOutsideName, IsStateAt, Means}
 use Rattle.weld_turns.specs.declared.code.Code.{Code}
 use Rattle.weld_turns.specs.declared.code.Filling.{Filling}
 use Rattle.weld_turns.specs.declared.code.Filling as filling
@@ -17,7 +18,7 @@ use Rattle.weld_turns.specs.declared.code.Shape.TheVariants.{One, Pair}
 use Rattle.weld_turns.specs.declared.code.Place.{Place}
 use Rattle.weld_turns.specs.declared.code.Unmade.{Unmade}
 use Rattle.weld_turns.proofs.Copying.{put_fills, choose_filled}
-use Rattle.weld_turns.proofs.Making.{named_comes}
+use Rattle.weld_turns.proofs.Making.{named_comes, outside_comes}
 use Rattle.weld_turns.proofs.Scoping.{scope_kept, held_scope, found_under}
 use Rattle.weld_turns.proofs.Turning.{two_of}
 
@@ -112,6 +113,14 @@ named_fills t shape ns env e from first is h f =
 pub named_ok : (r : Result Filling Unmade) (shape : Shape) (ns : List (ℕ × Place)) (env : Env) (e : ExprTree) (from first : ℕ) → IsStateAt e shape ns from → IfOk r (λ t. Copies t shape from first) → IfOk r (λ t. Fills t shape first ns env (eval e))
 named_ok (Ok t) shape ns env e from first is h = named_fills t shape ns env e from first is h
 named_ok (Err x) shape ns env e from first is h = h
+
+outer_fills : (t : Filling) (ns : List (ℕ × Place)) (env : Env) (e : ExprTree) (s first : ℕ) (v w : Value) → IsOutsideName e ns s → look_for s env ≡ Some (plain (pair v w)) → Puts t v w first → Fills t Pair first ns env (eval e)
+outer_fills t ns env e s first v w is h k f = subst (λ (o : Outcome Thing). IsFilled o (filled t f) Pair first f) (sym (outside_comes e s ns f env (plain (pair v w)) is.0 is.1 h)) (k f)
+
+pub outer_ok : (r : Result Filling Unmade) (ns : List (ℕ × Place)) (env : Env) (e : ExprTree) (s first : ℕ) (v w : Value) → IsOutsideName e ns s → look_for s env ≡ Some (plain (pair v w)) → IfOk r (λ t. Puts t v w first)
+    → IfOk r (λ t. Fills t Pair first ns env (eval e))
+outer_ok (Ok t) ns env e s first v w is h k = outer_fills t ns env e s first v w is h k
+outer_ok (Err u) ns env e s first v w is h k = k
 
 -- ---- a let
 

@@ -110,7 +110,7 @@ named_comes (let_in a x e g) s ns f env p is h = absurd is
 named_comes (loop a ls e x n r g) s ns f env p is h = absurd is
 named_comes (iterate a e x g) s ns f env p is h = absurd is
 
-outside_comes : (e : ExprTree) (s : ℕ) (ns : List (ℕ × Place)) (f : Slots) (env : Env) (t : Thing) → IsNameOf e s → look_for s ns ≡ None → look_for s env ≡ Some t → eval e (with_scope ns f env) ≡ done t
+pub outside_comes : (e : ExprTree) (s : ℕ) (ns : List (ℕ × Place)) (f : Slots) (env : Env) (t : Thing) → IsNameOf e s → look_for s ns ≡ None → look_for s env ≡ Some t → eval e (with_scope ns f env) ≡ done t
 outside_comes (leaf a l) s ns f env t is h q = ap (λ (m : Leaf). leaf_thing m (with_scope ns f env)) is ∙ ap found (past_scope ns f env s h ∙ q)
 outside_comes (one a o e) s ns f env t is h q = absurd is
 outside_comes (two a o e g) s ns f env t is h q = absurd is

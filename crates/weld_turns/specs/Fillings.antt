@@ -1,5 +1,7 @@
 -- What fills slots with the value of an expression.
 use Rattle.std.specs.Prelude.{◌≡◌, ℕ, suc, ◌+◌, ◌≤◌, List}
+use Rattle.weld_data.specs.Value.{Value}
+use Rattle.weld_built.specs.Pair.{pair}
 use Rattle.weld_tree.specs.ExprTree.{select}
 use Rattle.weld_builders.specs.Outcome.{Outcome, done, fault, stuck, map_out}
 use Rattle.weld_meaning.specs.Evaluation.{Env, selected, three_thing}
@@ -36,3 +38,7 @@ Selects t held first ns env x y = (f : Slots) → IsFilled (three_thing select (
 -- the same where its two structs stand in the slots behind that one
 abbrev pub Picks : Filling → ℕ → ℕ → Type 0
 Picks t held first = (f : Slots) → IsFilled (map_out plain (selected (f held) (shape_value Pair (held + 1) f) (shape_value Pair (held + 3) f))) (filled t f) Pair first f
+
+-- whatever the slots have, those from that one on are filled with the struct of two values
+abbrev pub Puts : Filling → Value → Value → ℕ → Type 0
+Puts t v w first = (f : Slots) → IsFilled (done (plain (pair v w))) (filled t f) Pair first f

@@ -21,3 +21,8 @@ IsFieldIn s env field v = (t : Thing) × (look_for s env ≡ Some t) × StandsFo
 abbrev pub IsPairOf : Option (Short × Short) → Thing → Type 0
 IsPairOf (Some p) t = t ≡ plain (pair (view_short p.0) (view_short p.1))
 IsPairOf None t = Unit {0}
+
+-- the name stands for the struct of two numbers, where they were found
+abbrev pub StandsForPair : Option (Short × Short) → ℕ → Env → Type 0
+StandsForPair (Some p) s env = look_for s env ≡ Some (plain (pair (view_short p.0) (view_short p.1)))
+StandsForPair None s env = Unit {0}

@@ -1,5 +1,5 @@
 -- The names of a body, and what code means there.
-use Rattle.std.specs.Prelude.{◌≡◌, ℕ, ◌+◌, ◌≤◌, Bool, List, [], ◌∷◌, Some}
+use Rattle.std.specs.Prelude.{◌≡◌, ℕ, ◌+◌, ◌≤◌, Bool, List, [], ◌∷◌, Some, None}
 use Rattle.weld_tree.specs.ExprTree.{ExprTree, leaf, name, make_struct}
 use Rattle.weld_builders.specs.Outcome.{Outcome, done, and_then, map_out}
 use Rattle.weld_meaning.specs.Evaluation.{Env, truth_value, many_thing}
@@ -74,3 +74,7 @@ IsEndAt t first ns env flag = (c : Code) × Means c ns env flag × ((shape : Sha
 -- the expression is a name of what stands in that place
 abbrev pub IsNamedAt : ExprTree → List (ℕ × Place) → Place → Type 0
 IsNamedAt e ns p = (s : ℕ) × IsNameOf e s × (look_for s ns ≡ Some p)
+
+-- the expression is a name of nothing that stands in slots
+abbrev pub IsOutsideName : ExprTree → List (ℕ × Place) → ℕ → Type 0
+IsOutsideName e ns s = IsNameOf e s × (look_for s ns ≡ None)

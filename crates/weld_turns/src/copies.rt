@@ -1,12 +1,14 @@
-//! What is put into slots from other slots.
+//! What is put into slots that stands in other slots already, or outside.
 
 ghost use Rattle.std.specs.Prelude.{◌≡◌, ◌≢◌, ◌+◌, ◌≤◌, IfOk};
+ghost use Rattle.weld_eval.specs.ShortView.{view_short};
 ghost use Rattle.weld_turns.specs.declared.code.Shape.TheVariants as shapes;
-ghost use Rattle.weld_turns.specs.Fillings.{Copies, Picks};
+ghost use Rattle.weld_turns.specs.Fillings.{Copies, Picks, Puts};
 
 use crate::code::{Code, Filling, Shape, Unmade};
 use crate::slots::SLOTS;
 use std::alloc::Global;
+use weld_eval::short::Short;
 
 /// A filling in a box.
 pub fn in_box(filling: Filling, alloc: Global) -> Result<Box<Filling>, Unmade>
@@ -80,6 +82,24 @@ pub fn picked(held: usize, first: usize, alloc: Global) -> Result<Box<Filling>, 
     };
     match boxed_copy(Shape::Pair, held + 3, first, alloc) {
         Ok(y) => in_box(Filling::Either(Code::Slot(held), x, y), alloc),
+        Err(unmade) => Err(unmade),
+    }
+}
+
+/// Two numbers that are put into slots from one on.
+#[tactic(auto, using(crate::proofs::Copying::pair_put))]
+pub fn put_pair(x: Short, y: Short, first: usize, alloc: Global) -> Result<Filling, Unmade>
+    ensures { IfOk result (λ t. Puts t (view_short x) (view_short y) first) }
+{
+    if first >= SLOTS {
+        return Err(Unmade::Other);
+    }
+    let x = match in_box(Filling::Put(first, Code::Literal(x)), alloc) {
+        Ok(x) => x,
+        Err(unmade) => return Err(unmade),
+    };
+    match in_box(Filling::Put(first + 1, Code::Literal(y)), alloc) {
+        Ok(y) => Ok(Filling::Then(x, y)),
         Err(unmade) => Err(unmade),
     }
 }

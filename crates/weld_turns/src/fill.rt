@@ -10,9 +10,10 @@ ghost use Rattle.weld_turns.specs.Fillings.{Fills, Selects};
 ghost use Rattle.weld_turns.specs.Scopes.{room_of, view_scope, AreBelow, IsNamedAt};
 
 use crate::code::{Filling, Place, Shape, Unmade, room};
-use crate::copies::{boxed_copy, copied, in_box, picked};
+use crate::copies::{boxed_copy, copied, in_box, picked, put_pair};
 use crate::make::make;
-use crate::scope::{Scope, named_place, shape_of, state_place, with_name};
+use crate::outer::outer_pair;
+use crate::scope::{Scope, named_place, outer_name, shape_of, state_place, with_name};
 use crate::slots::SLOTS;
 use std::alloc::Global;
 use weld_eval::frame::Frame;
@@ -299,9 +300,29 @@ fn fill_named(
     ensures { IfOk result (λ t. Fills t shapes.Pair first (view_scope scope.now) (env_of frame.now)
         (eval e.now)) }
 {
-    let _frame = frame;
     match state_place(e, Shape::Pair, scope) {
         Some(from) => copied(Shape::Pair, from, first, alloc),
+        None => fill_outer(e, first, scope, frame, alloc),
+    }
+}
+
+/// A struct that a name of outside stands for.
+fn fill_outer(
+    e: &Expr,
+    first: usize,
+    scope: &Scope,
+    frame: &Frame,
+    alloc: Global,
+) -> Result<Filling, Unmade>
+    ensures { IfOk result (λ t. Fills t shapes.Pair first (view_scope scope.now) (env_of frame.now)
+        (eval e.now)) }
+{
+    let name = match outer_name(e, scope) {
+        Some(name) => name,
+        None => return Err(Unmade::Other),
+    };
+    match outer_pair(frame, name) {
+        Some((x, y)) => put_pair(x, y, first, alloc),
         None => Err(Unmade::Other),
     }
 }

@@ -9,7 +9,7 @@ ghost use Rattle.weld_eval.specs.SlotView.{slot_thing};
 ghost use Rattle.weld_meaning.specs.Environment.{look_for};
 ghost use Rattle.weld_meaning.specs.Meaning.{with_arguments};
 ghost use Rattle.weld_meaning.specs.Thing.{plain};
-ghost use Rattle.weld_turns.specs.Outside.{IsFieldIn, IsPairOf, StandsFor};
+ghost use Rattle.weld_turns.specs.Outside.{IsFieldIn, IsPairOf, StandsFor, StandsForPair};
 
 use weld_data::{Kind, Num, Val, Vals, wrap};
 use weld_eval::frame::{Frame, Slot};
@@ -47,6 +47,16 @@ pub fn outer_field(frame: &Frame, name: Sym, field: u32) -> Option<Short>
 {
     match seek(frame, name) {
         Some(slot) => field_in(slot, field),
+        None => None,
+    }
+}
+
+/// The two numbers of the struct that a name stands for, where it stands for one.
+pub fn outer_pair(frame: &Frame, name: Sym) -> Option<(Short, Short)>
+    ensures { StandsForPair result name.0 (env_of frame.now) }
+{
+    match seek(frame, name) {
+        Some(slot) => pair_in(slot),
         None => None,
     }
 }

@@ -2,7 +2,7 @@
 
 ghost use Rattle.std.specs.Prelude.{◌≡◌, [], ◌∷◌, IfSome};
 ghost use Rattle.weld_meaning.specs.Environment.{look_for};
-ghost use Rattle.weld_turns.specs.Scopes.{view_scope, IsNamedAt, IsNameOf, IsStateAt};
+ghost use Rattle.weld_turns.specs.Scopes.{view_scope, IsNamedAt, IsNameOf, IsOutsideName, IsStateAt};
 
 use crate::code::{Place, Shape};
 use weld_tree::{Expr, Form, LeafForm, ManyForm, Sym};
@@ -72,6 +72,19 @@ pub fn state_place(e: &Expr, shape: Shape, scope: &Scope) -> Option<usize>
         Some(name) => match place_of(scope, name) {
             Some(place) if place.shape == shape => Some(place.first),
             _ => None,
+        },
+        None => None,
+    }
+}
+
+/// The name that an expression is, where it isn't one of what stands in slots.
+pub fn outer_name(e: &Expr, scope: &Scope) -> Option<Sym>
+    ensures { IfSome result (λ name. IsOutsideName e.now (view_scope scope.now) name.0) }
+{
+    match name_of(e) {
+        Some(name) => match place_of(scope, name) {
+            Some(_) => None,
+            None => Some(name),
         },
         None => None,
     }
