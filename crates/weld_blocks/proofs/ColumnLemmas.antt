@@ -10,9 +10,8 @@ use Rattle.weld_meaning.specs.Environment.{look_for}
 use Rattle.weld_meaning.specs.Thing.{Thing, plain, Things, no_things, more_things, as_values, struct_from, field_of}
 use Rattle.weld_meaning.specs.Evaluation.{Env, eval, eval_all, found, leaf_thing, many_thing, one_thing, two_thing, three_thing, operated, truth_value, chosen, value_out}
 use Rattle.weld_blocks.specs.Numbers.{number_at, AreGiven, MayGive, AreNumbersOf, MayBeNumbers, IsChosen, IsName, Chooses}
-use Rattle.weld_blocks.specs.Deeds.{IsStructTree}
 use Rattle.weld_blocks.specs.Scope.{struct_at, IsBound, AreFieldsOf}
-use Rattle.weld_blocks.specs.Structs.{AreCounted, AreStructs}
+use Rattle.weld_blocks.specs.Structs.{AreCounted, AreStructs, IsStructTree}
 use Rattle.weld_blocks.specs.declared.numbers.Numbers.{Numbers}
 use Rattle.weld_blocks.proofs.LeafLemmas.{may_map}
 

@@ -72,7 +72,7 @@ field_bound r b cs c k n is less e h = may_map (λ j v. v ≡ number_at c j) (λ
 
 -- ---- rows of one leg
 
-single : (ls : List (List Value)) (l : List Value) (i : ℕ) (v : Value) → ls ≡ l ∷ [] → slice_get l i ≡ Some v → row_in ls i ≡ v
+pub single : (ls : List (List Value)) (l : List Value) (i : ℕ) (v : Value) → ls ≡ l ∷ [] → slice_get l i ≡ Some v → row_in ls i ≡ v
 single ls l i v e q = ap (λ (ks : List (List Value)). row_in ks i) e ∙ get_or_from_slice_get l i v (struct no_values) q
 
 pub single_given : (r : Option Numbers) (ls : List (List Value)) (l : List Value) (from n : ℕ) → ls ≡ l ∷ [] → MayGive (λ j v. slice_get l (from + j) ≡ Some v) r n → MayGive (λ j v. row_in ls (from + j) ≡ v) r n
@@ -100,7 +100,7 @@ field_given (Some x) legs c d p s k from n e f h = record {
 
 -- ---- names
 
-here : {A : Type 0} (s b : ℕ) (t : A) (env : List (ℕ × A)) → b ≡ s → look_for s ((b, t) ∷ env) ≡ Some t
+pub here : {A : Type 0} (s b : ℕ) (t : A) (env : List (ℕ × A)) → b ≡ s → look_for s ((b, t) ∷ env) ≡ Some t
 here s b t env e = let q : (s == b) ≡ true = eq-eqb s b (sym e) in ap (λ (c : Bool). if c then Some t else look_for s env) q
 
 pub past : {A : Type 0} (s b : ℕ) (t : A) (env : List (ℕ × A)) → (b ≡ s → ⊥) → look_for s ((b, t) ∷ env) ≡ look_for s env

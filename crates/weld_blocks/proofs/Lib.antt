@@ -1,19 +1,11 @@
-mod BodyLemmas
-mod ChosenLemmas
-mod ColumnLemmas
-mod Doing
+pub mod ColumnLemmas
 mod Gathering
-mod LeafLemmas
-pub mod Merges
+mod KeyLemmas
+pub mod LeafLemmas
+mod LentLemmas
 mod OuterLemmas
-mod PairLemmas
-mod PutLemmas
+mod PickLemmas
 mod Scalars
-mod StructLemmas
-mod Words
+pub mod StructLemmas
+pub mod Words
 mod WorkLemmas
-mod DeedForms
-mod FieldLemmas
-mod ManyPairs
-mod ManyPuts
-mod ThroughLemmas

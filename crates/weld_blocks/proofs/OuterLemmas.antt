@@ -49,14 +49,8 @@ field_at (v ∷ vs) (suc k) w q = field_at vs k w q
 pub field_of_struct : (vs : List Value) (u : Value) (k : ℕ) (w : Value) → u ≡ struct (values vs) → slice_get vs k ≡ Some w → value_field k u ≡ done w
 field_of_struct vs u k w is q = ap (value_field k) is ∙ field_at vs k w q
 
--- ---- lengths
-
-pub length_numbers : (r : Option Numbers) (a : At) (e : ExprTree) (envs : ℕ → Env) (n : ExprTree) (u : Value) (vs : List Value) (count : ℕ) → n ≡ one a len e → IsEverywhere e envs u → u ≡ list (values vs)
-    → MayGive (λ j v. v ≡ whole_number (length vs)) r count → MayBeNumbers n envs r count
-length_numbers r a e envs n u vs count is h same k = may_map (λ j v. v ≡ whole_number (length vs)) (λ j v. eval n (envs j) ≡ done (plain v)) r count
-    (λ j v q.
-    ap (λ m. eval m (envs j)) is ∙ ap (λ o. and_then o (one_thing len)) (h j ∙ ap (λ w. done (plain w)) same)
-    ∙ ap (λ (l : List Value). done (plain (whole_number (length l)))) (list_of_values-values vs) ∙ ap (λ w. done (plain w)) (sym q)) k
+pub everywhere_numbers : (r : Option Numbers) (e : ExprTree) (envs : ℕ → Env) (u w : Value) (count : ℕ) → IsEverywhere e envs u → u ≡ w → MayGive (λ j v. v ≡ w) r count → MayBeNumbers e envs r count
+everywhere_numbers r e envs u w count h same k = may_map (λ j v. v ≡ w) (λ j v. eval e (envs j) ≡ done (plain v)) r count (λ j v q. h j ∙ ap (λ x. done (plain x)) (same ∙ sym q)) k
 
 -- ---- elements
 
@@ -65,13 +59,3 @@ element_looked_up vs k x i w is same q =
     ap (λ (m : Kind). looked_up (list (values vs)) (number m (of_word m x))) is
     ∙ ap (λ (y : ℤ). looked_up (list (values vs)) (number kinds.I64 y)) same
     ∙ ap (λ (l : List Value). element_at l (pos i)) (list_of_values-values vs) ∙ ap or_fault q
-
-pub looked_numbers : (r : Option Numbers) (a : At) (e f : ExprTree) (envs : ℕ → Env) (n : ExprTree) (u : Value) (vs : List Value) (d : Numbers) (count : ℕ) → n ≡ two a look_up e f → IsEverywhere e envs u → u ≡ list (values vs) → AreNumbersOf f envs d count
-    → MayGive (λ j v. looked_up (list (values vs)) (number_at d j) ≡ done v) r count → MayBeNumbers n envs r count
-looked_numbers None a e f envs n u vs d count is p same q h = tt
-looked_numbers (Some x) a e f envs n u vs d count is p same q h = record {
-  long = h.long;
-  each = λ j less.
-      ap (λ m. eval m (envs j)) is ∙ ap (λ o. and_then o (λ t. two_thing look_up t (eval f (envs j)))) (p j ∙ ap (λ w. done (plain w)) same)
-      ∙ ap (two_thing look_up (plain (list (values vs)))) (q.each j less) ∙ ap (map_out plain) (h.each j less);
-}

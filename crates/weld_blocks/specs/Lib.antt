@@ -1,13 +1,7 @@
-pub mod Block
-pub mod Calm
-pub mod Choices
-pub mod Chosen
-pub mod Deeds
-pub mod Does
+pub mod Lent
 pub mod Numbers
 pub mod Outer
-pub mod Puts
+pub mod Picked
 pub mod Scope
 pub mod Structs
-pub mod Through
 pub mod Works

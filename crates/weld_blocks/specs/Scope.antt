@@ -1,5 +1,5 @@
 -- What the names stand for on the rows of a block.
-use Rattle.std.specs.Prelude.{◌≡◌, ℕ, ◌+◌, ◌<◌, ◌∷◌, [], List, map, Option, Some, None}
+use Rattle.std.specs.Prelude.{◌≡◌, ℕ, ◌+◌, ◌<◌, ◌∷◌, [], List, map, get_or, Option, Some, None}
 use Rattle.weld_data.specs.Value.{Value, struct, values}
 use Rattle.weld_tree.specs.ExprTree.{ExprTree}
 use Rattle.weld_builders.specs.Outcome.{done}
@@ -34,6 +34,7 @@ bound_at (bounds.Fields cs) j = struct_at cs.items j
 abbrev pub scope_step : Scope-F (ℕ → Env) → ℕ → Env
 scope_step (Scope-F.Rows r) = λ j. row_env r.now j
 scope_step (Scope-F.Let s b rest) = λ j. (s.0, plain (bound_at b.now j)) ∷ rest.now j
+scope_step (Scope-F.Picked places total rest) = λ j. rest.now (get_or places.now j 0)
 
 abbrev pub scope_env : Scope → ℕ → Env
 scope_env = fold-Scope (ℕ → Env) scope_step

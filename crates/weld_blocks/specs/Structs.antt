@@ -1,6 +1,7 @@
 -- Structs of numbers, one for each row of a block, the numbers of each field being together.
 use Rattle.std.specs.Prelude.{◌≡◌, ℕ, ◌<◌, ◌∷◌, [], List}
 use Rattle.weld_data.specs.Value.{Value}
+use Rattle.weld_tree.specs.ExprTree.{ExprTree, many, Many, make_vec, make_struct}
 use Rattle.weld_blocks.specs.Numbers.{count_of, number_at, AreGiven, IsChosen}
 use Rattle.weld_blocks.specs.Scope.{struct_at}
 use Rattle.weld_blocks.specs.declared.numbers.Numbers.{Numbers}
@@ -30,3 +31,13 @@ AreChosenFields t (x ∷ xs) [] [] count = ⊥
 AreChosenFields t (x ∷ xs) [] (c ∷ cs) count = ⊥
 AreChosenFields t (x ∷ xs) (y ∷ ys) [] count = ⊥
 AreChosenFields t (x ∷ xs) (y ∷ ys) (c ∷ cs) count = AreGiven (λ j v. IsChosen (number_at t j) (number_at x j) (number_at y j) v) c count × AreChosenFields t xs ys cs count
+
+-- the form is that of a struct
+abbrev pub IsStructForm : Many → Type 0
+IsStructForm make_vec = ⊥
+IsStructForm make_struct = Unit {0}
+
+-- it is a struct
+abbrev pub IsStructTree : ExprTree → Type 0
+IsStructTree (many a o es) = IsStructForm o
+IsStructTree _ = ⊥

@@ -1,34 +1,41 @@
 //! The numbers that an expression comes to on the rows of a block.
 
-ghost use Rattle.std.specs.Prelude.{◌≡◌, IfSome, true, false};
+ghost use Rattle.std.specs.Prelude.{◌≡◌, IfSome};
 ghost use Rattle.weld_builders.specs.Outcome.{done};
-ghost use Rattle.weld_meaning.specs.Evaluation.{eval as eval_of, leaf_thing, one_thing, looked_up as looked_up_value, operated as operated_value, truth_value};
+ghost use Rattle.weld_meaning.specs.Evaluation.{eval as eval_of, leaf_thing, one_thing, looked_up as looked_up_value, operated as operated_value};
 ghost use Rattle.weld_meaning.specs.Thing.{plain};
 ghost use Rattle.weld_data.specs.Value.{list, number, values};
-ghost use Rattle.weld_data.specs.View.{view_column};
+ghost use Rattle.weld_data.specs.View.{view_column, view_val};
 ghost use Rattle.weld_eval.specs.ShortView.{view_short};
 ghost use Rattle.weld_tree.specs.ExprView.{view_leaf, view_one};
-ghost use Rattle.weld_blocks.specs.Numbers.{number_at, MayGive, MayBeNumbers, IsChosen, IsName, Chooses};
-ghost use Rattle.weld_blocks.specs.Deeds.{IsStructTree};
+ghost use Rattle.weld_blocks.specs.Numbers.{number_at, MayGive, MayBeNumbers, IsName};
+ghost use Rattle.weld_blocks.specs.Lent.{MayHaveLengths, MayHaveLooked};
+ghost use Rattle.weld_blocks.specs.Outer.{IsEverywhere};
 ghost use Rattle.weld_blocks.specs.Scope.{scope_env, MayBeBound};
-ghost use Rattle.weld_blocks.specs.Structs.{AreStructs};
+ghost use Rattle.weld_blocks.specs.Structs.{AreStructs, IsStructTree};
+
+mod arms;
 
 use crate::arithmetic::{arithmetic, compared};
-use crate::choices::choose;
+use crate::dictionaries::{has_keys, values_of};
 use crate::gather::gather;
 use crate::leaves::{constant, field_named, named};
+use crate::lent::{lent_elements, lent_lengths, lent_numbers};
 use crate::numbers::{Numbers, is_same};
 use crate::operations::{Altered, is_integer, takes};
 use crate::outer::{Looked, outer_value};
 use crate::scalar::whole_number;
 use crate::scope::{Bound, Scope, with_bound};
+pub use arms::{chosen, numbers_where};
+use arms::{of_and, of_choice, of_if, of_or};
 use std::alloc::Global;
 use weld_data::{BinOp, Column, Kind, Num, Val, wrap};
+use weld_eval::number::number_of;
 use weld_eval::short::Short;
 use weld_tree::{Expr, Form, LeafForm, ManyForm, OneForm, Sym, ThreeForm, TwoForm};
 
-/// The numbers that an expression comes to on so many rows, where it is made of literals, names, fields of rows, operators,
-/// `if`, `select`, `let`, lengths and elements of vectors that stand outside, no row of it faults, also in arms that aren't chosen, and there is memory for them.
+/// The numbers that an expression comes to on so many rows, where it is made of literals, names, fields, operators, `if`, `select`,
+/// `let`, lengths and elements of vectors that stand outside or in the rows, no row of it faults, and there is memory for them.
 #[cycle(columns)]
 #[tactic(auto, using(crate::proofs::ColumnLemmas::leaf_numbers))]
 pub fn numbers(e: &Expr, scope: &Scope, count: usize, alloc: Global) -> Option<Numbers>
@@ -41,11 +48,11 @@ pub fn numbers(e: &Expr, scope: &Scope, count: usize, alloc: Global) -> Option<N
         Form::One(_, _) => of_one(e, scope, count, alloc),
         Form::Two(TwoForm::Binary(_), _, _) => of_binary(e, scope, count, alloc),
         Form::Two(TwoForm::LookUp, _, _) => of_look_up(e, scope, count, alloc),
+        Form::Two(TwoForm::KeyExists, _, _) => of_key_exists(e, scope, count, alloc),
         Form::Two(TwoForm::And, _, _) => of_and(e, scope, count, alloc),
         Form::Two(TwoForm::Or, _, _) => of_or(e, scope, count, alloc),
-        Form::Three(ThreeForm::If | ThreeForm::Select, _, _, _) => of_choice(
-            e, scope, count, alloc,
-        ),
+        Form::Three(ThreeForm::If, _, _, _) => of_if(e, scope, count, alloc),
+        Form::Three(ThreeForm::Select, _, _, _) => of_choice(e, scope, count, alloc),
         Form::Let(_, _, _) => of_let(e, scope, count, alloc),
         _ => None,
     }
@@ -86,9 +93,36 @@ fn literal(kind: Kind, value: i128) -> Option<Short>
     }))
 }
 
-/// The numbers of a field of a name.
-#[tactic(auto, using(crate::proofs::ColumnLemmas::field_numbers))]
+/// The numbers of a field: of what a name stands for in columns, of a value that stands outside, or of the value of each row.
 fn of_field(e: &Expr, scope: &Scope, count: usize, alloc: Global) -> Option<Numbers>
+    ensures { MayBeNumbers e.now (scope_env scope.now) result count }
+{
+    match in_columns(e, scope, count, alloc) {
+        Some(numbers) => Some(numbers),
+        None => match outer_value(e, &*scope) {
+            Some(v) => everywhere(e, v, scope, count, alloc),
+            None => lent_numbers(e, scope, count, alloc),
+        },
+    }
+}
+
+/// The number of a value that an expression is on every row.
+#[tactic(auto, using(crate::proofs::OuterLemmas::everywhere_numbers))]
+fn everywhere(e: &Expr, v: &Val, scope: &Scope, count: usize, alloc: Global) -> Option<Numbers>
+    requires { IsEverywhere e.now (scope_env scope.now) (view_val v.now) }
+    ensures { MayBeNumbers e.now (scope_env scope.now) result count }
+{
+    let _node = e;
+    let _scope = scope;
+    match number_of(v) {
+        Some(number) => constant(number, count, alloc),
+        None => None,
+    }
+}
+
+/// The numbers of a field of a name that stands for rows or structs in columns.
+#[tactic(auto, using(crate::proofs::ColumnLemmas::field_numbers))]
+fn in_columns(e: &Expr, scope: &Scope, count: usize, alloc: Global) -> Option<Numbers>
     ensures { MayBeNumbers e.now (scope_env scope.now) result count }
 {
     match &e.form {
@@ -101,7 +135,7 @@ fn of_field(e: &Expr, scope: &Scope, count: usize, alloc: Global) -> Option<Numb
 }
 
 /// The name that an expression is.
-pub(crate) fn name_of(e: &Expr) -> Option<Sym>
+pub fn name_of(e: &Expr) -> Option<Sym>
     ensures { IfSome result (λ name. IsName e.now name.0) }
 {
     match &e.form {
@@ -128,37 +162,82 @@ fn of_one(e: &Expr, scope: &Scope, count: usize, alloc: Global) -> Option<Number
     }
 }
 
-/// The length of a vector that stands outside, at each place.
-#[tactic(auto, using(crate::proofs::OuterLemmas::length_numbers))]
+/// The length of a vector at each place.
+#[tactic(auto, using(crate::proofs::LentLemmas::lengths_lent))]
 fn of_length(e: &Expr, scope: &Scope, count: usize, alloc: Global) -> Option<Numbers>
     ensures { MayBeNumbers e.now (scope_env scope.now) result count }
 {
     match &e.form {
-        Form::One(OneForm::Len, part) => match outer_value(part, &*scope) {
-            Some(Val::List(column)) => constant(whole_number(column.len()), count, alloc),
-            _ => None,
-        },
+        Form::One(OneForm::Len, part) => lengths_of(part, scope, count, alloc),
         _ => None,
     }
 }
 
-/// The elements of a vector that stands outside, at places that are worked out for each row.
+/// The lengths of a vector that stands outside, or of the vector of each row.
+#[tactic(auto, using(crate::proofs::LentLemmas::length_outside))]
+fn lengths_of(e: &Expr, scope: &Scope, count: usize, alloc: Global) -> Option<Numbers>
+    ensures { MayHaveLengths e.now (scope_env scope.now) result count }
+{
+    match outer_value(e, &*scope) {
+        Some(Val::List(column)) => constant(whole_number(column.len()), count, alloc),
+        Some(_) => None,
+        None => lent_lengths(e, scope, count, alloc),
+    }
+}
+
+/// The elements of a vector or a dictionary that stands outside, at places that are worked out for each row, or of the vector of
+/// each row.
 #[cycle(columns)]
-#[tactic(auto, using(crate::proofs::OuterLemmas::looked_numbers))]
+#[tactic(auto, using(crate::proofs::LentLemmas::looked_numbers))]
 fn of_look_up(e: &Expr, scope: &Scope, count: usize, alloc: Global) -> Option<Numbers>
     ensures { MayBeNumbers e.now (scope_env scope.now) result count }
 {
     match &e.form {
         Form::Two(TwoForm::LookUp, first, second) => {
-            let column = match outer_value(first, &*scope) {
-                Some(Val::List(column)) => column,
+            match numbers(second, scope, count, alloc) {
+                Some(places) => looked_in(first, scope, &places, count, alloc),
+                None => None,
+            }
+        }
+        _ => None,
+    }
+}
+
+/// The elements of what an expression is, at places that are numbers.
+#[tactic(auto, using(crate::proofs::LentLemmas::looked_in_list, crate::proofs::LentLemmas::looked_in_dict))]
+fn looked_in(
+    e: &Expr,
+    scope: &Scope,
+    places: &Numbers,
+    count: usize,
+    alloc: Global,
+) -> Option<Numbers>
+    ensures { MayHaveLooked e.now (scope_env scope.now) places.now result count }
+{
+    match outer_value(e, &*scope) {
+        Some(Val::List(column)) => looked_up(column, places, count, alloc),
+        Some(Val::Dict(pairs)) => values_of(pairs, places, count, alloc),
+        Some(_) => None,
+        None => lent_elements(e, scope, places, count, alloc),
+    }
+}
+
+/// Whether a dictionary that stands outside has the keys that are worked out for each row.
+#[cycle(columns)]
+#[tactic(auto, using(crate::proofs::KeyLemmas::keys_told))]
+fn of_key_exists(e: &Expr, scope: &Scope, count: usize, alloc: Global) -> Option<Numbers>
+    ensures { MayBeNumbers e.now (scope_env scope.now) result count }
+{
+    match &e.form {
+        Form::Two(TwoForm::KeyExists, first, second) => {
+            let pairs = match outer_value(first, &*scope) {
+                Some(Val::Dict(pairs)) => pairs,
                 _ => return None,
             };
-            let places = match numbers(second, scope, count, alloc) {
-                Some(places) => places,
-                None => return None,
-            };
-            looked_up(column, &places, count, alloc)
+            match numbers(second, scope, count, alloc) {
+                Some(keys) => has_keys(pairs, &keys, count, alloc),
+                None => None,
+            }
         }
         _ => None,
     }
@@ -226,118 +305,6 @@ fn operated(
     }
 }
 
-/// The numbers of `&&`: of the right side where the left one is true.
-#[cycle(columns)]
-#[tactic(auto, using(crate::proofs::ColumnLemmas::and_numbers))]
-fn of_and(e: &Expr, scope: &Scope, count: usize, alloc: Global) -> Option<Numbers>
-    ensures { MayBeNumbers e.now (scope_env scope.now) result count }
-{
-    match &e.form {
-        Form::Two(TwoForm::And, first, second) => {
-            let condition = match numbers(first, scope, count, alloc) {
-                Some(condition) => condition,
-                None => return None,
-            };
-            let then = match numbers(second, scope, count, alloc) {
-                Some(then) => then,
-                None => return None,
-            };
-            both(&condition, &then, count, alloc)
-        }
-        _ => None,
-    }
-}
-
-/// The second truth value where the first one is true, else false.
-#[tactic(auto, using(crate::proofs::ColumnLemmas::both_given))]
-fn both(condition: &Numbers, then: &Numbers, count: usize, alloc: Global) -> Option<Numbers>
-    ensures { MayGive (λ place v. IsChosen (number_at condition.now place)
-        (number_at then.now place) (truth_value false) v) result count }
-{
-    match constant(Short::of_truth(false), count, alloc) {
-        Some(otherwise) => chosen(condition, then, &otherwise, count, alloc),
-        None => None,
-    }
-}
-
-/// The numbers of `||`: of the right side where the left one is false.
-#[cycle(columns)]
-#[tactic(auto, using(crate::proofs::ColumnLemmas::or_numbers))]
-fn of_or(e: &Expr, scope: &Scope, count: usize, alloc: Global) -> Option<Numbers>
-    ensures { MayBeNumbers e.now (scope_env scope.now) result count }
-{
-    match &e.form {
-        Form::Two(TwoForm::Or, first, second) => {
-            let condition = match numbers(first, scope, count, alloc) {
-                Some(condition) => condition,
-                None => return None,
-            };
-            let otherwise = match numbers(second, scope, count, alloc) {
-                Some(otherwise) => otherwise,
-                None => return None,
-            };
-            either(&condition, &otherwise, count, alloc)
-        }
-        _ => None,
-    }
-}
-
-/// True where the first truth value is, else the second one.
-#[tactic(auto, using(crate::proofs::ColumnLemmas::either_given))]
-fn either(condition: &Numbers, otherwise: &Numbers, count: usize, alloc: Global) -> Option<Numbers>
-    ensures { MayGive (λ place v. IsChosen (number_at condition.now place) (truth_value true)
-        (number_at otherwise.now place) v) result count }
-{
-    match constant(Short::of_truth(true), count, alloc) {
-        Some(then) => chosen(condition, &then, otherwise, count, alloc),
-        None => None,
-    }
-}
-
-/// The numbers of an `if` or a `select`. Both arms are worked out, so neither may fault on a row.
-#[cycle(columns)]
-#[tactic(auto, using(crate::proofs::ColumnLemmas::choice_numbers))]
-fn of_choice(e: &Expr, scope: &Scope, count: usize, alloc: Global) -> Option<Numbers>
-    requires { Chooses e.now }
-    ensures { MayBeNumbers e.now (scope_env scope.now) result count }
-{
-    match &e.form {
-        Form::Three(_, condition, then, otherwise) => {
-            let condition = match numbers(condition, scope, count, alloc) {
-                Some(condition) => condition,
-                None => return None,
-            };
-            let then = match numbers(then, scope, count, alloc) {
-                Some(then) => then,
-                None => return None,
-            };
-            let otherwise = match numbers(otherwise, scope, count, alloc) {
-                Some(otherwise) => otherwise,
-                None => return None,
-            };
-            chosen(&condition, &then, &otherwise, count, alloc)
-        }
-        _ => unreachable!(),
-    }
-}
-
-/// One of two numbers, as truth values say.
-pub(crate) fn chosen(
-    condition: &Numbers,
-    then: &Numbers,
-    otherwise: &Numbers,
-    count: usize,
-    alloc: Global,
-) -> Option<Numbers>
-    ensures { MayGive (λ place v. IsChosen (number_at condition.now place)
-        (number_at then.now place) (number_at otherwise.now place) v) result count }
-{
-    if condition.kind != Kind::Bool || !is_same(then.kind, otherwise.kind) {
-        return None;
-    }
-    choose(condition, then, otherwise, count, alloc)
-}
-
 /// The numbers of a `let` of numbers or of a struct of such.
 #[cycle(columns)]
 #[tactic(auto, using(crate::proofs::ColumnLemmas::let_numbers))]
@@ -359,7 +326,7 @@ fn of_let(e: &Expr, scope: &Scope, count: usize, alloc: Global) -> Option<Number
 
 /// What a `let` binds: the numbers that an expression comes to, or of a struct those of each of its parts.
 #[cycle(columns)]
-pub(crate) fn bound_of(e: &Expr, scope: &Scope, count: usize, alloc: Global) -> Option<Bound>
+pub fn bound_of(e: &Expr, scope: &Scope, count: usize, alloc: Global) -> Option<Bound>
     ensures { MayBeBound e.now (scope_env scope.now) result count }
 {
     match &e.form {
@@ -376,12 +343,7 @@ pub(crate) fn bound_of(e: &Expr, scope: &Scope, count: usize, alloc: Global) -> 
 
 /// The numbers of each part of a struct.
 #[cycle(columns)]
-pub(crate) fn fields_of(
-    e: &Expr,
-    scope: &Scope,
-    count: usize,
-    alloc: Global,
-) -> Option<Vec<Numbers>>
+pub fn fields_of(e: &Expr, scope: &Scope, count: usize, alloc: Global) -> Option<Vec<Numbers>>
     requires { IsStructTree e.now }
     ensures { IfSome result (λ cs. AreStructs (λ place v. eval_of e.now (scope_env scope.now place)
         ≡ done (plain v)) cs.items count) }

@@ -22,6 +22,7 @@ use crate::gather::{Gives, gather};
 use crate::items::items_of;
 use crate::numbers::Numbers;
 use crate::operations::Counted;
+use crate::picking::picked;
 use crate::scope::{Bound, Rows, Scope};
 use std::alloc::Global;
 use weld_data::{Column, Kind, Val, Vals};
@@ -58,12 +59,7 @@ impl<'a> Gives for Elements<'a> {
 }
 
 /// So many elements of a column from a place on, where they are there and are numbers.
-pub(crate) fn elements_of(
-    column: &Column,
-    from: usize,
-    count: usize,
-    alloc: Global,
-) -> Option<Numbers>
+pub fn elements_of(column: &Column, from: usize, count: usize, alloc: Global) -> Option<Numbers>
     ensures { MayGive (λ place v. slice_get (view_column column.now) (from + place) ≡ Some v) result
         count }
 {
@@ -86,7 +82,7 @@ pub(crate) fn elements_of(
 
 /// The column of the one leg.
 #[tactic(auto, using(crate::proofs::LeafLemmas::one_leg))]
-pub(crate) fn only_column<'a>(legs: &'a Legs<'a>) -> Option<&'a Column>
+pub fn only_column<'a>(legs: &'a Legs<'a>) -> Option<&'a Column>
     ensures { IfSome result (λ c. lists_of legs.now ≡ view_column c.now ∷ []) }
 {
     match legs {
@@ -119,7 +115,7 @@ fn column_at<'a>(legs: &'a Legs<'a>, place: u32) -> Option<&'a Column>
 }
 
 /// The numbers that a name stands for on so many rows, where it stands for a number on each.
-#[tactic(auto, using(crate::proofs::LeafLemmas::name_here, crate::proofs::LeafLemmas::name_below, crate::proofs::LeafLemmas::name_of_rows))]
+#[tactic(auto, using(crate::proofs::LeafLemmas::name_here, crate::proofs::LeafLemmas::name_below, crate::proofs::LeafLemmas::name_of_rows, crate::proofs::PickLemmas::name_picked))]
 pub(crate) fn named(scope: &Scope, name: Sym, count: usize, alloc: Global) -> Option<Numbers>
     ensures { MayGive (λ place v. look_for name.0 (scope_env scope.now place) ≡ Some (plain v))
         result count }
@@ -133,6 +129,10 @@ pub(crate) fn named(scope: &Scope, name: Sym, count: usize, alloc: Global) -> Op
             }
         }
         Scope::Rows(rows) => named_by_rows(rows, name, count, alloc),
+        Scope::Picked(places, total, rest) => match named(rest, name, *total, alloc) {
+            Some(numbers) => picked(&numbers, places, count, alloc),
+            None => None,
+        },
     }
 }
 
@@ -168,7 +168,7 @@ fn field_of_bound(field: u32, bound: &Bound, count: usize, alloc: Global) -> Opt
 
 /// The same numbers, where there are so many.
 #[tactic(auto, using(crate::proofs::LeafLemmas::copy_given))]
-pub(crate) fn first_of(numbers: &Numbers, count: usize, alloc: Global) -> Option<Numbers>
+pub fn first_of(numbers: &Numbers, count: usize, alloc: Global) -> Option<Numbers>
     ensures { MayGive (λ place v. v ≡ number_of_place numbers.now place) result count }
 {
     if numbers.len() == count {
@@ -322,7 +322,7 @@ pub(crate) fn argument<'a>(params: &'a Binders, values: &'a Vals, name: Sym) -> 
 }
 
 /// The numbers in a field of what a name stands for, where it is the row of several legs or a struct of numbers that was bound.
-#[tactic(auto, using(crate::proofs::LeafLemmas::field_here, crate::proofs::LeafLemmas::field_below, crate::proofs::LeafLemmas::field_of_rows))]
+#[tactic(auto, using(crate::proofs::LeafLemmas::field_here, crate::proofs::LeafLemmas::field_below, crate::proofs::LeafLemmas::field_of_rows, crate::proofs::PickLemmas::field_picked))]
 pub(crate) fn field_named(
     field: u32,
     scope: &Scope,
@@ -348,6 +348,10 @@ pub(crate) fn field_named(
                 None
             }
         }
+        Scope::Picked(places, total, rest) => match field_named(field, rest, name, *total, alloc) {
+            Some(numbers) => picked(&numbers, places, count, alloc),
+            None => None,
+        },
     }
 }
 

@@ -1,27 +1,19 @@
-//! Blocks of the rows of a loop: what its body merges is worked out for many rows at once, each expression for all of them
-//! before the next, and then merged in the order of the rows.
+//! The numbers that expressions come to on the rows of a block: each expression is worked out for all rows at once, by one loop.
 #![tactic(auto)]
 
 mod arithmetic;
-pub mod body;
 mod choices;
-mod chosen;
 pub mod columns;
-pub mod deed;
+mod dictionaries;
 mod gather;
 mod items;
-mod leaves;
+pub mod leaves;
+mod lent;
 pub mod numbers;
 mod operations;
 mod outer;
-mod pairs;
-pub mod puts;
+pub mod picking;
 pub mod scalar;
 pub mod scope;
-mod structs;
-mod through;
+pub mod structs;
 mod works;
-
-pub use body::block_of;
-pub use deed::Deed;
-pub use through::do_through;

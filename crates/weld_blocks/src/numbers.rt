@@ -13,7 +13,7 @@ use weld_eval::short::Short;
 #[derive(Drop)]
 pub struct Numbers {
     pub kind: Kind,
-    pub(crate) items: Vec<i64>,
+    pub items: Vec<i64>,
     pub(crate) ghost in_range: { (place : ℕ) → InRange kind (of_word kind (get_or items.items place (pos 0))) },
 }
 
@@ -44,7 +44,7 @@ impl Numbers {
 
     /// What gave the memory. It takes none.
     #[inline(always)]
-    pub(crate) fn memory(&self) -> Global {
+    pub fn memory(&self) -> Global {
         *self.items.allocator()
     }
 
@@ -64,7 +64,7 @@ impl Numbers {
 
 /// The word at a place, from 0.
 #[inline(always)]
-pub(crate) fn word_at(words: &[i64], place: usize) -> i64
+pub fn word_at(words: &[i64], place: usize) -> i64
     requires { place < length words.now }
     ensures { result ≡ get_or words.now place (pos 0) }
 {
@@ -73,7 +73,7 @@ pub(crate) fn word_at(words: &[i64], place: usize) -> i64
 
 /// The word of a number.
 #[inline(always)]
-pub(crate) fn word_of(n: Short) -> i64
+pub fn word_of(n: Short) -> i64
     ensures { result ≡ n.word }
 {
     n.word
@@ -81,7 +81,7 @@ pub(crate) fn word_of(n: Short) -> i64
 
 /// Whether two kinds are the same.
 #[inline(always)]
-pub(crate) fn is_same(kind: Kind, other: Kind) -> bool
+pub fn is_same(kind: Kind, other: Kind) -> bool
     ensures { result ≡ true → kind ≡ other }
 {
     kind == other

@@ -48,7 +48,7 @@ pub(crate) fn outer_value<'a>(e: &Expr, scope: &'a Scope<'a>) -> Option<&'a Val>
 
 /// The field of a struct, from 0, where it has one. It takes no memory.
 #[tactic(auto, using(crate::proofs::OuterLemmas::field_of_struct))]
-fn field_of<'a>(v: &'a Val, field: u32) -> Option<&'a Val>
+pub(crate) fn field_of<'a>(v: &'a Val, field: u32) -> Option<&'a Val>
     ensures { IfSome result (λ w. value_field field (view_val v.now) ≡ done (view_val w.now)) }
 {
     match v {
@@ -65,7 +65,7 @@ fn field_of<'a>(v: &'a Val, field: u32) -> Option<&'a Val>
 }
 
 /// The value that a name of outside stands for on every row.
-#[tactic(auto, using(crate::proofs::OuterLemmas::stands_below, crate::proofs::OuterLemmas::stands_outside))]
+#[tactic(auto, using(crate::proofs::OuterLemmas::stands_below, crate::proofs::OuterLemmas::stands_outside, crate::proofs::PickLemmas::stands_picked))]
 fn outer_named<'a>(scope: &'a Scope<'a>, name: Sym) -> Option<&'a Val>
     ensures { IfSome result (λ v. StandsEverywhere name.0 (scope_env scope.now) (view_val v.now)) }
 {
@@ -81,6 +81,10 @@ fn outer_named<'a>(scope: &'a Scope<'a>, name: Sym) -> Option<&'a Val>
             }
         }
         Scope::Rows(rows) => match outside_rows(rows, name) {
+            Some(v) => Some(v),
+            None => None,
+        },
+        Scope::Picked(_, _, rest) => match outer_named(rest, name) {
             Some(v) => Some(v),
             None => None,
         },
@@ -103,7 +107,7 @@ fn outside_rows<'a>(rows: &'a Rows<'a>, name: Sym) -> Option<&'a Val>
 
 /// The value that a name stands for, where it stands for one that is kept. It takes no memory.
 #[tactic(auto, using(weld_eval::proofs::Below::found_among, weld_eval::proofs::Below::found_below))]
-fn value_named<'a>(frame: &'a Frame<'a>, name: Sym) -> Option<&'a Val>
+pub(crate) fn value_named<'a>(frame: &'a Frame<'a>, name: Sym) -> Option<&'a Val>
     ensures { IfSome result (λ v. look_for name.0 (env_of frame.now)
         ≡ Some (plain (view_val v.now))) }
 {
@@ -186,7 +190,7 @@ impl<'a> Gives for Looked<'a> {
 /// The element of a column at the place that a number is, where it is there and is a number.
 #[tactic(auto, using(crate::proofs::OuterLemmas::element_looked_up))]
 #[inline(always)]
-fn element_at(column: &Column, n: Short) -> Option<Short>
+pub(crate) fn element_at(column: &Column, n: Short) -> Option<Short>
     ensures { IfSome result (λ m. looked_up_value (list (values (view_column column.now)))
         (view_short n) ≡ done (view_short m)) }
 {

@@ -1,6 +1,6 @@
 //! The names that the rows of a block see.
 
-ghost use Rattle.std.specs.Prelude.{◌≡◌, ◌∷◌, ℕ};
+ghost use Rattle.std.specs.Prelude.{◌≡◌, ◌∷◌, ℕ, get_or};
 ghost use Rattle.weld_meaning.specs.Thing.{plain};
 ghost use Rattle.weld_blocks.specs.Scope.{bound_at, scope_env, row_env};
 
@@ -30,22 +30,32 @@ pub enum Bound {
     Fields(Vec<Numbers>),
 }
 
-/// The names of such rows, and those that were bound since, the newest first.
+/// The names of such rows, and those that were bound since, the newest first. Rows may be picked among so many by their places: then
+/// each name stands for what it stands for there.
 #[derive(Clone, Copy)]
 pub enum Scope<'a> {
     Rows(&'a Rows<'a>),
     Let(Sym, &'a Bound, &'a Scope<'a>),
+    Picked(&'a [usize], usize, &'a Scope<'a>),
 }
 
 /// The names of rows. It takes no memory.
-pub(crate) fn of_rows<'a>(rows: &'a Rows<'a>) -> Scope<'a>
+pub fn of_rows<'a>(rows: &'a Rows<'a>) -> Scope<'a>
     ensures { (place : ℕ) → scope_env result place ≡ row_env rows.now place }
 {
     Scope::Rows(rows)
 }
 
+/// The names on the rows of these places among so many. It takes no memory.
+pub(crate) fn with_picked<'a>(places: &'a [usize], total: usize, rest: &'a Scope<'a>) -> Scope<'a>
+    ensures { (place : ℕ) → scope_env result place
+        ≡ scope_env rest.now (get_or places.now place 0) }
+{
+    Scope::Picked(places, total, rest)
+}
+
 /// The names with one more. It takes no memory.
-pub(crate) fn with_bound<'a>(name: Sym, bound: &'a Bound, rest: &'a Scope<'a>) -> Scope<'a>
+pub fn with_bound<'a>(name: Sym, bound: &'a Bound, rest: &'a Scope<'a>) -> Scope<'a>
     ensures { (place : ℕ) → scope_env result place ≡ (name.0, plain (bound_at bound.now place))
         ∷ scope_env rest.now place }
 {

@@ -16,12 +16,7 @@ use weld_tree::{Expr, Form, ManyForm, ThreeForm};
 
 /// The numbers of each field of a struct: one that is written out, or one of two such.
 #[cycle(structs)]
-pub(crate) fn columns_of(
-    item: &Expr,
-    scope: &Scope,
-    count: usize,
-    alloc: Global,
-) -> Option<Vec<Numbers>>
+pub fn columns_of(item: &Expr, scope: &Scope, count: usize, alloc: Global) -> Option<Vec<Numbers>>
     ensures { IfSome result (λ cs. AreStructs (λ place v. eval_of item.now
         (scope_env scope.now place) ≡ done (plain v)) cs.items count) }
 {

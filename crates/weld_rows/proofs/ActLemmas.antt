@@ -40,8 +40,8 @@ use Rattle.weld_eval_forms.specs.Legs.{leg_lists}
 use Rattle.weld_eval.specs.declared.thing.Held.{Held}
 use Rattle.weld_eval.specs.Answers.{Answers}
 use Rattle.weld_rows.specs.Numbers.{TriesNumber, ReadsNumber}
-use Rattle.weld_blocks.specs.Puts.{PutFits, IsWrittenPair}
-use Rattle.weld_blocks.proofs.Merges.{put_fault, as_pair, key_is, item_is}
+use Rattle.weld_deeds.specs.Puts.{PutFits, IsWrittenPair}
+use Rattle.weld_deeds.proofs.Merges.{put_fault, as_pair, key_is, item_is}
 use Rattle.weld_rows.specs.Runs.{Runs, RunsNumber}
 use Rattle.weld_rows.proofs.Numbers.{condition_runs, if_is_truth}
 

@@ -23,10 +23,10 @@ use Rattle.weld_acts.specs.Ranges.{Evaluation, HoldsRange, RangeAnswer, range_ov
 use Rattle.weld_eval_plain.specs.Nodes.{IsLoop}
 use Rattle.weld_acts.specs.ActFits.{ActFits}
 use Rattle.weld_acts.proofs.RangeLaw.{range_splits, range_has}
-use Rattle.weld_blocks.specs.Block.{IsBlock}
-use Rattle.weld_blocks.specs.Deeds.{do_of, DeedFits}
-use Rattle.weld_blocks.specs.Through.{FitsThrough, done_through}
-use Rattle.weld_blocks.specs.declared.deed.Deed.{Deed}
+use Rattle.weld_deeds.specs.Block.{IsBlock}
+use Rattle.weld_deeds.specs.Deeds.{do_of, DeedFits}
+use Rattle.weld_deeds.specs.Through.{FitsThrough, done_through}
+use Rattle.weld_deeds.specs.declared.deed.Deed.{Deed}
 use Rattle.weld_acts.proofs.RowActs.{OwnHas, row_acts, row_fits, bare_of_loop}
 use Rattle.weld_rows.specs.RangeOn.{RangeOn}
 use Rattle.weld_rows.specs.RowActs.{row_act, RowActFits}

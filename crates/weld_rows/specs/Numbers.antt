@@ -12,6 +12,8 @@ use Rattle.weld_tree.specs.ExprTree.{ExprTree, leaf, one, two, three, many, let_
 use Rattle.weld_data.specs.Order.{IsNumber}
 use Rattle.weld_meaning.specs.Thing.{Thing, plain, building, several}
 use Rattle.weld_eval.specs.ShortView.{view_short}
+use Rattle.weld_eval.specs.ThingView.{held_of}
+use Rattle.weld_eval.specs.declared.thing.Held.{Held}
 use Rattle.weld_eval.specs.Word.{of_word}
 use Rattle.weld_eval.specs.declared.short.Short.{Short}
 
@@ -23,6 +25,11 @@ number_thing n = plain (view_short n)
 abbrev pub ReadsNumber : Option Short → Outcome Thing → Type 0
 ReadsNumber (Some n) o = o ≡ done (plain (view_short n))
 ReadsNumber None o = Unit {0}
+
+-- where a thing was lent, it is what the expression comes to
+abbrev pub IsLentAs : Option Held → Outcome Thing → Type 0
+IsLentAs (Some x) o = o ≡ done (held_of x)
+IsLentAs None o = Unit {0}
 
 -- where two numbers were read, the expression comes to their struct
 abbrev pub ReadsPair : Option (Short × Short) → Outcome Thing → Type 0

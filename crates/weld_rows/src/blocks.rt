@@ -3,14 +3,14 @@
 ghost use Rattle.std.specs.Prelude.{◌-◌};
 ghost use Rattle.weld_acts.specs.Act.{Acts, AreDirect};
 ghost use Rattle.weld_acts.specs.Ranges.{range_over};
-ghost use Rattle.weld_blocks.specs.Block.{IsBlock};
+ghost use Rattle.weld_deeds.specs.Block.{IsBlock};
 ghost use Rattle.weld_eval.specs.FrameView.{env_of};
 ghost use Rattle.weld_eval.specs.LegsView.{lists_of};
 ghost use Rattle.weld_eval.specs.ThingView.{thing_of};
 ghost use Rattle.weld_rows.specs.RangeOn.{RangeOn};
 
-use weld_blocks::{Deed, do_through};
 use weld_data::Stop;
+use weld_deeds::{Deed, do_through};
 use weld_eval::frame::Frame;
 use weld_eval::legs::Legs;
 use weld_eval::thing::Owned;

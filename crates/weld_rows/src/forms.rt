@@ -14,7 +14,7 @@ ghost use Rattle.weld_data.specs.View.{view_column};
 ghost use Rattle.weld_eval_forms.specs.Legs.{elements_in, IsVector};
 ghost use Rattle.weld_eval_plain.specs.Nodes.{decided};
 ghost use Rattle.weld_eval.specs.Answers.{Answers};
-ghost use Rattle.weld_blocks.specs.Puts.{IsWrittenPair};
+ghost use Rattle.weld_deeds.specs.Puts.{IsWrittenPair};
 ghost use Rattle.weld_tree.specs.ExprTree.{binary};
 ghost use Rattle.weld_rows.specs.Numbers.{IsBinaryForm, number_thing, numeric, numeric_leaf, numeric_one, numeric_two, IsOnNumber, IsNumberThing};
 
@@ -134,7 +134,7 @@ pub(crate) fn column_of<'a>(x: &'a Held<'a>) -> &'a Column
 }
 
 /// Whether an expression is a struct of two parts that is written out.
-#[tactic(auto, using(weld_blocks::proofs::Merges::is_written))]
+#[tactic(auto, using(weld_deeds::proofs::Merges::is_written))]
 pub(crate) fn is_pair(e: &Expr) -> bool
     ensures { result ≡ true → IsWrittenPair e.now }
 {

@@ -9,12 +9,13 @@ ghost use Rattle.weld_eval.specs.Fit.{IsFit};
 ghost use Rattle.weld_eval.specs.FrameView.{env_of};
 ghost use Rattle.weld_eval.specs.SlotView.{slot_thing};
 ghost use Rattle.weld_eval.specs.Takes.{LeafTakes, OneTakes};
-ghost use Rattle.weld_rows.specs.Numbers.{ReadsNumber, ReadsPair, IsFieldForm, IsNameOf};
+ghost use Rattle.weld_rows.specs.Numbers.{IsLentAs, ReadsNumber, ReadsPair, IsFieldForm, IsNameOf};
 
 use weld_data::Num;
-use weld_eval::frame::{Frame, Slot, read};
+use weld_eval::frame::{Frame, Slot, lent_element, read};
 use weld_eval::number::{number_of, pair_of};
 use weld_eval::short::Short;
+use weld_eval::thing::Held;
 use weld_eval::values::field_of;
 use weld_tree::{Expr, Form, LeafForm, OneForm, Sym};
 
@@ -115,6 +116,41 @@ fn field_in_slot(field: u32, slot: Slot) -> Option<Short>
     match slot {
         Slot::Row(row) => row.number_field(field),
         Slot::Value(v) => number_of(field_of(v, field)),
+        Slot::Number(_) => None,
+        Slot::Builder(_) => None,
+    }
+}
+
+/// The field of a name that an expression is, lent where it stands: of a struct, or of the row of a loop, which needn't be built
+/// for it. There is none where the expression is anything else. It takes no memory.
+#[tactic(auto, using(crate::proofs::ReadLemmas::name_there, crate::proofs::ReadLemmas::field_takes, crate::proofs::ReadLemmas::field_reads))]
+#[inline(always)]
+pub(crate) fn lent_field<'a>(e: &Expr, frame: &'a Frame<'a>) -> Option<Held<'a>>
+    requires { IsFit e.now (env_of frame.now) }
+    ensures { IsLentAs result (eval_of e.now (env_of frame.now)) }
+{
+    match &e.form {
+        Form::One(form, part) => match field_of_form(form) {
+            Some(field) => match name_of(part) {
+                Some(name) => lent_in_slot(field, read(frame, name)),
+                None => None,
+            },
+            None => None,
+        },
+        _ => None,
+    }
+}
+
+/// The field of what a name stands for, lent.
+#[tactic(auto, using(weld_eval_forms::proofs::Shapes::field_there))]
+#[inline(always)]
+fn lent_in_slot<'a>(field: u32, slot: Slot<'a>) -> Option<Held<'a>>
+    requires { OneTakes (field_form field) (slot_thing slot) }
+    ensures { IsLentAs result (one_thing (field_form field) (slot_thing slot.entry)) }
+{
+    match slot {
+        Slot::Row(row) => Some(lent_element(row.field(field))),
+        Slot::Value(v) => Some(Held::Lent(field_of(v, field))),
         Slot::Number(_) => None,
         Slot::Builder(_) => None,
     }

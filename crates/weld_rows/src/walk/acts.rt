@@ -3,7 +3,7 @@
 ghost use Rattle.std.specs.Prelude.{true, drop as drop_items};
 ghost use Rattle.weld_acts.specs.Act.{Acts, act as act_of, act_all};
 ghost use Rattle.weld_acts.specs.ActFits.{ActFits, ActsFit};
-ghost use Rattle.weld_blocks.specs.Puts.{PutFits, IsWrittenPair, IsTwo, IsTriple};
+ghost use Rattle.weld_deeds.specs.Puts.{PutFits, IsWrittenPair, IsTwo, IsTriple};
 ghost use Rattle.weld_eval.specs.FrameView.{env_of};
 ghost use Rattle.weld_eval.specs.ThingView.{thing_of, things_of};
 ghost use Rattle.weld_eval_forms.specs.Legs.{leg_lists, AreVectors};
@@ -21,9 +21,9 @@ use super::values::{reach, value};
 use crate::forms::{discard, is_numeric, is_pair, no_legs, with_number};
 use crate::reads::{leaf_number, leaf_pair};
 use std::alloc::Global;
-use weld_blocks::puts::{put_held, put_number, put_two};
 use weld_blocks::scalar::truth_of;
 use weld_data::Stop;
+use weld_deeds::puts::{put_held, put_number, put_two};
 use weld_eval::frame::{Frame, bind};
 use weld_eval::short::Short;
 use weld_eval::thing::{Fields, Held, Owned};
@@ -52,7 +52,7 @@ pub fn act(e: &Expr, frame: &Frame, builder: &mut Owned, alloc: Global) -> Resul
 
 /// A merge: what its builder does, then the item.
 #[cycle(rows)]
-#[tactic(auto, using(weld_acts::proofs::Children::merge_part_acts, weld_acts::proofs::Children::merge_part_faults, crate::proofs::ActLemmas::item_runs, weld_blocks::proofs::Merges::item_puts, crate::proofs::ActLemmas::merge_by_item))]
+#[tactic(auto, using(weld_acts::proofs::Children::merge_part_acts, weld_acts::proofs::Children::merge_part_faults, crate::proofs::ActLemmas::item_runs, weld_deeds::proofs::Merges::item_puts, crate::proofs::ActLemmas::merge_by_item))]
 fn act_merge(e: &Expr, frame: &Frame, builder: &mut Owned, alloc: Global) -> Result<(), Stop>
     requires acts { ActFits e.now (env_of frame.now) (thing_of builder.old) }
     requires form { IsTwo e.now }
@@ -84,7 +84,7 @@ fn act_first(e: &Expr, frame: &Frame, builder: &mut Owned, alloc: Global) -> Res
 
 /// Merges an item: a number without a value made.
 #[cycle(rows)]
-#[tactic(auto, using(weld_blocks::proofs::Merges::put_number_item, weld_blocks::proofs::Merges::put_is, crate::proofs::ActLemmas::put_stops))]
+#[tactic(auto, using(weld_deeds::proofs::Merges::put_number_item, weld_deeds::proofs::Merges::put_is, crate::proofs::ActLemmas::put_stops))]
 fn put(item: &Expr, frame: &Frame, builder: &mut Owned, alloc: Global) -> Result<(), Stop>
     requires runs { Runs true item.now (env_of frame.now) }
     requires fits { PutFits item.now (env_of frame.now) (thing_of builder.old) }
@@ -123,7 +123,7 @@ pub(super) fn tried(e: &Expr, frame: &Frame, alloc: Global) -> Result<Option<Sho
 
 /// Merges an item that isn't a number by its looks.
 #[cycle(rows)]
-#[tactic(auto, using(weld_blocks::proofs::Merges::put_number_item, weld_blocks::proofs::Merges::put_is))]
+#[tactic(auto, using(weld_deeds::proofs::Merges::put_number_item, weld_deeds::proofs::Merges::put_is))]
 fn put_other(item: &Expr, frame: &Frame, builder: &mut Owned, alloc: Global) -> Result<(), Stop>
     requires runs { Runs true item.now (env_of frame.now) }
     requires fits { PutFits item.now (env_of frame.now) (thing_of builder.old) }
@@ -153,7 +153,7 @@ fn put_compound(item: &Expr, frame: &Frame, builder: &mut Owned, alloc: Global) 
 
 /// Merges the value that an item comes to.
 #[cycle(rows)]
-#[tactic(auto, using(weld_blocks::proofs::Merges::put_plain, weld_blocks::proofs::Merges::put_thing, weld_blocks::proofs::Merges::put_is, crate::proofs::ActLemmas::put_made_stops))]
+#[tactic(auto, using(weld_deeds::proofs::Merges::put_plain, weld_deeds::proofs::Merges::put_thing, weld_deeds::proofs::Merges::put_is, crate::proofs::ActLemmas::put_made_stops))]
 fn put_made(item: &Expr, frame: &Frame, builder: &mut Owned, alloc: Global) -> Result<(), Stop>
     requires runs { Runs true item.now (env_of frame.now) }
     requires fits { PutFits item.now (env_of frame.now) (thing_of builder.old) }
@@ -168,7 +168,7 @@ fn put_made(item: &Expr, frame: &Frame, builder: &mut Owned, alloc: Global) -> R
 
 /// Merges a key and its item that are written as a struct.
 #[cycle(rows)]
-#[tactic(auto, using(weld_blocks::proofs::Merges::written_length, crate::proofs::ActLemmas::pair_key_runs, crate::proofs::ActLemmas::pair_item_runs, weld_blocks::proofs::Merges::pair_is, crate::proofs::ActLemmas::pair_key_stops, crate::proofs::ActLemmas::pair_item_stops, weld_blocks::proofs::Merges::put_number_item, weld_blocks::proofs::Merges::put_is))]
+#[tactic(auto, using(weld_deeds::proofs::Merges::written_length, crate::proofs::ActLemmas::pair_key_runs, crate::proofs::ActLemmas::pair_item_runs, weld_deeds::proofs::Merges::pair_is, crate::proofs::ActLemmas::pair_key_stops, crate::proofs::ActLemmas::pair_item_stops, weld_deeds::proofs::Merges::put_number_item, weld_deeds::proofs::Merges::put_is))]
 fn put_written(item: &Expr, frame: &Frame, builder: &mut Owned, alloc: Global) -> Result<(), Stop>
     requires runs { Runs true item.now (env_of frame.now) }
     requires fits { PutFits item.now (env_of frame.now) (thing_of builder.old) }

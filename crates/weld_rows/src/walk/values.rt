@@ -21,6 +21,7 @@ use super::numbers::{either, number, unread};
 use super::rows::hand_through;
 use super::turns::value_of_iterate;
 use crate::forms::{column_of, discard, is_numeric, link, made, no_legs};
+use crate::reads::lent_field;
 use std::alloc::Global;
 use weld_blocks::scalar::truth_of;
 use weld_data::Stop;
@@ -116,9 +117,12 @@ fn value_of_one<'a>(
     ensures { Answers held_of result (eval_of e.now (env_of frame.now)) }
 {
     match &e.form {
-        Form::One(form, part) => match value(part, frame, in_place, alloc) {
-            Ok(x) => one(form, x, alloc),
-            Err(stop) => Err(stop),
+        Form::One(form, part) => match lent_field(e, frame) {
+            Some(x) => Ok(x),
+            None => match value(part, frame, in_place, alloc) {
+                Ok(x) => one(form, x, alloc),
+                Err(stop) => Err(stop),
+            },
         },
         _ => unreachable!(),
     }

@@ -5,15 +5,24 @@ use Rattle.weld_tree.specs.declared.expr.Form.{Form}
 use Rattle.weld_blocks.specs.Scope.{scope_env, AreFieldsOf}
 use Rattle.weld_blocks.specs.declared.numbers.Numbers.{Numbers}
 use Rattle.weld_blocks.proofs.ColumnLemmas.{choice_numbers, struct_columns, next_field, all_fields}
+use Rattle.weld_blocks.proofs.PickLemmas.{if_where}
 use Rattle.weld_blocks.proofs.columns.+columns.Goals as goal
 
-pub of_choice-returns : goal.of_choice-returns
-of_choice-returns t c =
+pub arms::of_choice-returns : goal.arms::of_choice-returns
+arms::of_choice-returns t c =
     let at : At = record { place = c.e.inside.place; ty = c.e.inside.ty } in
     let is : c.args.e.now ≡ three at (view_three c.in-Three.field-0) c.deref.result.now c.deref-in-Three.result.now c.deref-in-Three-2.result.now =
     sym c.e.view_is ∙ ap (λ (f : Form). view_form f at) c.in-Three.is ∙ (λ i. three at (view_three c.in-Three.field-0) (sym c.deref.ensures i) (sym c.deref-in-Three.ensures i) (sym c.deref-in-Three-2.ensures i)) in
     choice_numbers c.chosen.result at (view_three c.in-Three.field-0) c.deref.result.now c.deref-in-Three.result.now c.deref-in-Three-2.result.now (scope_env c.args.scope.now) c.args.e.now
     c.in-Some.condition c.in-Some-numbers.then c.in-Some-numbers-2.otherwise c.args.count is c.requires c.in-Some.ensures c.in-Some-numbers.ensures c.in-Some-numbers-2.ensures c.chosen.ensures
+
+pub arms::of_if-returns-in-Some-numbers_where-2 : goal.arms::of_if-returns-in-Some-numbers_where-2
+arms::of_if-returns-in-Some-numbers_where-2 t c =
+    let at : At = record { place = c.e.inside.place; ty = c.e.inside.ty } in
+    let is : c.args.e.now ≡ three at (view_three c.in-Three.field-0) c.deref.result.now c.deref-in-Three.result.now c.deref-in-Three-2.result.now =
+    sym c.e.view_is ∙ ap (λ (f : Form). view_form f at) c.in-Three.is ∙ (λ i. three at (view_three c.in-Three.field-0) (sym c.deref.ensures i) (sym c.deref-in-Three.ensures i) (sym c.deref-in-Three-2.ensures i)) in
+    if_where c.chosen.result at (view_three c.in-Three.field-0) c.deref.result.now c.deref-in-Three.result.now c.deref-in-Three-2.result.now (scope_env c.args.scope.now) c.args.e.now
+    c.in-Some.condition c.in-Some-numbers_where.then c.in-Some-numbers_where-2.otherwise c.args.count is c.requires c.in-Some.ensures c.in-Some-numbers_where.ensures c.in-Some-numbers_where-2.ensures c.chosen.ensures
 
 pub bound_of-returns-in-Some : goal.bound_of-returns-in-Some
 bound_of-returns-in-Some t c = c.in-Some.ensures.each

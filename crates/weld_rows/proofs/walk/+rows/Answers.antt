@@ -40,7 +40,7 @@ use Rattle.weld_rows.proofs.Parts.{turn_runs, part_runs_at, rest_runs, part_less
 use Rattle.weld_rows.proofs.Numbers.{numeric_runs, either_runs, number_given, either_first, either_second, either_truth, left_runs, right_runs, binary_form, binary_answers, are_operands, choice_condition_runs, choice_is_truth, value_condition_runs, value_is_truth, then_runs, otherwise_runs, on_part_runs, on_takes}
 use Rattle.weld_rows.proofs.Values.{part_run_takes, let_body_runs, over_count, over_ready, as_many, reach_less, linked, all_linked, expr_some}
 use Rattle.weld_rows.proofs.ActLemmas.{item_runs, act_over_count, act_over_ready, fields_fewer, fields_end, some_left, several_there, reads_some, choice_runs, choice_truth, pair_item_stops}
-use Rattle.weld_blocks.proofs.Merges.{item_puts, put_number_item, put_plain, put_is, pair_is}
+use Rattle.weld_deeds.proofs.Merges.{item_puts, put_number_item, put_plain, put_is, pair_is}
 use Rattle.weld_built.specs.Pair.{pair}
 use Rattle.weld_rows.proofs.RangeSteps.{row_names, row_names_bare, row_same, append_start, range_holds, range_append_stops, range_next, range_start, range_there, range_row_acts, range_act_stops, range_act_next, range_part, range_part_next, range_part_stops}
 use Rattle.weld_rows.proofs.walk.+rows.Goals as goal

@@ -1,8 +1,0 @@
-use Rattle.std.proofs.Common.{◌-◌}
-use Rattle.weld_eval.specs.ThingView.{thing_of}
-use Rattle.weld_blocks.specs.Deeds.{DeedFits, do_of}
-use Rattle.weld_blocks.specs.Through.{HasCome}
-use Rattle.weld_blocks.proofs.through.do_each.Given as goal
-
-abbrev pub invariant-loop-place : goal.invariant-loop-place
-invariant-loop-place g l = HasCome (do_of l.deed) (DeedFits l.deed) l.count (thing_of l.fn.builder) l.place (l.count - l.place) (thing_of l.builder)

@@ -1,0 +1,9 @@
+pub mod Arms
+pub mod Block
+pub mod Calm
+pub mod Choices
+pub mod Chosen
+pub mod Deeds
+pub mod Does
+pub mod Puts
+pub mod Through

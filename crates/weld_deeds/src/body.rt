@@ -1,0 +1,434 @@
+//! What a loop's body does on the rows of a block.
+
+ghost use Rattle.std.specs.Prelude.{◌≡◌, true, IfSome};
+ghost use Rattle.weld_eval.specs.FrameView.{env_of};
+ghost use Rattle.weld_blocks.specs.Structs.{IsStructTree};
+ghost use Rattle.weld_eval.specs.LegsView.{lists_of};
+ghost use Rattle.weld_eval.specs.ThingView.{thing_of};
+ghost use Rattle.weld_deeds.specs.Block.{MayBeBlock};
+ghost use Rattle.weld_deeds.specs.Deeds.{IsDeed, MayBeDeed, MayBeItem, MayBePair, IsBefore, IsMergeTree, IsQuiet, item_at};
+ghost use Rattle.weld_eval_plain.specs.Nodes.{IsIf};
+ghost use Rattle.weld_deeds.specs.Arms.{IsDeedWhere, MayBeDeedWhere, MayBeItemWhere};
+ghost use Rattle.weld_blocks.specs.Numbers.{number_at, IsChosen};
+ghost use Rattle.weld_blocks.specs.Scope.{scope_env};
+
+use crate::deed::{Deed, Deeds};
+use crate::pairs::pair_named;
+use std::alloc::Global;
+use weld_blocks::columns::{bound_of, chosen, name_of, numbers, numbers_where};
+use weld_blocks::numbers::Numbers;
+use weld_blocks::picking::may_fault;
+use weld_blocks::scope::{Rows, Scope, of_rows, with_bound};
+use weld_blocks::structs::columns_of;
+use weld_eval::frame::Frame;
+use weld_eval::legs::Legs;
+use weld_eval::thing::Owned;
+use weld_tree::{Expr, Form, ManyForm, ThreeForm, TwoForm};
+
+/// What the body of a loop does on so many rows from one on, where all that it merges is numbers, or structs of two, whose
+/// parts `numbers` works out; it merges into its own builder, into fields of it, or as `if` chooses. There is none where there is
+/// no memory for it.
+pub fn block_of(
+    e: &Expr,
+    frame: &Frame,
+    own: &Owned,
+    legs: &Legs,
+    from: usize,
+    count: usize,
+    alloc: Global,
+) -> Option<Deed>
+    ensures { MayBeBlock e.now (env_of frame.now) (thing_of own.now) (lists_of legs.now) from result
+        count }
+{
+    match &e.form {
+        Form::For(_, _, own_binder, count_binder, row_binder, body) => {
+            let rows = Rows {
+                frame: &*frame,
+                own: &*own,
+                legs: &*legs,
+                own_name: own_binder.sym,
+                count_name: count_binder.sym,
+                row_name: row_binder.sym,
+                from,
+            };
+            let scope = of_rows(&rows);
+            deed_of(body, &scope, count, alloc)
+        }
+        _ => None,
+    }
+}
+
+/// What an expression of builder type does.
+#[cycle(bodies)]
+fn deed_of(e: &Expr, scope: &Scope, count: usize, alloc: Global) -> Option<Deed>
+    ensures { MayBeDeed e.now (scope_env scope.now) result count }
+{
+    match &e.form {
+        Form::Leaf(_) => Some(Deed::Nothing),
+        Form::One(_, _) => Some(Deed::Nothing),
+        Form::Two(TwoForm::Merge, _, _) => of_merge(e, scope, count, alloc),
+        Form::Three(ThreeForm::If, _, _, _) => of_choice(e, scope, count, alloc),
+        Form::Many(ManyForm::Struct, _) => of_struct(e, scope, count, alloc),
+        Form::Let(_, _, _) => of_let(e, scope, count, alloc),
+        _ => None,
+    }
+}
+
+/// A merge into a builder to which nothing else is done.
+fn of_merge(e: &Expr, scope: &Scope, count: usize, alloc: Global) -> Option<Deed>
+    requires { IsMergeTree e.now }
+    ensures { MayBeDeed e.now (scope_env scope.now) result count }
+{
+    match &e.form {
+        Form::Two(_, first, item) => {
+            if is_quiet(first) {
+                item_of(item, scope, count, alloc)
+            } else {
+                None
+            }
+        }
+        _ => unreachable!(),
+    }
+}
+
+/// Whether nothing is done to the builder: it is a name or a field.
+fn is_quiet(e: &Expr) -> bool
+    ensures { result ≡ true → IsQuiet e.now }
+{
+    match &e.form {
+        Form::Leaf(_) => true,
+        Form::One(_, _) => true,
+        _ => false,
+    }
+}
+
+/// What is merged: a number, or a struct of two or of more.
+fn item_of(item: &Expr, scope: &Scope, count: usize, alloc: Global) -> Option<Deed>
+    ensures { MayBeItem item.now (scope_env scope.now) result count }
+{
+    match numbers(item, scope, count, alloc) {
+        Some(numbers) => Some(Deed::Number(numbers)),
+        None => match pair_of(item, scope, count, alloc) {
+            Some(pair) => Some(pair),
+            None => struct_of(item, scope, count, alloc),
+        },
+    }
+}
+
+/// A struct of numbers.
+fn struct_of(item: &Expr, scope: &Scope, count: usize, alloc: Global) -> Option<Deed>
+    ensures { MayBeItem item.now (scope_env scope.now) result count }
+{
+    match columns_of(item, scope, count, alloc) {
+        Some(columns) => Some(Deed::Struct(columns)),
+        None => None,
+    }
+}
+
+/// A struct of two numbers: written out, a name for one, or one of two such.
+#[cycle(pairs)]
+#[tactic(auto, using(crate::proofs::PairLemmas::row_pair))]
+fn pair_of(item: &Expr, scope: &Scope, count: usize, alloc: Global) -> Option<Deed>
+    ensures { MayBeItem item.now (scope_env scope.now) result count }
+{
+    match name_of(item) {
+        Some(name) => pair_named(scope, name, count, alloc),
+        None => match &item.form {
+            Form::Three(_, _, _, _) => chosen_pair(item, scope, count, alloc),
+            _ => written_pair(item, scope, count, alloc),
+        },
+    }
+}
+
+/// One of two structs of two numbers, as a `select` says.
+#[cycle(pairs)]
+#[tactic(auto, using(crate::proofs::PairLemmas::chosen_pair_gives))]
+fn chosen_pair(item: &Expr, scope: &Scope, count: usize, alloc: Global) -> Option<Deed>
+    ensures { MayBeItem item.now (scope_env scope.now) result count }
+{
+    match &item.form {
+        Form::Three(ThreeForm::Select, condition, then, otherwise) => {
+            let condition = match numbers(condition, scope, count, alloc) {
+                Some(condition) => condition,
+                None => return None,
+            };
+            let then = match pair_of(then, scope, count, alloc) {
+                Some(then) => then,
+                None => return None,
+            };
+            match pair_of(otherwise, scope, count, alloc) {
+                Some(otherwise) => choose_pairs(&condition, &then, &otherwise, count, alloc),
+                None => None,
+            }
+        }
+        _ => None,
+    }
+}
+
+/// One of two structs of two numbers at each place, as truth values say.
+#[tactic(auto, using(crate::proofs::PairLemmas::pairs_chosen))]
+fn choose_pairs(
+    condition: &Numbers,
+    then: &Deed,
+    otherwise: &Deed,
+    count: usize,
+    alloc: Global,
+) -> Option<Deed>
+    ensures { MayBePair (λ place v. IsChosen (number_at condition.now place)
+        (item_at then.now place) (item_at otherwise.now place) v) result count }
+{
+    match then {
+        Deed::Pair(first, second) => match otherwise {
+            Deed::Pair(other_first, other_second) => {
+                let firsts = match chosen(condition, first, other_first, count, alloc) {
+                    Some(firsts) => firsts,
+                    None => return None,
+                };
+                match chosen(condition, second, other_second, count, alloc) {
+                    Some(seconds) => Some(Deed::Pair(firsts, seconds)),
+                    None => None,
+                }
+            }
+            _ => None,
+        },
+        _ => None,
+    }
+}
+
+/// A struct of two numbers that is written out.
+#[tactic(auto, using(crate::proofs::BodyLemmas::written_pair_gives))]
+fn written_pair(item: &Expr, scope: &Scope, count: usize, alloc: Global) -> Option<Deed>
+    ensures { MayBeItem item.now (scope_env scope.now) result count }
+{
+    match &item.form {
+        Form::Many(ManyForm::Struct, parts) => {
+            let parts = parts.as_slice();
+            if parts.len() != 2 {
+                return None;
+            }
+            let keys = match numbers(&parts[0], scope, count, alloc) {
+                Some(keys) => keys,
+                None => return None,
+            };
+            match numbers(&parts[1], scope, count, alloc) {
+                Some(numbers) => Some(Deed::Pair(keys, numbers)),
+                None => None,
+            }
+        }
+        _ => None,
+    }
+}
+
+/// An `if`: of both arms what they do.
+#[cycle(bodies)]
+fn of_choice(e: &Expr, scope: &Scope, count: usize, alloc: Global) -> Option<Deed>
+    requires { IsIf e.now }
+    ensures { MayBeDeed e.now (scope_env scope.now) result count }
+{
+    match &e.form {
+        Form::Three(_, condition, then, otherwise) => {
+            let truths = match numbers(condition, scope, count, alloc) {
+                Some(truths) => truths,
+                None => return None,
+            };
+            let then = match arm_of(then, &truths, true, scope, count, alloc) {
+                Some(then) => then,
+                None => return None,
+            };
+            match arm_of(otherwise, &truths, false, scope, count, alloc) {
+                Some(otherwise) => Some(Deed::Choice(truths, then, otherwise)),
+                None => None,
+            }
+        }
+        _ => unreachable!(),
+    }
+}
+
+/// What an arm does on the rows that reach it, which are those on which the truth value is this one. A merge of what may fault is
+/// worked out on those rows alone.
+#[cycle(bodies)]
+#[tactic(auto, using(crate::proofs::ArmLemmas::arm_wherever))]
+fn arm_of(
+    e: &Expr,
+    truths: &Numbers,
+    truth: bool,
+    scope: &Scope,
+    count: usize,
+    alloc: Global,
+) -> Option<Box<Deed>>
+    ensures { IfSome result (λ d. IsDeedWhere e.now (scope_env scope.now) truths.now truth d.value
+        count) }
+{
+    if !may_fault(e) {
+        return boxed_deed(e, scope, count, alloc);
+    }
+    match careful_deed(e, truths, truth, scope, count, alloc) {
+        Some(deed) => match Box::new(alloc, deed) {
+            Ok(deed) => Some(deed),
+            Err(_) => None,
+        },
+        None => None,
+    }
+}
+
+/// The same of an arm that may fault, where it is a merge.
+fn careful_deed(
+    e: &Expr,
+    truths: &Numbers,
+    truth: bool,
+    scope: &Scope,
+    count: usize,
+    alloc: Global,
+) -> Option<Deed>
+    ensures { MayBeDeedWhere e.now (scope_env scope.now) truths.now truth result count }
+{
+    match &e.form {
+        Form::Two(TwoForm::Merge, _, _) => merge_where(e, truths, truth, scope, count, alloc),
+        _ => None,
+    }
+}
+
+/// A merge of a number or of a written struct of two, on the rows on which the truth value is this one.
+fn merge_where(
+    e: &Expr,
+    truths: &Numbers,
+    truth: bool,
+    scope: &Scope,
+    count: usize,
+    alloc: Global,
+) -> Option<Deed>
+    requires { IsMergeTree e.now }
+    ensures { MayBeDeedWhere e.now (scope_env scope.now) truths.now truth result count }
+{
+    match &e.form {
+        Form::Two(_, first, item) => {
+            if is_quiet(first) {
+                item_where(item, truths, truth, scope, count, alloc)
+            } else {
+                None
+            }
+        }
+        _ => unreachable!(),
+    }
+}
+
+/// What is merged on those rows.
+fn item_where(
+    item: &Expr,
+    truths: &Numbers,
+    truth: bool,
+    scope: &Scope,
+    count: usize,
+    alloc: Global,
+) -> Option<Deed>
+    ensures { MayBeItemWhere item.now (scope_env scope.now) truths.now truth result count }
+{
+    match &item.form {
+        Form::Many(ManyForm::Struct, _) => pair_where(item, truths, truth, scope, count, alloc),
+        _ => match numbers_where(item, truths, truth, scope, count, alloc) {
+            Some(numbers) => Some(Deed::Number(numbers)),
+            None => None,
+        },
+    }
+}
+
+/// A struct of two numbers that is written out, on those rows.
+#[tactic(auto, using(crate::proofs::ArmLemmas::written_pair_where))]
+fn pair_where(
+    item: &Expr,
+    truths: &Numbers,
+    truth: bool,
+    scope: &Scope,
+    count: usize,
+    alloc: Global,
+) -> Option<Deed>
+    ensures { MayBeItemWhere item.now (scope_env scope.now) truths.now truth result count }
+{
+    match &item.form {
+        Form::Many(ManyForm::Struct, parts) => {
+            let parts = parts.as_slice();
+            if parts.len() != 2 {
+                return None;
+            }
+            let keys = match numbers_where(&parts[0], truths, truth, scope, count, alloc) {
+                Some(keys) => keys,
+                None => return None,
+            };
+            match numbers_where(&parts[1], truths, truth, scope, count, alloc) {
+                Some(numbers) => Some(Deed::Pair(keys, numbers)),
+                None => None,
+            }
+        }
+        _ => None,
+    }
+}
+
+/// The same as `deed_of`, in a box.
+#[cycle(bodies)]
+fn boxed_deed(e: &Expr, scope: &Scope, count: usize, alloc: Global) -> Option<Box<Deed>>
+    ensures { IfSome result (λ d. IsDeed e.now (scope_env scope.now) d.value count) }
+{
+    match deed_of(e, scope, count, alloc) {
+        Some(deed) => match Box::new(alloc, deed) {
+            Ok(deed) => Some(deed),
+            Err(_) => None,
+        },
+        None => None,
+    }
+}
+
+/// A struct of builders, field by field, the last one first.
+#[cycle(bodies)]
+#[tactic(auto, using(crate::proofs::BodyLemmas::no_more_fields))]
+fn of_struct(e: &Expr, scope: &Scope, count: usize, alloc: Global) -> Option<Deed>
+    requires { IsStructTree e.now }
+    ensures { MayBeDeed e.now (scope_env scope.now) result count }
+{
+    match &e.form {
+        Form::Many(_, parts) => {
+            let mut deeds = Deeds::End;
+            let mut left = parts.len();
+            'fields: while left > 0 {
+                left -= 1;
+                deeds = match boxed_deed(&parts.as_slice()[left], scope, count, alloc) {
+                    Some(first) => match before(first, deeds, alloc) {
+                        Some(more) => more,
+                        None => return None,
+                    },
+                    None => return None,
+                };
+            }
+            Some(Deed::Fields(deeds))
+        }
+        _ => unreachable!(),
+    }
+}
+
+/// What is done to the fields with one before them.
+fn before(first: Box<Deed>, rest: Deeds, alloc: Global) -> Option<Deeds>
+    ensures { IfSome result (λ ds. IsBefore first.value rest ds) }
+{
+    match Box::new(alloc, rest) {
+        Ok(rest) => Some(Deeds::And(first, rest)),
+        Err(_) => None,
+    }
+}
+
+/// A `let` of numbers or of a struct of such.
+#[cycle(bodies)]
+#[tactic(auto, using(crate::proofs::BodyLemmas::let_does))]
+fn of_let(e: &Expr, scope: &Scope, count: usize, alloc: Global) -> Option<Deed>
+    ensures { MayBeDeed e.now (scope_env scope.now) result count }
+{
+    match &e.form {
+        Form::Let(binder, first, body) => {
+            let bound = match bound_of(first, &*scope, count, alloc) {
+                Some(bound) => bound,
+                None => return None,
+            };
+            let inner = with_bound(binder.sym, &bound, &*scope);
+            deed_of(body, &inner, count, alloc)
+        }
+        _ => None,
+    }
+}

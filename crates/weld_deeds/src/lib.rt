@@ -1,0 +1,13 @@
+//! What a loop's body does to its builder on the rows of a block: what it merges is worked out for many rows at once, and then merged.
+#![tactic(auto)]
+
+pub mod body;
+mod chosen;
+pub mod deed;
+mod pairs;
+pub mod puts;
+mod through;
+
+pub use body::block_of;
+pub use deed::Deed;
+pub use through::do_through;
