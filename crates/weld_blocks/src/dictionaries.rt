@@ -38,7 +38,8 @@ pub(crate) fn values_of(
     count: usize,
     alloc: Global,
 ) -> Option<Numbers>
-    ensures { MayGive (λ place v. looked_up (dict (entries pairs.now)) (number_of_place keys.now place)
+    ensures { MayGive (λ place v. looked_up (dict (entries pairs.now))
+        (number_of_place keys.now place)
         ≡ done v) result count }
 {
     let of = ValuesAt { pairs, keys };
@@ -52,7 +53,8 @@ pub(crate) fn has_keys(
     count: usize,
     alloc: Global,
 ) -> Option<Numbers>
-    ensures { MayGive (λ place v. has_key (dict (entries pairs.now)) (number_of_place keys.now place)
+    ensures { MayGive (λ place v. has_key (dict (entries pairs.now))
+        (number_of_place keys.now place)
         ≡ done v) result count }
 {
     let of = HasKeysOf { pairs, keys };

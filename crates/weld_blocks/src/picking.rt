@@ -170,7 +170,8 @@ pub(crate) fn spread(
     count: usize,
     alloc: Global,
 ) -> Option<Numbers>
-    ensures { MayGive (λ j v. Where truths.now truth (λ i w. StandsAt numbers.now places.now i w) j v)
+    ensures { MayGive (λ j v. Where truths.now truth (λ i w. StandsAt numbers.now places.now i w) j
+        v)
         result count }
 {
     let of = AtPicked {

@@ -146,8 +146,9 @@ impl KeyedPart {
         requires narrow { IsNarrow self.old.kind }
         requires in_range { AllInRange self.old.kind numbers.now }
         requires count { length keys.now ≡ length numbers.now }
-        ensures ok { OnOk result (self.new.numbers ≡ merged_from (combined self.old.op self.old.kind)
-            self.old.numbers (by_value (number key_kind) (zip keys.now numbers.now))) }
+        ensures ok { OnOk result (self.new.numbers
+            ≡ merged_from (combined self.old.op self.old.kind) self.old.numbers
+            (by_value (number key_kind) (zip keys.now numbers.now))) }
         ensures key { self.new.key ≡ self.old.key }
         ensures op { self.new.op ≡ self.old.op }
         ensures kind { self.new.kind ≡ self.old.kind }

@@ -131,7 +131,8 @@ pub(crate) fn many_in(
     requires narrow { IsNarrow kind }
     requires numbers { AllInRange kind numbers.now }
     requires count { length keys.now ≡ length numbers.now }
-    ensures ok { OnOk result (numbers_in map.new ≡ merged_from (combined op kind) (numbers_in map.old)
+    ensures ok { OnOk result (numbers_in map.new
+        ≡ merged_from (combined op kind) (numbers_in map.old)
         (by_value (number key_kind) (zip keys.now numbers.now))) }
     ensures keyed { IsKeyed kind map.new }
     ensures kept { kind_of_keys map.new ≡ kind_of_keys map.old }
