@@ -1,11 +1,11 @@
 -- Dictionaries whose keys are numbers.
-use Rattle.std.proofs.Common.{◌≡◌, ◌∷◌, ◌<◌, ℕ, zero, suc, ℤ, List, [], length, get_or, Bool, Option, Some, None, IfSome, is_some, refl, sym, ap, ◌∙◌, subst, arith}
-use Rattle.std.specs.Prelude.{All, slice_get, slice_index_or}
+use Rattle.std.proofs.Common.{◌≡◌, ◌∷◌, ℕ, zero, suc, ℤ, List, [], length, Bool, Option, Some, None, IfSome, is_some, refl, sym, ap, ◌∙◌, subst, arith}
+use Rattle.std.specs.Prelude.{slice_get, slice_index_or}
 use Rattle.weld_data.specs.declared.kind.Kind.{Kind}
 use Rattle.weld_data.specs.Lookup.{value_of_key}
 use Rattle.weld_data.specs.Order.{IsKeyFor, SameKeyType, Rises}
-use Rattle.weld_data.specs.Value.{Value, number, list, struct, dict, Values, no_values, and_value, entries, list_of_entries-entries}
-use Rattle.weld_tree.specs.ExprTree.{ExprTree, At, two, look_up, key_exists}
+use Rattle.weld_data.specs.Value.{Value, number, list, struct, dict, no_values, and_value, entries, list_of_entries-entries}
+use Rattle.weld_tree.specs.ExprTree.{ExprTree, At, two, key_exists}
 use Rattle.weld_builders.specs.Outcome.{done, and_then, map_out, or_fault}
 use Rattle.weld_meaning.specs.Thing.{plain}
 use Rattle.weld_meaning.specs.Evaluation.{Env, eval, has_key, looked_up, truth_value, two_thing}

@@ -1,5 +1,5 @@
 -- Values that stand in the rows of a block.
-use Rattle.std.proofs.Common.{Bor, ◌≡◌, ◌≢◌, ◌∷◌, ℕ, ◌+◌, ◌<◌, List, [], length, slice_get, Option, Some, None, sym, ap, ◌∙◌}
+use Rattle.std.proofs.Common.{Bor, ◌≡◌, ◌≢◌, ◌∷◌, ℕ, ◌+◌, List, [], length, slice_get, Option, Some, None, sym, ap, ◌∙◌}
 use Rattle.weld_data.specs.Value.{Value, list, dict, values, entries, list_of_values-values}
 use Rattle.weld_tree.specs.declared.sym.Sym.{Sym}
 use Rattle.weld_tree.specs.ExprTree.{ExprTree, At, leaf, one, two, name, field, len, look_up}

@@ -1,19 +1,19 @@
 -- Values outside of a loop's rows.
-use Rattle.std.proofs.Common.{Bor, ◌≡◌, ◌≢◌, ◌∷◌, ℕ, zero, suc, ◌+◌, ℤ, pos, List, [], length, Option, Some, None, sym, ap, ◌∙◌}
+use Rattle.std.proofs.Common.{Bor, ◌≡◌, ◌≢◌, ◌∷◌, ℕ, zero, suc, ◌+◌, ℤ, pos, List, [], Option, Some, sym, ap, ◌∙◌}
 use Rattle.std.specs.Prelude.{slice_get}
 use Rattle.weld_data.specs.declared.kind.Kind.{Kind}
 use Rattle.weld_data.specs.declared.kind.Kind.TheVariants as kinds
 use Rattle.weld_data.specs.Value.{Value, number, list, struct, values, list_of_values-values}
 use Rattle.weld_tree.specs.declared.sym.Sym.{Sym}
-use Rattle.weld_tree.specs.ExprTree.{ExprTree, At, leaf, one, two, name, field, len, look_up}
+use Rattle.weld_tree.specs.ExprTree.{ExprTree, At, leaf, one, name, field}
 use Rattle.weld_builders.specs.Outcome.{done, and_then, map_out, or_fault}
 use Rattle.weld_meaning.specs.Environment.{look_for}
 use Rattle.weld_meaning.specs.Thing.{plain, value_field}
-use Rattle.weld_meaning.specs.Evaluation.{Env, eval, found, one_thing, two_thing, element_at, looked_up, whole_number}
+use Rattle.weld_meaning.specs.Evaluation.{Env, eval, found, one_thing, element_at, looked_up, whole_number}
 use Rattle.weld_eval.specs.FrameView.{env_of}
 use Rattle.weld_eval.specs.ThingView.{thing_of}
 use Rattle.weld_eval.specs.Word.{of_word}
-use Rattle.weld_blocks.specs.Numbers.{number_at, MayGive, AreNumbersOf, MayBeNumbers}
+use Rattle.weld_blocks.specs.Numbers.{MayGive, MayBeNumbers}
 use Rattle.weld_blocks.specs.Outer.{IsEverywhere, StandsEverywhere}
 use Rattle.weld_blocks.specs.Scope.{scope_env, row_env}
 use Rattle.weld_blocks.specs.declared.numbers.Numbers.{Numbers}

@@ -6,11 +6,11 @@ use Rattle.weld_data.specs.Value.{Value, number}
 use Rattle.weld_tree.specs.ExprTree.{ExprTree, At, two, three, and, or, Three, if_else, select, slice}
 use Rattle.weld_builders.specs.Outcome.{Outcome, done, and_then, map_out}
 use Rattle.weld_meaning.specs.Environment.{look_for}
-use Rattle.weld_meaning.specs.Thing.{Thing, plain, field_of}
+use Rattle.weld_meaning.specs.Thing.{plain, field_of}
 use Rattle.weld_meaning.specs.Evaluation.{Env, eval, found, chosen, truth_of, truth_value, two_thing, three_thing, value_out}
 use Rattle.weld_eval.specs.Word.{of_word}
 use Rattle.weld_eval_plain.specs.Nodes.{IsIf}
-use Rattle.weld_blocks.specs.Numbers.{number_at, count_of, AreGiven, MayGive, AreNumbersOf, MayBeNumbers, IsChosen}
+use Rattle.weld_blocks.specs.Numbers.{number_at, AreGiven, MayGive, AreNumbersOf, MayBeNumbers, IsChosen}
 use Rattle.weld_blocks.specs.Outer.{StandsEverywhere}
 use Rattle.weld_blocks.specs.Picked.{IsPicked, StandsAt, Where, AreNumbersWhere, MayBeNumbersWhere}
 use Rattle.weld_blocks.specs.Scope.{scope_step, scope_env}

@@ -1,5 +1,5 @@
 -- Rows that are picked by their places.
-use Rattle.std.specs.Prelude.{◌≡◌, ℕ, ◌<◌, List, length, get_or, Bool, Option, Some, None}
+use Rattle.std.specs.Prelude.{◌≡◌, ℕ, ◌<◌, List, length, get_or, Bool, Option}
 use Rattle.weld_data.specs.Value.{Value}
 use Rattle.weld_tree.specs.ExprTree.{ExprTree}
 use Rattle.weld_builders.specs.Outcome.{done}

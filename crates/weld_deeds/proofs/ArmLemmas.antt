@@ -1,5 +1,5 @@
 -- What the arms of an `if` do on the rows that reach them.
-use Rattle.std.proofs.Common.{◌≡◌, ℕ, ◌<◌, ℤ, pos, int_eq, Bool, true, false, List, length, get_or, Option, Some, None, Box, Global, if◌then◌else◌, refl, sym, ap, ◌∙◌, subst}
+use Rattle.std.proofs.Common.{◌≡◌, ℕ, ◌<◌, pos, int_eq, Bool, true, false, List, length, get_or, Option, Some, None, Box, Global, if◌then◌else◌, refl, sym, ap, ◌∙◌, subst}
 use Rattle.weld_data.specs.declared.kind.Kind.{Kind}
 use Rattle.weld_data.specs.Value.{Value, number, list, struct, dict}
 use Rattle.weld_tree.specs.ExprTree.{ExprTree, At, two, three, many, Two, binary, and, or, look_up, key_exists, merge, Three, if_else, select, slice, make_struct, pack_exprs}

@@ -1,22 +1,20 @@
 -- What bodies do, form by form.
-use Rattle.std.proofs.Common.{◌≡◌, ℕ, ◌+◌, ◌<◌, ◌∷◌, [], Bool, List, length, drop, get_or, Option, Some, None, Box, Global, if◌then◌else◌, refl, sym, ap, ◌∙◌, subst}
+use Rattle.std.proofs.Common.{◌≡◌, ℕ, ◌+◌, ◌<◌, ◌∷◌, [], List, length, drop, get_or, Option, Some, None, refl, sym, ap, ◌∙◌, subst}
 use Rattle.std.proofs.lemmas.List.{at_drop_more}
 use Rattle.weld_data.specs.Value.{Value}
 use Rattle.weld_tree.specs.declared.binder.Binder.{Binder}
 use Rattle.weld_blocks.specs.Structs.{IsStructTree}
 use Rattle.weld_tree.specs.TypeTree.{TypeTrees, no_types, more_types}
-use Rattle.weld_tree.specs.ExprTree.{ExprTree, At, ExprTrees, no_exprs, more_exprs, leaf, one, two, three, many, let_in, loop, iterate, Leaf, One, Two, binary, and, or, look_up, key_exists, merge, Three, if_else, select, slice, Many, make_vec, make_struct, pack_exprs}
+use Rattle.weld_tree.specs.ExprTree.{ExprTree, At, ExprTrees, no_exprs, more_exprs, leaf, one, two, three, many, let_in, loop, iterate, Leaf, One, Two, binary, and, or, look_up, key_exists, merge, Many, make_vec, make_struct, pack_exprs}
 use Rattle.weld_builders.specs.Outcome.{Outcome, done, fault, stuck, and_then, map_out}
 use Rattle.weld_built.specs.Pair.{pair}
 use Rattle.weld_meaning.specs.Thing.{Thing, plain, building, several, Things, no_things, more_things, struct_of, fields_of, first_of, rest_of}
 use Rattle.weld_meaning.specs.ThingType.{HaveBuilders}
 use Rattle.weld_meaning.specs.Typing.{Types, HaveTypes}
-use Rattle.weld_meaning.specs.Evaluation.{Env, eval, merged, truth_of, chosen}
-use Rattle.weld_eval_plain.specs.Nodes.{IsIf}
-use Rattle.weld_eval_plain.proofs.Nodes.{condition_is_truth}
+use Rattle.weld_meaning.specs.Evaluation.{Env, eval, merged}
 use Rattle.weld_acts.specs.Act.{act, act_all}
 use Rattle.weld_acts.specs.ActFits.{ActFits, ActsFit}
-use Rattle.weld_acts.proofs.Children.{then_acts, otherwise_acts, let_acts, struct_acts, struct_several, struct_is, acts_first, acts_rest}
+use Rattle.weld_acts.proofs.Children.{let_acts, struct_acts, struct_several, struct_is, acts_first, acts_rest}
 use Rattle.weld_deeds.specs.Puts.{IsPut}
 use Rattle.weld_blocks.specs.Numbers.{number_at, AreNumbersOf}
 use Rattle.weld_deeds.specs.Deeds.{do_of, IsDeed, AreDeeds, IsItem, MayBeDeed, MayBeItem, IsBefore, IsMergeTree, IsQuiet}

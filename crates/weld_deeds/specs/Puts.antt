@@ -1,7 +1,7 @@
 -- Items that are merged in place.
 use Rattle.std.specs.Prelude.{◌≡◌}
 use Rattle.weld_data.specs.Value.{Value}
-use Rattle.weld_tree.specs.ExprTree.{ExprTree, two, three, many, Many, make_vec, make_struct, ExprTrees, no_exprs, more_exprs}
+use Rattle.weld_tree.specs.ExprTree.{ExprTree, two, three, many, ExprTrees, no_exprs, more_exprs}
 use Rattle.weld_builders.specs.Outcome.{done}
 use Rattle.weld_builders.specs.Part.{Part}
 use Rattle.weld_meaning.specs.Thing.{Thing, plain, building, several}

@@ -1,5 +1,5 @@
 -- What is known of a loop that is run is known of its legs.
-use Rattle.std.proofs.Common.{◌≡◌, Bool, true, ℕ, ◌+◌, ◌<◌, ◌≤◌, List, [], ◌∷◌, zero, suc, length, drop, map, get_or, sym, subst, arith}
+use Rattle.std.proofs.Common.{◌≡◌, Bool, ℕ, ◌+◌, ◌<◌, ◌≤◌, List, [], ◌∷◌, zero, suc, length, drop, map, get_or, sym, subst, arith}
 use Rattle.weld_tree.specs.declared.expr.Leg.{Leg}
 use Rattle.weld_tree.specs.ExprFalls.{leg_nodes, legs_nodes}
 use Rattle.weld_tree.specs.ExprTree.{ExprTree, LegTree, whole, strided, pack_legs}
