@@ -124,7 +124,7 @@ fn field_in_slot(field: u32, slot: Slot) -> Option<Short>
 /// The field of a name that an expression is, lent where it stands: of a struct, or of the row of a loop, which needn't be built
 /// for it. There is none where the expression is anything else. It takes no memory.
 #[tactic(auto, using(crate::proofs::ReadLemmas::name_there, crate::proofs::ReadLemmas::field_takes, crate::proofs::ReadLemmas::field_reads))]
-#[inline(always)]
+#[inline(never)]
 pub(crate) fn lent_field<'a>(e: &Expr, frame: &'a Frame<'a>) -> Option<Held<'a>>
     requires { IsFit e.now (env_of frame.now) }
     ensures { IsLentAs result (eval_of e.now (env_of frame.now)) }

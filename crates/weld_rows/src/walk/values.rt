@@ -103,9 +103,10 @@ pub(super) fn other<'a>(
     }
 }
 
-/// A form of one part.
+/// A form of one part. It isn't taken into its callers, whose frames stand once for each of a thousand lets.
 #[cycle(rows)]
 #[tactic(auto, using(crate::proofs::Values::part_runs, crate::proofs::Values::part_run_takes))]
+#[inline(never)]
 fn value_of_one<'a>(
     e: &Expr,
     frame: &'a Frame<'a>,
