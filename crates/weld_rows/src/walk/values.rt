@@ -72,7 +72,8 @@ fn numeral<'a>(
     }
 }
 
-/// What isn't a number by its looks.
+/// What isn't a number by its looks. Forms but lets and ifs are worked out by calls that stay calls: a frame of this walk stands
+/// once for each of a thousand lets, and theirs are large.
 #[cycle(rows)]
 #[tactic(auto, using(weld_eval_plain::proofs::Nodes::leaf_takes))]
 pub(super) fn other<'a>(
@@ -103,7 +104,7 @@ pub(super) fn other<'a>(
     }
 }
 
-/// A form of one part. It isn't taken into its callers, whose frames stand once for each of a thousand lets.
+/// A form of one part.
 #[cycle(rows)]
 #[tactic(auto, using(crate::proofs::Values::part_runs, crate::proofs::Values::part_run_takes))]
 #[inline(never)]
@@ -151,6 +152,7 @@ fn value_of_either<'a>(
 /// A form of two parts that evaluates both.
 #[cycle(rows)]
 #[tactic(auto, using(crate::proofs::Parts::first_runs, crate::proofs::Parts::second_runs, weld_eval_plain::proofs::Nodes::both_take))]
+#[inline(never)]
 fn value_of_both<'a>(
     e: &Expr,
     frame: &'a Frame<'a>,
@@ -211,6 +213,7 @@ fn value_of_if<'a>(
 /// A form of three parts that evaluates all of them.
 #[cycle(rows)]
 #[tactic(auto, using(crate::proofs::Parts::condition_runs, crate::proofs::Values::then_run, crate::proofs::Values::otherwise_run, weld_eval_plain::proofs::Nodes::all_take))]
+#[inline(never)]
 fn value_of_three<'a>(
     e: &Expr,
     frame: &'a Frame<'a>,
@@ -250,6 +253,7 @@ fn value_of_three<'a>(
 /// A vector or a struct.
 #[cycle(rows)]
 #[tactic(auto, using(crate::proofs::Parts::parts_run, weld_eval_plain::proofs::Parts::parts_take))]
+#[inline(never)]
 fn value_of_many<'a>(
     e: &Expr,
     frame: &'a Frame<'a>,
@@ -322,6 +326,7 @@ fn value_of_let<'a>(
 /// A loop: its legs, then its builder, then its rows.
 #[cycle(rows)]
 #[tactic(auto, using(crate::proofs::Values::loop_legs_run, weld_eval_plain::proofs::Rows::loop_legs_fault))]
+#[inline(never)]
 fn value_of_loop<'a>(
     e: &Expr,
     frame: &'a Frame<'a>,
