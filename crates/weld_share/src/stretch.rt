@@ -22,7 +22,8 @@ pub(crate) struct Stretch<'a> {
 }
 
 /// How many tiles a stretch has, of so many tiles that have so many rows together: each of the workers is to have so many
-/// stretches of each batch, and all of about the same length. It takes no memory.
+/// stretches of each batch, and all of about the same length. A lone worker has all in one, so that nothing is joined. It takes no
+/// memory.
 fn stretch_len(tiles: usize, rows: u64, workers: u32, each: u32) -> usize
     requires some_worker { 1 ≤ workers }
     requires workers { workers ≤ 64 }
@@ -30,6 +31,9 @@ fn stretch_len(tiles: usize, rows: u64, workers: u32, each: u32) -> usize
     requires each { each ≤ 64 }
     ensures { 1 ≤ result }
 {
+    if workers == 1 {
+        return tiles.max(1);
+    }
     let batches = rows.div_ceil(STRETCH_ROWS * u64::from(workers)).max(1);
     let batch = tiles.div_ceil(batches as usize);
     batch.div_ceil((workers * each) as usize).max(1)
