@@ -42,7 +42,8 @@ pub fn note_types(alloc: Global, e: &mut Expr, scope: &Scope) -> Result<Ty, Refu
     }
 }
 
-/// The type of the node of such a form; the types of its parts are noted at them.
+/// The type of the node of such a form; the types of its parts are noted at them. Forms with parts are worked out by calls
+/// that stay calls: a frame of this walk stands once for each of a thousand lets, and theirs are large.
 #[cycle(walk)]
 fn form_under(alloc: Global, form: &mut Form, place: Place, scope: &Scope) -> Result<Ty, Refusal>
     ensures found { (k : Known) → Says result (type_of (view_form form.old (at place k))
@@ -69,6 +70,7 @@ fn form_under(alloc: Global, form: &mut Form, place: Place, scope: &Scope) -> Re
 }
 
 #[cycle(walk)]
+#[inline(never)]
 fn one_under(
     alloc: Global,
     part: &mut Expr,
@@ -85,6 +87,7 @@ fn one_under(
 }
 
 #[cycle(walk)]
+#[inline(never)]
 fn two_under(
     alloc: Global,
     first: &mut Expr,
@@ -105,6 +108,7 @@ fn two_under(
 }
 
 #[cycle(walk)]
+#[inline(never)]
 fn three_under(
     alloc: Global,
     first: &mut Expr,
@@ -129,6 +133,7 @@ fn three_under(
 
 #[cycle(walk)]
 #[tactic(auto)]
+#[inline(never)]
 fn many_under(
     alloc: Global,
     parts: &mut Exprs,
@@ -176,6 +181,7 @@ fn push_under(alloc: Global, e: &mut Expr, types: &mut Tys, scope: &Scope) -> Re
 }
 
 #[cycle(walk)]
+#[inline(never)]
 fn let_under(
     alloc: Global,
     value: &mut Expr,
@@ -196,6 +202,7 @@ fn let_under(
 }
 
 #[cycle(walk)]
+#[inline(never)]
 fn iterate_under(
     alloc: Global,
     state: &mut Expr,
@@ -221,6 +228,7 @@ fn iterate_under(
 }
 
 #[cycle(walk)]
+#[inline(never)]
 fn loop_under(
     alloc: Global,
     legs: &mut Legs,
