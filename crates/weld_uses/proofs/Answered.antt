@@ -12,7 +12,7 @@ use Rattle.weld_tree.specs.ExprTree.{At, ExprTree, leaf, one, two, three, many, 
 use Rattle.weld_tree.specs.ExprView.{view_leg}
 use Rattle.weld_tree.specs.Program.{bound, bound_in, bound_in_leg, bound_in_legs, AreDistinct}
 use Rattle.weld_meaning.specs.Environment.{Named}
-use Rattle.weld_meaning.specs.Origin.{Path, Origin, value, made, many_origin, own_paths, in_turn, outside, by_name}
+use Rattle.weld_meaning.specs.Origin.{Path, Origin, value, made, own, outer, named, struct, is_value, many_origin, own_paths, in_turn, outside, by_name}
 use Rattle.weld_meaning.specs.LinearWalk.{Left, is_not_made, same_origin, some_of, paths_below, builders_of, refusal}
 use Rattle.weld_linear.specs.AvailableView.{same_left}
 use Rattle.weld_linear.specs.Sources.{pack_origins}
@@ -215,6 +215,14 @@ bound_alone s o p q = p ∙ (λ i. builders_of s o ++ q i)
 
 pub clear_with : (s : ℕ) (xs : List ℕ) (o : Origin) (l : Left) {m : Left} → m ≡ builders_of s o ++ l → AreClear (s ∷ xs) l → AreClear xs m
 clear_with s xs o l e h = clear_same _ e (clear_bound s xs (paths_below [] o) l h)
+
+pub value_stands : (g : Named Origin) (o : Origin) → is_value o ≡ true → value ≡ resolve g o
+value_stands g value h = refl
+value_stands g made h = cc
+value_stands g (own p) h = cc
+value_stands g outer h = cc
+value_stands g (named s p) h = cc
+value_stands g (struct os) h = cc
 
 pub let_stops : {r : Refusal} {b : Binder} {e f : ExprTree} {p : Place} {g h : Named Origin} {l m bound : Left} {o real : Origin}
     → Walked o e g l m → real ≡ resolve g o → bound ≡ builders_of b.sym.0 real ++ m → Stops r f h bound → h ≡ (b.sym.0, real) ∷ g → Stops r (let_in (at p) b e f) g l

@@ -4,12 +4,13 @@
 
 ghost use Rattle.std.specs.Prelude.{◌≡◌, ◌∷◌, [], None};
 ghost use Rattle.weld_tree.specs.ExprTree as tree;
-ghost use Rattle.weld_tree.specs.ExprTree.{let_in, loop, iterate, pack_exprs, pack_legs, if_else, select};
+ghost use Rattle.weld_tree.specs.ExprTree.{ExprTree, let_in, loop, iterate, pack_exprs, pack_legs, if_else, select};
 ghost use Rattle.weld_tree.specs.ExprView.{view_one, view_two, view_three, view_many, view_leg};
 ghost use Rattle.weld_tree.specs.Program.{bound, bound_in, bound_in_leg, bound_in_legs};
 ghost use Rattle.weld_meaning.specs.Available.{chain_of, chain_of_one};
+ghost use Rattle.weld_meaning.specs.LinearWalk.{Left};
 ghost use Rattle.weld_linear.specs.Resolve.{resolve};
-ghost use Rattle.weld_uses.specs.Walks.{at, somewhere, Walks, BodyWalks, AllWalk, LegWalks, LegsWalk, AreClear};
+ghost use Rattle.weld_uses.specs.Walks.{at, somewhere, Walks, Walked, BodyWalks, AllWalk, LegWalks, LegsWalk, IsAbsent, AreClear};
 
 use crate::chain::{chain_of_one, name_place};
 use std::alloc::Global;
@@ -25,6 +26,8 @@ use nodes::{
     has_fewer, many_answer, named_before, one_answer, own_builder, two_answer, use_chain, use_leaf,
 };
 
+/// Forms with parts are walked by calls that stay calls: a frame of this walk stands once for each of a thousand lets, and
+/// theirs are large.
 #[cycle(walk)]
 pub(crate) fn walk(
     e: &Expr,
@@ -56,6 +59,7 @@ pub(crate) fn walk(
 }
 
 #[cycle(walk)]
+#[inline(never)]
 fn walk_one(
     one: &OneForm,
     part: &Expr,
@@ -94,6 +98,7 @@ fn walk_part(
 }
 
 #[cycle(walk)]
+#[inline(never)]
 fn walk_two(
     two: TwoForm,
     first: &Expr,
@@ -147,6 +152,7 @@ fn walk_if(
 }
 
 #[cycle(walk)]
+#[inline(never)]
 fn walk_three(
     three: ThreeForm,
     first: &Expr,
@@ -193,6 +199,7 @@ fn walk_select(
 }
 
 #[cycle(walk)]
+#[inline(never)]
 fn walk_many(
     many: ManyForm,
     parts: &Exprs,
@@ -232,6 +239,7 @@ fn walk_all(
 }
 
 #[cycle(walk)]
+#[inline(never)]
 fn walk_let(
     binder: &Binder,
     value: &Expr,
@@ -245,6 +253,37 @@ fn walk_let(
         left.new }
 {
     let source = walk(value, scope, left, alloc)?;
+    if !source.is_value() {
+        return walk_builders_body(binder, &source, body, scope, left, alloc);
+    }
+    // (most lets bind values, of which nothing is to be worked out or kept in this frame)
+    let inner = Scope::of_value(binder.sym, &*scope);
+    let answer = walk(body, &inner, left, alloc)?;
+    if left.has_name(binder.sym) {
+        return Err(Refusal::At(Code::L1, binder.place));
+    }
+    match named_before(&answer, binder.sym, &source, scope, alloc) {
+        Ok(answer) => Ok(answer),
+        Err(_) => Err(Refusal::Memory),
+    }
+}
+
+/// The body of a `let` whose value has this origin, behind the walk over the value.
+#[cycle(walk)]
+#[inline(never)]
+fn walk_builders_body(
+    binder: &Binder,
+    source: &Source,
+    body: &Expr,
+    scope: &Scope,
+    left: &mut Available,
+    alloc: Global,
+) -> Result<Source, Refusal>
+    requires { AreClear (binder.now.sym.0 ∷ bound body.now) left.old }
+    ensures { (e : ExprTree) (before : Left) → IsAbsent binder.now.sym.0 before
+        → Walked source.now e scope.now before left.old
+        → Walks result (let_in (at somewhere) binder.now e body.now) scope.now before left.new }
+{
     let Ok(real) = source.resolve(scope, alloc) else {
         return Err(Refusal::Memory);
     };
@@ -256,13 +295,14 @@ fn walk_let(
     if left.has_name(binder.sym) {
         return Err(Refusal::At(Code::L1, binder.place));
     }
-    match named_before(&answer, binder.sym, &source, scope, alloc) {
+    match named_before(&answer, binder.sym, source, scope, alloc) {
         Ok(answer) => Ok(answer),
         Err(_) => Err(Refusal::Memory),
     }
 }
 
 #[cycle(walk)]
+#[inline(never)]
 fn walk_iterate(
     state: &Expr,
     binder: &Binder,
@@ -283,6 +323,7 @@ fn walk_iterate(
 }
 
 #[cycle(walk)]
+#[inline(never)]
 fn walk_for(
     legs: &Legs,
     builder: &Expr,

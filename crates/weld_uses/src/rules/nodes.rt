@@ -41,6 +41,7 @@ pub(super) fn use_leaf(
 }
 
 /// A name followed by field accesses: its builders are of within the lambda and are left, and are taken.
+#[inline(never)]
 pub(super) fn use_chain(
     chain: &Builder,
     place: Place,
@@ -74,6 +75,7 @@ pub(super) fn use_chain(
 }
 
 /// The builders at and below the path of a name of this origin.
+#[inline(never)]
 fn wanted(chain: &Builder, real: &Source, alloc: Global) -> Result<Available, AllocError>
     ensures { IfOk result (λ found. found ≡ of_name chain.now.name.0
         (paths_below chain.now.path (at_path chain.now.path real.now))) }
@@ -85,6 +87,7 @@ fn wanted(chain: &Builder, real: &Source, alloc: Global) -> Result<Available, Al
 }
 
 /// The origin, by the names, of a name of this origin followed by field accesses.
+#[inline(never)]
 fn answer_of(chain: &Builder, real: &Source, alloc: Global) -> Result<Source, AllocError>
     ensures { IfOk result (λ o. o ≡ follow chain.now.path
         (named_below chain.now.name.0 [] real.now)) }
@@ -94,6 +97,7 @@ fn answer_of(chain: &Builder, real: &Source, alloc: Global) -> Result<Source, Al
 }
 
 /// What is refused at a node of one part that is no name followed by field accesses, by the origin of its part.
+#[inline(never)]
 pub(super) fn one_answer(
     one: &OneForm,
     part: &Source,
@@ -160,6 +164,7 @@ pub(super) fn has_fewer(left: &Available, before: usize) -> bool
 }
 
 /// The paths of a lambda's own builder, where the loop's builder has this origin by the names in scope.
+#[inline(never)]
 pub(super) fn own_builder(
     source: &Source,
     scope: &Scope,
@@ -171,6 +176,7 @@ pub(super) fn own_builder(
 }
 
 /// The origin, by the names before a `let`, of what its body answers by these and the one that is bound.
+#[inline(never)]
 pub(super) fn named_before(
     answer: &Source,
     name: Sym,

@@ -1,4 +1,4 @@
-use Rattle.std.proofs.Common.{rules, ◌<◌, ◌≤◌, ◌∙◌, ◌∷◌, ◌++◌, length, sym, ap}
+use Rattle.std.proofs.Common.{rules, ◌<◌, ◌≤◌, ◌∙◌, ◌∷◌, ◌++◌, length, sym, ap, refl}
 use Rattle.std.proofs.lemmas.Result.{err_from_is_err_and}
 use Rattle.weld_tree.specs.ExprTree.{whole, strided, pack_legs}
 use Rattle.weld_tree.specs.ExprView.{view_one, view_two, view_leg, view_form}
@@ -8,7 +8,7 @@ use Rattle.weld_linear.specs.AvailableView.{view_builder}
 use Rattle.weld_uses.proofs.Clear.{clear_first, clear_second, clear_none, clear_body, clear_lambda}
 use Rattle.weld_uses.proofs.Steps.{chain_walks, part_stops, part_walks, first_stops, second_stops, two_walks, condition_stops, middle_stops, last_stops}
 use Rattle.weld_uses.proofs.Binding.{value_stops, state_stops, legs_stop, builder_stops, loop_body_stops, loop_walks, whole_walks, whole_stops, strided_stops, start_stops, end_stops, stride_stops, strided_walks, many_stops, all_next, legs_next, legs_step, clear_walked, clear_legs}
-use Rattle.weld_uses.proofs.Answered.{clear_same, stop, stop_leg, stop_body, chain_at, three_answers, many_answers, iterate_stops, iterate_answers, let_stops, let_leaves, let_answers, inside_stops, inside_leaves, inside_differs, inside_walks, scope_inside, bound_alone, clear_with, select_no_if, other_arm_stops, arms_leave_others, arms_answer_others, if_answers, both_true, first_false, second_false, leaf_node, one_node, two_node, three_node, many_node, let_node, loop_node, iterate_node, clear_one, clear_two, clear_three, clear_many, clear_let, clear_loop, clear_iterate, leg_stops, walked_leg, clear_leg, clear_node, clear_strided, all_starts, all_refused, all_more, all_answer, legs_start, legs_refused, legs_answer, less, no_less}
+use Rattle.weld_uses.proofs.Answered.{clear_same, stop, stop_leg, stop_body, chain_at, three_answers, many_answers, iterate_stops, iterate_answers, value_stands, let_stops, let_leaves, let_answers, inside_stops, inside_leaves, inside_differs, inside_walks, scope_inside, bound_alone, clear_with, select_no_if, other_arm_stops, arms_leave_others, arms_answer_others, if_answers, both_true, first_false, second_false, leaf_node, one_node, two_node, three_node, many_node, let_node, loop_node, iterate_node, clear_one, clear_two, clear_three, clear_many, clear_let, clear_loop, clear_iterate, leg_stops, walked_leg, clear_leg, clear_node, clear_strided, all_starts, all_refused, all_more, all_answer, legs_start, legs_refused, legs_answer, less, no_less}
 use Rattle.weld_uses.proofs.rules.+walk.Goals as goal
 use Rattle.weld_uses.proofs.rules.+walk.Goals.{walk_if-else-same-via-then-same+else-is_not_made, walk_if-else-same-via-else-same}
 
@@ -197,22 +197,47 @@ walk_let-returns-in_err-source t c =
     let p = err_from_is_err_and c.from_residual.result c.from_residual.ensures.1 in
     stop _ p.1 p.2 (value_stops c.in_err-source.ensures)
 
+pub walk_let-walk_builders_body-requires : goal.walk_let-walk_builders_body-requires
+walk_let-walk_builders_body-requires t c =
+    (search rules, clear_walked (c.args.binder.now.sym.0 ∷ bound c.args.body.now) c.in_ok-source.ensures (clear_body c.args.binder.now.sym.0 (bound c.args.value.now) (bound c.args.body.now) c.args.left.now c.requires))
+
+pub walk_let-returns-then-not-is_value : goal.walk_let-returns-then-not-is_value
+walk_let-returns-then-not-is_value t c =
+    c.walk_builders_body.ensures c.args.value.now c.args.left.now c.requires.1 c.in_ok-source.ensures
+
 pub walk_let-walk-requires-2 : goal.walk_let-walk-requires-2
 walk_let-walk-requires-2 t c =
-    (search rules, clear_with _ _ c.in-Ok.real _ c.in-Ok-bind.ensures (clear_walked (c.args.binder.now.sym.0 ∷ bound c.args.body.now) c.in_ok-source.ensures (clear_body c.args.binder.now.sym.0 (bound c.args.value.now) (bound c.args.body.now) c.args.left.now c.requires)))
+    (search rules, (clear_walked (c.args.binder.now.sym.0 ∷ bound c.args.body.now) c.in_ok-source.ensures (clear_body c.args.binder.now.sym.0 (bound c.args.value.now) (bound c.args.body.now) c.args.left.now c.requires)).2)
 
 pub walk_let-returns-in_err-answer : goal.walk_let-returns-in_err-answer
 walk_let-returns-in_err-answer t c =
     let p = err_from_is_err_and c.from_residual-in_err-answer.result c.from_residual-in_err-answer.ensures.1 in
-    stop _ p.1 p.2 (let_stops c.in_ok-source.ensures c.in-Ok.ensures c.in-Ok-bind.ensures c.in_err-answer.ensures c.bound-inner.ensures)
+    stop _ p.1 p.2 (let_stops c.in_ok-source.ensures (value_stands c.args.scope.now _ (sym c.is_value.ensures ∙ c.if-not-is_value.false)) refl c.in_err-answer.ensures c.of_value-inner.ensures)
 
 pub walk_let-returns-then-has_name : goal.walk_let-returns-then-has_name
 walk_let-returns-then-has_name t c =
-    let_leaves c.requires.1 c.in_ok-source.ensures c.in-Ok.ensures c.in-Ok-bind.ensures c.in_ok-answer.ensures c.bound-inner.ensures (sym c.has_name.ensures ∙ c.if-has_name.true)
+    let_leaves c.requires.1 c.in_ok-source.ensures (value_stands c.args.scope.now _ (sym c.is_value.ensures ∙ c.if-not-is_value.false)) refl c.in_ok-answer.ensures c.of_value-inner.ensures (sym c.has_name.ensures ∙ c.if-has_name.true)
 
-pub walk_let-returns-in-Ok-named_before : goal.walk_let-returns-in-Ok-named_before
-walk_let-returns-in-Ok-named_before t c =
-    let_answers c.requires.1 c.in_ok-source.ensures c.in-Ok.ensures c.in-Ok-bind.ensures c.in_ok-answer.ensures c.bound-inner.ensures (sym c.has_name.ensures ∙ c.if-has_name.false) c.in-Ok-named_before.ensures
+pub walk_let-returns-in-Ok : goal.walk_let-returns-in-Ok
+walk_let-returns-in-Ok t c =
+    let_answers c.requires.1 c.in_ok-source.ensures (value_stands c.args.scope.now _ (sym c.is_value.ensures ∙ c.if-not-is_value.false)) refl c.in_ok-answer.ensures c.of_value-inner.ensures (sym c.has_name.ensures ∙ c.if-has_name.false) c.in-Ok.ensures
+
+pub walk_builders_body-walk-requires : goal.walk_builders_body-walk-requires
+walk_builders_body-walk-requires t c =
+    (search rules, clear_with _ _ c.in-Ok.real _ c.in-Ok-bind.ensures c.requires)
+
+pub walk_builders_body-returns-in_err-answer : goal.walk_builders_body-returns-in_err-answer
+walk_builders_body-returns-in_err-answer t c e before n w =
+    let p = err_from_is_err_and c.from_residual.result c.from_residual.ensures.1 in
+    stop _ p.1 p.2 (let_stops w c.in-Ok.ensures c.in-Ok-bind.ensures c.in_err-answer.ensures c.bound-inner.ensures)
+
+pub walk_builders_body-returns-then-has_name : goal.walk_builders_body-returns-then-has_name
+walk_builders_body-returns-then-has_name t c e before n w =
+    let_leaves n w c.in-Ok.ensures c.in-Ok-bind.ensures c.in_ok-answer.ensures c.bound-inner.ensures (sym c.has_name.ensures ∙ c.if-has_name.true)
+
+pub walk_builders_body-returns-in-Ok-named_before : goal.walk_builders_body-returns-in-Ok-named_before
+walk_builders_body-returns-in-Ok-named_before t c e before n w =
+    let_answers n w c.in-Ok.ensures c.in-Ok-bind.ensures c.in_ok-answer.ensures c.bound-inner.ensures (sym c.has_name.ensures ∙ c.if-has_name.false) c.in-Ok-named_before.ensures
 
 pub walk_iterate-walk-requires : goal.walk_iterate-walk-requires
 walk_iterate-walk-requires t c =

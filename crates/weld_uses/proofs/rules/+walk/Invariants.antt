@@ -33,7 +33,10 @@ abbrev pub decreases-walk_all : goal.decreases-walk_all
 decreases-walk_all l = 4 * exprs_nodes (pack_exprs l.parts.now) + 1
 
 abbrev pub decreases-walk_let : goal.decreases-walk_let
-decreases-walk_let l = 4 * (expr_nodes l.value.now + expr_nodes l.body.now) + 1
+decreases-walk_let l = 4 * (expr_nodes l.value.now + expr_nodes l.body.now) + 2
+
+abbrev pub decreases-walk_builders_body : goal.decreases-walk_builders_body
+decreases-walk_builders_body l = 4 * expr_nodes l.body.now + 1
 
 abbrev pub decreases-walk_iterate : goal.decreases-walk_iterate
 decreases-walk_iterate l = 4 * (expr_nodes l.state.now + expr_nodes l.body.now) + 1
