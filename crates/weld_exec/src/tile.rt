@@ -17,6 +17,7 @@ use crate::env::{Env, loop_at};
 use crate::evaluate::{parameters, within};
 use crate::gather::vectors_of;
 use crate::range::run_rows;
+use crate::room::make_room;
 use std::alloc::{AllocError, Global};
 use weld_data::Stop;
 use weld_eval::frame::Frame;
@@ -42,7 +43,7 @@ pub fn tile_part(
     ensures action { TileAnswer result (evaluation_of plan.now env.now) tile }
     ensures means { OnFault result (program_meaning plan.now env.now ≡ fault) }
 {
-    let mut part = match bare_part(plan, env, at, alloc) {
+    let mut part = match bare_part(plan, env, at, tile, alloc) {
         Ok(part) => part,
         Err(_) => return Err(Stop::Memory),
     };
@@ -75,16 +76,38 @@ pub fn run_tile(
     }
 }
 
-/// The builder that has nothing merged, of the loop at which the run stands.
-pub fn bare_part(plan: &Plan, env: &Env, at: LoopId, alloc: Global) -> Result<Owned, AllocError>
+/// The builder that has nothing merged, of the loop at which the run stands, with room for what the rows of a tile append to it
+/// where that is one item for each row.
+pub fn bare_part(
+    plan: &Plan,
+    env: &Env,
+    at: LoopId,
+    tile: Tile,
+    alloc: Global,
+) -> Result<Owned, AllocError>
     requires { AtLoop plan.now env.now at }
     ensures { IfOk result (λ part. thing_of part ≡ bare_of (evaluation_of plan.now env.now).start) }
 {
-    let _plan = plan;
     let _at = at;
     match &env.stack {
-        Fields::And(start, _) => bare_thing(start, alloc),
+        Fields::And(start, _) => bare_with_room(loop_at(plan, env.at), start, tile, alloc),
         Fields::End => unreachable!(),
+    }
+}
+
+/// The same of this start.
+fn bare_with_room(
+    node: &Expr,
+    start: &Owned,
+    tile: Tile,
+    alloc: Global,
+) -> Result<Owned, AllocError>
+    ensures { IfOk result (λ part. thing_of part ≡ bare_of (thing_of start.now)) }
+{
+    let mut part = bare_thing(start, alloc)?;
+    match make_room(node, tile, &mut part) {
+        Ok(()) => Ok(part),
+        Err(e) => Err(e),
     }
 }
 

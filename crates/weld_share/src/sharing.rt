@@ -40,8 +40,10 @@ impl<'a, 'b, 'c, G: Gate> Jobs<Owned> for Batch<'a, 'b, 'c, G> {
 
     ghost faults = { λ b. program_meaning b.run.now.plan.now b.run.now.env.now ≡ fault };
 
-    fn begin(&self, _job: u64) -> Result<Owned, Stop> {
-        match bare_part(self.run.plan, self.run.env, self.run.at, self.run.alloc) {
+    fn begin(&self, job: u64) -> Result<Owned, Stop> {
+        let run = self.run;
+        let whole = self.stretches[job as usize].whole;
+        match bare_part(run.plan, run.env, run.at, whole, run.alloc) {
             Ok(part) => Ok(part),
             Err(_) => Err(Stop::Memory),
         }

@@ -46,7 +46,8 @@ impl<'a, 'b, G: Gate> RunsStretches for Tiled<'a, 'b, G> {
     ghost answers = { λ r s answer. IsAnswer r.plan.now r.env.now s.whole answer };
 
     fn run(&self, stretch: &Stretch) -> Result<TilePart, Stop> {
-        let mut part = match bare_part(self.plan, self.env, self.at, self.alloc) {
+        let whole = stretch.whole;
+        let mut part = match bare_part(self.plan, self.env, self.at, whole, self.alloc) {
             Ok(part) => part,
             Err(_) => return Err(Stop::Memory),
         };
