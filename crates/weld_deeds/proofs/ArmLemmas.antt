@@ -39,6 +39,8 @@ merge_where_does (deed.Pair c d) a f item envs n t b count is q h = record {
 }
 merge_where_does deed.Nothing a f item envs n t b count is q h = absurd h
 merge_where_does (deed.Struct cs) a f item envs n t b count is q h = absurd h
+merge_where_does (deed.List cs) a f item envs n t b count is q h = absurd h
+merge_where_does (deed.Same u) a f item envs n t b count is q h = absurd h
 merge_where_does (deed.Choice' c x d y e) a f item envs n t b count is q h = absurd h
 merge_where_does (deed.Fields ds) a f item envs n t b count is q h = absurd h
 

@@ -2,6 +2,7 @@
 use Rattle.std.proofs.Common.{◌≡◌, ℕ, ◌+◌, ◌<◌, ◌∷◌, [], List, length, drop, get_or, Option, Some, None, refl, sym, ap, ◌∙◌, subst}
 use Rattle.std.proofs.lemmas.List.{at_drop_more}
 use Rattle.weld_data.specs.Value.{Value}
+use Rattle.weld_data.specs.View.{view_val}
 use Rattle.weld_tree.specs.declared.binder.Binder.{Binder}
 use Rattle.weld_blocks.specs.Structs.{IsStructTree}
 use Rattle.weld_tree.specs.TypeTree.{TypeTrees, no_types, more_types}
@@ -15,6 +16,7 @@ use Rattle.weld_meaning.specs.Evaluation.{Env, eval, merged}
 use Rattle.weld_acts.specs.Act.{act, act_all}
 use Rattle.weld_acts.specs.ActFits.{ActFits, ActsFit}
 use Rattle.weld_acts.proofs.Children.{let_acts, struct_acts, struct_several, struct_is, acts_first, acts_rest}
+use Rattle.weld_deeds.specs.Lists.{list_at}
 use Rattle.weld_deeds.specs.Puts.{IsPut}
 use Rattle.weld_blocks.specs.Numbers.{number_at, AreNumbersOf}
 use Rattle.weld_deeds.specs.Deeds.{do_of, IsDeed, AreDeeds, IsItem, MayBeDeed, MayBeItem, IsBefore, IsMergeTree, IsQuiet}
@@ -66,6 +68,14 @@ merge_does (Some (deed.Pair c d)) a f item envs n count is q h = record {
 merge_does (Some (deed.Struct cs)) a f item envs n count is q h = record {
   does = λ j less s k. merges a f item (envs j) n s (struct_at cs.items j) is q (h.each j less);
   fits = λ j less s k. (longer cs.items count j h.long less, puts a f item (envs j) n s (struct_at cs.items j) is q (h.each j less) k);
+}
+merge_does (Some (deed.List cs)) a f item envs n count is q h = record {
+  does = λ j less s k. merges a f item (envs j) n s (list_at cs.items j) is q (h.each j less);
+  fits = λ j less s k. (longer cs.items count j h.long less, puts a f item (envs j) n s (list_at cs.items j) is q (h.each j less) k);
+}
+merge_does (Some (deed.Same u)) a f item envs n count is q h = record {
+  does = λ j less s k. merges a f item (envs j) n s (view_val u.value) is q (h j less);
+  fits = λ j less s k. puts a f item (envs j) n s (view_val u.value) is q (h j less) k;
 }
 merge_does (Some deed.Nothing) a f item envs n count is q h = absurd h
 merge_does (Some (deed.Choice' c x d y e)) a f item envs n count is q h = absurd h

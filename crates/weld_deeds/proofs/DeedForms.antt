@@ -27,6 +27,8 @@ guarded_as deed.Nothing c n t e h p q = absurd h
 guarded_as (deed.Number x) c n t e h p q = absurd h
 guarded_as (deed.Pair x y) c n t e h p q = absurd h
 guarded_as (deed.Struct cs) c n t e h p q = absurd h
+guarded_as (deed.List cs) c n t e h p q = absurd h
+guarded_as (deed.Same u) c n t e h p q = absurd h
 guarded_as (deed.Choice' x a y b z) c n t e h p q =
     let As = DoesAs (guarded_done c n) (GuardedFits c n) in
     subst (λ (u : Numbers). As (deed.Choice' u a y b z)) (sym h.0)
@@ -39,6 +41,8 @@ pair_guarded_as deed.Nothing c k n t e h p q = absurd h
 pair_guarded_as (deed.Number x) c k n t e h p q = absurd h
 pair_guarded_as (deed.Pair x y) c k n t e h p q = absurd h
 pair_guarded_as (deed.Struct cs) c k n t e h p q = absurd h
+pair_guarded_as (deed.List cs) c k n t e h p q = absurd h
+pair_guarded_as (deed.Same u) c k n t e h p q = absurd h
 pair_guarded_as (deed.Choice' x a y b z) c k n t e h p q =
     let As = DoesAs (pair_guarded c k n) (PairGuardedFits c k n) in
     subst (λ (u : Numbers). As (deed.Choice' u a y b z)) (sym h.0)

@@ -30,6 +30,8 @@ mutual
   calm_done (deed.Number c) j (several ts) calm h = absurd h.1
   calm_done (deed.Pair c d) j s calm h = absurd calm
   calm_done (deed.Struct cs) j s calm h = absurd calm
+  calm_done (deed.List cs) j s calm h = absurd calm
+  calm_done (deed.Same u) j s calm h = absurd calm
   calm_done (deed.Choice' c a d b e) j s calm h = absurd calm
   calm_done (deed.Fields ds) j s calm h = let ts = calm_all ds j (fields_of s) calm h.1 in (several ts.0, ap (map_out several) ts.1)
 
@@ -170,6 +172,8 @@ abbrev mutual
   fields_within (deed.Number c) = 0
   fields_within (deed.Pair c d) = 0
   fields_within (deed.Struct cs) = 0
+  fields_within (deed.List cs) = 0
+  fields_within (deed.Same u) = 0
   fields_within (deed.Choice' c a d b e) = 0
   fields_within (deed.Fields ds) = suc (fields_count ds)
 

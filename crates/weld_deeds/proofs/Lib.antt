@@ -7,6 +7,7 @@ mod PairLemmas
 mod PutLemmas
 mod DeedForms
 mod FieldLemmas
+mod ListLemmas
 mod ManyPairs
 mod ManyPuts
 mod ThroughLemmas

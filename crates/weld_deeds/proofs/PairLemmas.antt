@@ -29,6 +29,8 @@ pair_map P Q (deed.Pair c d) n f h = (h.0, h.1, λ j less. f j (pair (number_at 
 pair_map P Q deed.Nothing n f h = absurd h
 pair_map P Q (deed.Number c) n f h = absurd h
 pair_map P Q (deed.Struct cs) n f h = absurd h
+pair_map P Q (deed.List cs) n f h = absurd h
+pair_map P Q (deed.Same u) n f h = absurd h
 pair_map P Q (deed.Choice' c a d b e) n f h = absurd h
 pair_map P Q (deed.Fields ds) n f h = absurd h
 
@@ -84,6 +86,8 @@ row_pair (Some (deed.Pair c d)) e s envs n is h = pair_map (λ j v. look_for s (
 row_pair (Some deed.Nothing) e s envs n is h = absurd h
 row_pair (Some (deed.Number c)) e s envs n is h = absurd h
 row_pair (Some (deed.Struct cs)) e s envs n is h = absurd h
+row_pair (Some (deed.List cs)) e s envs n is h = absurd h
+row_pair (Some (deed.Same u)) e s envs n is h = absurd h
 row_pair (Some (deed.Choice' c a d b f)) e s envs n is h = absurd h
 row_pair (Some (deed.Fields ds)) e s envs n is h = absurd h
 
@@ -121,6 +125,8 @@ item_is e envs (deed.Number c) count h j less = h.each j less
 item_is e envs (deed.Pair c d) count h j less = h.2 j less
 item_is e envs deed.Nothing count h j less = absurd h
 item_is e envs (deed.Struct cs) count h j less = h.each j less
+item_is e envs (deed.List cs) count h j less = h.each j less
+item_is e envs (deed.Same u) count h j less = h j less
 item_is e envs (deed.Choice' c a d b f) count h j less = absurd h
 item_is e envs (deed.Fields ds) count h j less = absurd h
 
@@ -137,5 +143,7 @@ chosen_pair_gives (Some (deed.Pair x y)) a c e f envs n t d g count is o p q h =
 chosen_pair_gives (Some deed.Nothing) a c e f envs n t d g count is o p q h = absurd h
 chosen_pair_gives (Some (deed.Number x)) a c e f envs n t d g count is o p q h = absurd h
 chosen_pair_gives (Some (deed.Struct cs)) a c e f envs n t d g count is o p q h = absurd h
+chosen_pair_gives (Some (deed.List cs)) a c e f envs n t d g count is o p q h = absurd h
+chosen_pair_gives (Some (deed.Same u)) a c e f envs n t d g count is o p q h = absurd h
 chosen_pair_gives (Some (deed.Choice' x b y z w)) a c e f envs n t d g count is o p q h = absurd h
 chosen_pair_gives (Some (deed.Fields ds)) a c e f envs n t d g count is o p q h = absurd h

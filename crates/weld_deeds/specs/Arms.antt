@@ -27,6 +27,8 @@ IsItemWhere e envs t b (deed.Pair c d) count =
     (count_of c ≡ count) × (count_of d ≡ count)
     × ((j : ℕ) → j < count → truth_of (number_at t j) ≡ done b → eval e (envs j) ≡ done (plain (pair (number_at c j) (number_at d j))))
 IsItemWhere e envs t b (deed.Struct cs) count = ⊥
+IsItemWhere e envs t b (deed.List cs) count = ⊥
+IsItemWhere e envs t b (deed.Same u) count = ⊥
 IsItemWhere e envs t b (deed.Choice' c a d x f) count = ⊥
 IsItemWhere e envs t b (deed.Fields ds) count = ⊥
 

@@ -11,6 +11,8 @@ abbrev mutual
   IsCalm (deed.Number c) = Unit {0}
   IsCalm (deed.Pair c d) = ⊥
   IsCalm (deed.Struct cs) = ⊥
+  IsCalm (deed.List cs) = ⊥
+  IsCalm (deed.Same u) = ⊥
   IsCalm (deed.Choice' c a d b e) = ⊥
   IsCalm (deed.Fields ds) = AreCalm ds
 

@@ -10,5 +10,7 @@ IsChoice deed.Nothing c d e = ⊥
 IsChoice (deed.Number x) c d e = ⊥
 IsChoice (deed.Pair x y) c d e = ⊥
 IsChoice (deed.Struct cs) c d e = ⊥
+IsChoice (deed.List cs) c d e = ⊥
+IsChoice (deed.Same u) c d e = ⊥
 IsChoice (deed.Choice' x a y b z) c d e = (x ≡ c) × (y ≡ d) × (z ≡ e)
 IsChoice (deed.Fields ds) c d e = ⊥

@@ -3,6 +3,7 @@ use Rattle.std.specs.Prelude.{◌≡◌, ℕ, ◌<◌, Bool, true, false, if◌t
 use Rattle.weld_data.specs.declared.stop.Stop.{Stop}
 use Rattle.weld_data.specs.declared.stop.Stop.TheVariants.{Fault, Memory}
 use Rattle.weld_data.specs.Value.{Value}
+use Rattle.weld_data.specs.View.{view_val}
 use Rattle.weld_tree.specs.ExprTree.{ExprTree, ExprTrees, leaf, one, two, three, many, let_in, loop, iterate}
 use Rattle.weld_builders.specs.Outcome.{Outcome, done, fault, and_then, map_out}
 use Rattle.weld_meaning.specs.Thing.{Thing, plain, several, Things, no_things, more_things, fields_of, first_of, rest_of}
@@ -12,6 +13,7 @@ use Rattle.weld_eval.specs.Fits.{IsTruth}
 use Rattle.weld_acts.specs.Act.{IsMerge, act, act_all}
 use Rattle.weld_acts.specs.ActFits.{ActFits, ActsFit}
 use Rattle.weld_blocks.specs.Numbers.{count_of, number_at, AreNumbersOf}
+use Rattle.weld_deeds.specs.Lists.{list_at, AreLists}
 use Rattle.weld_deeds.specs.Puts.{IsPut}
 use Rattle.weld_blocks.specs.Scope.{struct_at}
 use Rattle.weld_blocks.specs.Structs.{AreLonger, AreStructs}
@@ -27,6 +29,8 @@ abbrev mutual
   do_of (deed.Number c) j s = merged s (done (plain (number_at c j)))
   do_of (deed.Pair c d) j s = merged s (done (plain (pair (number_at c j) (number_at d j))))
   do_of (deed.Struct cs) j s = merged s (done (plain (struct_at cs.items j)))
+  do_of (deed.List cs) j s = merged s (done (plain (list_at cs.items j)))
+  do_of (deed.Same u) j s = merged s (done (plain (view_val u.value)))
   do_of (deed.Choice' c a d b e) j s = and_then (truth_of (number_at c j)) (λ (t : Bool). if t then do_of d j s else do_of e j s)
   do_of (deed.Fields ds) j s = map_out several (do_all ds j (fields_of s))
 
@@ -42,6 +46,8 @@ abbrev mutual
   DeedFits (deed.Number c) j s = (j < count_of c) × IsPut s (number_at c j)
   DeedFits (deed.Pair c d) j s = (j < count_of c) × (j < count_of d) × IsPut s (pair (number_at c j) (number_at d j))
   DeedFits (deed.Struct cs) j s = AreLonger cs.items j × IsPut s (struct_at cs.items j)
+  DeedFits (deed.List cs) j s = AreLonger cs.items j × IsPut s (list_at cs.items j)
+  DeedFits (deed.Same u) j s = IsPut s (view_val u.value)
   DeedFits (deed.Choice' c a d b e) j s = (j < count_of c) × IsTruth (number_at c j) × (truth_of (number_at c j) ≡ done true → DeedFits d j s) × (truth_of (number_at c j) ≡ done false → DeedFits e j s)
   DeedFits (deed.Fields ds) j s = (s ≡ several (fields_of s)) × DeedsFit ds j (fields_of s)
 
@@ -59,12 +65,14 @@ pub record AreDeeds (es : ExprTrees) (envs : ℕ → Env) (ds : Deeds) (count : 
   pub does : (j : ℕ) → j < count → (ss : Things) → ActsFit es (envs j) ss → act_all es (envs j) ss ≡ do_all ds j ss
   pub fits : (j : ℕ) → j < count → (ss : Things) → ActsFit es (envs j) ss → DeedsFit ds j ss
 
--- what it merges on the row of a place, where it merges a number or a struct of numbers
+-- what it merges on the row of a place, where it merges a number, a struct or a vector of numbers, or a value that is the same on all rows
 abbrev pub item_at : Deed → ℕ → Value
 item_at deed.Nothing j = truth_value false
 item_at (deed.Number c) j = number_at c j
 item_at (deed.Pair c d) j = pair (number_at c j) (number_at d j)
 item_at (deed.Struct cs) j = struct_at cs.items j
+item_at (deed.List cs) j = list_at cs.items j
+item_at (deed.Same u) j = view_val u.value
 item_at (deed.Choice' c a d b e) j = number_at c j
 item_at (deed.Fields ds) j = truth_value false
 
@@ -74,6 +82,8 @@ IsPairOf gives deed.Nothing count = ⊥
 IsPairOf gives (deed.Number c) count = ⊥
 IsPairOf gives (deed.Pair c d) count = (count_of c ≡ count) × (count_of d ≡ count) × ((j : ℕ) → j < count → gives j (pair (number_at c j) (number_at d j)))
 IsPairOf gives (deed.Struct cs) count = ⊥
+IsPairOf gives (deed.List cs) count = ⊥
+IsPairOf gives (deed.Same u) count = ⊥
 IsPairOf gives (deed.Choice' c a d b f) count = ⊥
 IsPairOf gives (deed.Fields ds) count = ⊥
 
@@ -83,6 +93,8 @@ IsItem e envs deed.Nothing count = ⊥
 IsItem e envs (deed.Number c) count = AreNumbersOf e envs c count
 IsItem e envs (deed.Pair c d) count = IsPairOf (λ j v. eval e (envs j) ≡ done (plain v)) (deed.Pair c d) count
 IsItem e envs (deed.Struct cs) count = AreStructs (λ j v. eval e (envs j) ≡ done (plain v)) cs.items count
+IsItem e envs (deed.List cs) count = AreLists (λ j v. eval e (envs j) ≡ done (plain v)) cs.items count
+IsItem e envs (deed.Same u) count = (j : ℕ) → j < count → eval e (envs j) ≡ done (plain (view_val u.value))
 IsItem e envs (deed.Choice' c a d b f) count = ⊥
 IsItem e envs (deed.Fields ds) count = ⊥
 

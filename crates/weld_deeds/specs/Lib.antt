@@ -5,5 +5,6 @@ pub mod Choices
 pub mod Chosen
 pub mod Deeds
 pub mod Does
+pub mod Lists
 pub mod Puts
 pub mod Through

@@ -1,6 +1,6 @@
 //! What a loop's body does on the rows of a block.
 
-ghost use Rattle.std.specs.Prelude.{◌≡◌, true, IfSome};
+ghost use Rattle.std.specs.Prelude.{◌≡◌, ℕ, true, IfSome};
 ghost use Rattle.weld_eval.specs.FrameView.{env_of};
 ghost use Rattle.weld_blocks.specs.Structs.{IsStructTree};
 ghost use Rattle.weld_eval.specs.LegsView.{lists_of};
@@ -13,7 +13,9 @@ ghost use Rattle.weld_blocks.specs.Numbers.{number_at, IsChosen};
 ghost use Rattle.weld_blocks.specs.Scope.{scope_env};
 
 use crate::deed::{Deed, Deeds};
+use crate::lists::lists_of;
 use crate::pairs::pair_named;
+use crate::texts::same_text;
 use std::alloc::Global;
 use weld_blocks::columns::{bound_of, chosen, name_of, numbers, numbers_where};
 use weld_blocks::numbers::Numbers;
@@ -23,10 +25,10 @@ use weld_blocks::structs::columns_of;
 use weld_eval::frame::Frame;
 use weld_eval::legs::Legs;
 use weld_eval::thing::Owned;
-use weld_tree::{Expr, Form, ManyForm, ThreeForm, TwoForm};
+use weld_tree::{Expr, Form, LeafForm, ManyForm, ThreeForm, TwoForm};
 
-/// What the body of a loop does on so many rows from one on, where all that it merges is numbers, or structs of two, whose
-/// parts `numbers` works out; it merges into its own builder, into fields of it, or as `if` chooses. There is none where there is
+/// What the body of a loop does on so many rows from one on, where all that it merges is numbers, or structs and vectors
+/// of such, which `numbers` works out; it merges into its own builder, into fields of it, or as `if` chooses. There is none where there is
 /// no memory for it.
 pub fn block_of(
     e: &Expr,
@@ -102,7 +104,7 @@ fn is_quiet(e: &Expr) -> bool
     }
 }
 
-/// What is merged: a number, or a struct of two or of more.
+/// What is merged: a number, a struct of two or of more, a vector or a string.
 fn item_of(item: &Expr, scope: &Scope, count: usize, alloc: Global) -> Option<Deed>
     ensures { MayBeItem item.now (scope_env scope.now) result count }
 {
@@ -115,13 +117,31 @@ fn item_of(item: &Expr, scope: &Scope, count: usize, alloc: Global) -> Option<De
     }
 }
 
-/// A struct of numbers.
+/// A struct or a vector of numbers, or a string.
 fn struct_of(item: &Expr, scope: &Scope, count: usize, alloc: Global) -> Option<Deed>
     ensures { MayBeItem item.now (scope_env scope.now) result count }
 {
     match columns_of(item, scope, count, alloc) {
         Some(columns) => Some(Deed::Struct(columns)),
-        None => None,
+        None => match lists_of(item, scope, count, alloc) {
+            Some(columns) => Some(Deed::List(columns)),
+            None => text_of(item, scope, alloc),
+        },
+    }
+}
+
+/// A string that is written out, the same on all rows.
+#[tactic(auto, using(crate::proofs::ListLemmas::text_is))]
+fn text_of(item: &Expr, scope: &Scope, alloc: Global) -> Option<Deed>
+    ensures { (count : ℕ) → MayBeItem item.now (scope_env scope.now) result count }
+{
+    let _scope = scope;
+    match &item.form {
+        Form::Leaf(LeafForm::Chars(text)) => match same_text(text, alloc) {
+            Some(same) => Some(Deed::Same(same)),
+            None => None,
+        },
+        _ => None,
     }
 }
 

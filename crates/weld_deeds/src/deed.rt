@@ -5,14 +5,17 @@ ghost use Rattle.weld_eval.specs.ThingView.{thing_of, things_of};
 ghost use Rattle.weld_deeds.specs.Deeds.{DeedFits, DeedsFit, do_of, do_all, DoesAll};
 ghost use Rattle.weld_deeds.specs.Does.{number_done, NumberFits, pair_done, PairFits, guarded_done, GuardedFits};
 
+use crate::lists::put_list;
 use crate::puts::{put_number, put_struct, put_two};
+use crate::texts::{Same, put_same};
 use weld_blocks::numbers::Numbers;
 use weld_blocks::scalar::truth_of;
 use weld_data::Stop;
 use weld_eval::thing::{Fields, Owned};
 
-/// What the body of a loop does to the builder on each row of a block: nothing, a merge of a number, of two as a struct or of a
-/// struct by its fields, one of two such as a truth value says, or one for each field of a struct of builders.
+/// What the body of a loop does to the builder on each row of a block: nothing, a merge of a number, of two as a struct, of a
+/// struct by its fields, of a vector by its items or of one value on all rows, one of two such as a truth value says, or one for
+/// each field of a struct of builders.
 #[cycle(deed)]
 #[derive(Drop)]
 pub enum Deed {
@@ -20,6 +23,8 @@ pub enum Deed {
     Number(Numbers),
     Pair(Numbers, Numbers),
     Struct(Vec<Numbers>),
+    List(Vec<Numbers>),
+    Same(Same),
     Choice(Numbers, Box<Deed>, Box<Deed>),
     Fields(Deeds),
 }
@@ -45,6 +50,8 @@ pub fn do_deed(deed: &Deed, place: usize, builder: &mut Owned) -> Result<(), Sto
             put_two(builder, keys.at(place), numbers.at(place), keys.memory())
         }
         Deed::Struct(columns) => put_struct(columns, place, builder),
+        Deed::List(columns) => put_list(columns, place, builder),
+        Deed::Same(same) => put_same(same, builder),
         Deed::Choice(truths, then, otherwise) => {
             if truth_of(truths.at(place)) {
                 do_deed(then, place, builder)

@@ -4,8 +4,10 @@
 pub mod body;
 mod chosen;
 pub mod deed;
+mod lists;
 mod pairs;
 pub mod puts;
+mod texts;
 mod through;
 
 pub use body::block_of;

@@ -1,7 +1,7 @@
 //! Items that are merged into a builder in place.
 
 ghost use Rattle.weld_builders.specs.Outcome.{done};
-ghost use Rattle.std.specs.Prelude.{◌≡◌, ◌<◌, ◌≤◌, IfOk};
+ghost use Rattle.std.specs.Prelude.{◌≡◌, ◌<◌, ◌≤◌, [], IfOk};
 ghost use Rattle.weld_data.specs.Kind.{IsNarrow, InRange};
 ghost use Rattle.weld_data.specs.Value.{number};
 ghost use Rattle.weld_data.specs.View.{view_val};
@@ -142,7 +142,7 @@ pub fn put_two(builder: &mut Owned, key: Short, x: Short, alloc: Global) -> Resu
 fn struct_of(first: Short, second: Short, alloc: Global) -> Result<Val, AllocError>
     ensures { IfOk result (λ v. pair (view_short first) (view_short second) ≡ view_val v) }
 {
-    let mut fields = Vals::new(alloc);
+    let mut fields = empty_with_room(alloc, 2)?;
     fields.push(Val::Num(first.to_num()))?;
     fields.push(Val::Num(second.to_num()))?;
     Ok(Val::Struct(fields))
@@ -197,15 +197,22 @@ fn struct_of_row(columns: &Vec<Numbers>, place: usize) -> Result<Val, AllocError
     requires { AreLonger columns.now.items place }
     ensures { IfOk result (λ v. struct_at columns.now.items place ≡ view_val v) }
 {
-    let mut fields = Vals::new(*columns.allocator());
+    let mut fields = empty_with_room(*columns.allocator(), columns.len())?;
     for i in 0..columns.len() {
         fields.push(value_at(&columns[i], place))?;
     }
     Ok(Val::Struct(fields))
 }
 
+/// No values, with room for so many and no more.
+pub(crate) fn empty_with_room(alloc: Global, count: usize) -> Result<Vals, AllocError>
+    ensures { IfOk result (λ values. values ≡ []) }
+{
+    Ok(Vals::from_vec(Vec::with_capacity(alloc, count)?))
+}
+
 /// The number at a place as a value.
-fn value_at(column: &Numbers, place: usize) -> Val
+pub(crate) fn value_at(column: &Numbers, place: usize) -> Val
     requires { place < count_of column.now }
     ensures { view_val result ≡ number_at column.now place }
 {

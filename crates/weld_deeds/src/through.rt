@@ -31,7 +31,9 @@ pub fn do_through(deed: &Deed, count: usize, builder: &mut Owned) -> Result<(), 
         Deed::Nothing => Ok(()),
         Deed::Number(numbers) => do_number(deed, numbers, count, builder),
         Deed::Pair(keys, numbers) => do_pair(deed, keys, numbers, count, builder),
-        Deed::Struct(_) => do_each(deed, &AnyDeed { deed }, count, builder),
+        Deed::Struct(_) | Deed::List(_) | Deed::Same(_) => {
+            do_each(deed, &AnyDeed { deed }, count, builder)
+        }
         Deed::Choice(truths, then, otherwise) => {
             do_choice(deed, truths, then, otherwise, count, builder)
         }
