@@ -4,6 +4,8 @@ use Rattle.std.proofs.lemmas.Bool.{eq-eqb, eqb-true}
 use Rattle.std.proofs.lemmas.Option.{get_or_from_slice_get}
 use Rattle.weld_data.specs.View.{view_column}
 use Rattle.weld_data.specs.declared.kind.Kind.{Kind}
+use Rattle.weld_data.specs.Structs.{HasThere}
+use Rattle.weld_eval.proofs.PackedLemmas.{field_there as packed_field}
 use Rattle.weld_data.specs.Value.{Value, number, struct, no_values, values}
 use Rattle.weld_data.specs.declared.value.Column.{Column}
 use Rattle.weld_builders.specs.Outcome.{done, and_then, map_out}
@@ -16,7 +18,7 @@ use Rattle.weld_eval.specs.declared.legs.Legs.{Legs}
 use Rattle.weld_eval.specs.declared.legs.Legs.TheVariants.{And, End}
 use Rattle.weld_eval.proofs.LegLists.{lists_and, lists_end}
 use Rattle.weld_eval.proofs.RowLists.{row_stands, field_value}
-use Rattle.weld_blocks.specs.Numbers.{count_of, number_at, AreSame, AreGiven, MayGive, MayGiveLeg}
+use Rattle.weld_blocks.specs.Numbers.{count_of, number_at, AreSame, AreGiven, HasFieldThere, MayGive, MayGiveLeg}
 use Rattle.weld_blocks.specs.declared.numbers.Numbers.{Numbers}
 use Rattle.weld_blocks.specs.declared.scope.Bound.{Bound}
 use Rattle.weld_blocks.specs.declared.scope.Bound.TheVariants as bounds
@@ -97,6 +99,15 @@ field_given (Some x) legs c d p s k from n e f h = record {
   long = h.given.long;
   each = λ j less. let near : from + j < from + n = omega arith in field_at (lists_of legs) h.elements k (from + j) (from + n) (number_at x j) (several legs c d p s e f) h.at near h.within (h.given.each j less);
 }
+
+-- the field of a struct of numbers
+pub field_packed : (vs : List Value) (k i : ℕ) (w v : Value) → slice_get vs i ≡ Some w → HasThere k v w → HasFieldThere k (slice_get vs i) v
+field_packed vs k i w v at h = record { whole = w; at = at; is = packed_field k w v h }
+
+pub packed_given : (r : Option Numbers) (legs : Legs) (c : Bor Column) (p : Bor Legs) (k from n : ℕ) → legs ≡ And c p → p.now ≡ End → MayGive (λ j v. HasFieldThere k (slice_get (view_column c.now) (from + j)) v) r n
+    → MayGive (λ j v. value_field k (row_in (lists_of legs) (from + j)) ≡ done v) r n
+packed_given r legs c p k from n e d h = may_map (λ j v. HasFieldThere k (slice_get (view_column c.now) (from + j)) v) (λ j v. value_field k (row_in (lists_of legs) (from + j)) ≡ done v) r n
+    (λ j v q. ap (value_field k) (single (lists_of legs) (view_column c.now) (from + j) q.whole (one_leg legs c p e d) q.at) ∙ q.is) h
 
 -- ---- names
 

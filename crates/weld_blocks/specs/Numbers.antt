@@ -3,7 +3,7 @@ use Rattle.std.specs.Prelude.{◌≡◌, ℕ, ◌+◌, ◌<◌, ◌≤◌, pos, 
 use Rattle.weld_data.specs.Value.{Value, number}
 use Rattle.weld_tree.specs.ExprTree.{ExprTree, leaf, three, name, Three, if_else, select, slice}
 use Rattle.weld_builders.specs.Outcome.{done}
-use Rattle.weld_meaning.specs.Thing.{plain}
+use Rattle.weld_meaning.specs.Thing.{plain, value_field}
 use Rattle.weld_meaning.specs.Evaluation.{Env, eval, truth_of}
 use Rattle.weld_eval.specs.RowLists.{rows_in}
 use Rattle.weld_eval.specs.Word.{of_word}
@@ -49,6 +49,12 @@ pub record LegGives (lists : List (List Value)) (leg from : ℕ) (c : Numbers) (
 abbrev pub MayGiveLeg : List (List Value) → ℕ → ℕ → Option Numbers → ℕ → Type 0
 MayGiveLeg lists leg from (Some c) count = LegGives lists leg from c count
 MayGiveLeg lists leg from None count = Unit {0}
+
+-- a value is there, and it is a struct that has this field
+pub record HasFieldThere (field : ℕ) (there : Option Value) (v : Value) : Type 0 where
+  pub whole : Value
+  pub at : there ≡ Some whole
+  pub is : value_field field whole ≡ done v
 
 -- it is one of two numbers, as a truth value says
 abbrev pub IsChosen : Value → Value → Value → Value → Type 0

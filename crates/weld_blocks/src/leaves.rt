@@ -15,7 +15,7 @@ ghost use Rattle.weld_eval.specs.RowLists.{row_in, rows_in};
 ghost use Rattle.weld_eval.specs.ShortView.{view_short};
 ghost use Rattle.weld_eval.specs.Word.{of_word};
 ghost use Rattle.weld_eval.specs.ThingView.{thing_of};
-ghost use Rattle.weld_blocks.specs.Numbers.{MayGive, number_at as number_of_place, MayGiveLeg};
+ghost use Rattle.weld_blocks.specs.Numbers.{MayGive, number_at as number_of_place, HasFieldThere, MayGiveLeg};
 ghost use Rattle.weld_blocks.specs.Scope.{bound_at, scope_env, row_env};
 
 use crate::gather::{Gives, gather};
@@ -25,7 +25,7 @@ use crate::operations::Counted;
 use crate::picking::picked;
 use crate::scope::{Bound, Rows, Scope};
 use std::alloc::Global;
-use weld_data::{Column, Kind, Val, Vals};
+use weld_data::{Column, Kind, Structs, Val, Vals};
 use weld_eval::frame::Frame;
 use weld_eval::legs::{Legs, count_rows};
 use weld_eval::number::{number_at, number_of};
@@ -73,6 +73,7 @@ pub fn elements_of(column: &Column, from: usize, count: usize, alloc: Global) ->
         Column::U16(items) => items_of(items.as_slice(), from, count, alloc),
         Column::U32(items) => items_of(items.as_slice(), from, count, alloc),
         Column::U64(items) => items_of(items.as_slice(), from, count, alloc),
+        Column::Structs(_) => None,
         Column::Nest(_) => {
             let of = Elements { column, from };
             gather(alloc, count, &of)
@@ -355,8 +356,8 @@ pub(crate) fn field_named(
     }
 }
 
-/// The numbers in a field of the rows of several legs.
-#[tactic(auto, using(crate::proofs::LeafLemmas::field_given))]
+/// The numbers in a field of the rows: of several legs, or of one that keeps structs of numbers.
+#[tactic(auto, using(crate::proofs::LeafLemmas::field_given, crate::proofs::LeafLemmas::packed_given))]
 fn field_of_row(
     field: u32,
     legs: &Legs,
@@ -368,11 +369,61 @@ fn field_of_row(
         ≡ done v) result count }
 {
     match legs {
-        Legs::And(_, rest) => match rest {
+        Legs::And(column, rest) => match rest {
             Legs::And(_, _) => field_of_legs(field, legs, from, count, alloc),
-            Legs::End => None,
+            Legs::End => field_of_structs(field, column, from, count, alloc),
         },
         Legs::End => None,
+    }
+}
+
+/// The numbers in a field of the structs of a column.
+#[derive(Clone, Copy)]
+struct FieldOfStructs<'a> {
+    items: &'a Structs,
+    from: usize,
+    field: u32,
+}
+
+impl<'a> Gives for FieldOfStructs<'a> {
+    ghost gives = { λ f place v. HasFieldThere f.field (slice_get f.items.now (f.from + place)) v };
+
+    #[inline(always)]
+    #[tactic(auto, using(crate::proofs::LeafLemmas::field_packed))]
+    fn at(&self, place: usize) -> Option<Short> {
+        match self.from.checked_add(place) {
+            Some(number) => {
+                if number < self.items.len() {
+                    match self.items.at(number).number(self.field as usize) {
+                        Some(n) => Some(Short::of_num(n)),
+                        None => None,
+                    }
+                } else {
+                    None
+                }
+            }
+            None => None,
+        }
+    }
+}
+
+/// The numbers in a field of so many elements of a column from a place on, where it keeps structs of numbers and they are there.
+fn field_of_structs(
+    field: u32,
+    column: &Column,
+    from: usize,
+    count: usize,
+    alloc: Global,
+) -> Option<Numbers>
+    ensures { MayGive (λ place v. HasFieldThere field (slice_get (view_column column.now)
+        (from + place)) v) result count }
+{
+    match column {
+        Column::Structs(items) => {
+            let of = FieldOfStructs { items, from, field };
+            gather(alloc, count, &of)
+        }
+        _ => None,
     }
 }
 

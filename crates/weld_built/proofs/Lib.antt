@@ -2,4 +2,5 @@ mod CellsLemmas
 mod KeyLemmas
 mod ManyLemmas
 mod PairLemmas
+mod RowLemmas
 mod TotalsLemmas

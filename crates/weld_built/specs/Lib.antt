@@ -4,4 +4,5 @@ pub mod Logged
 pub mod Merges
 pub mod Pair
 pub mod PartCode
+pub mod Rows
 pub mod State

@@ -1,5 +1,6 @@
 ghost use Rattle.std.specs.Prelude.{◌≡◌, map, IfOk, OnOk};
 ghost use Rattle.weld_data.specs.Kind.{IsNarrow, InRange};
+ghost use Rattle.weld_data.specs.Structs.{structs_in, AreKeptStructs};
 ghost use Rattle.weld_data.specs.Value.{number};
 ghost use Rattle.weld_data.specs.View.{view_val};
 ghost use Rattle.weld_builders.specs.Part.{shape_of, bare, merge_part, after_part, result_of};
@@ -16,6 +17,7 @@ use crate::keyed::join_keyed;
 use crate::list;
 use crate::own::Own;
 use crate::pairs::{pair_into, pairs_into, values_into};
+use crate::rows::push_rows;
 use crate::totals::merge_fields;
 use std::alloc::{AllocError, Global};
 use std::marker::Model;
@@ -60,12 +62,13 @@ impl Model for Built {
 impl Built {
     ghost use Rattle.std.specs.Prelude.{◌≡◌, map, length, zip, IfOk, OnOk};
     ghost use Rattle.weld_data.specs.Kind.{IsInteger, IsNarrow, InRange};
+    ghost use Rattle.weld_data.specs.Structs.{structs_in, AreKeptStructs};
     ghost use Rattle.weld_data.specs.Value.{number};
     ghost use Rattle.weld_data.specs.View.{view_val};
     ghost use Rattle.weld_builders.specs.Part.{total_part, list_shape, total_shape, cells_shape, keyed_shape, groups_shape, start_part, shape_of, bare, merge_part, after_part, result_of};
     ghost use Rattle.weld_builders.specs.Range.{AllInRange, IsInRange};
     ghost use Rattle.weld_builders.specs.Outcome.{done};
-    ghost use Rattle.weld_built.specs.Merges.{merge_all, TakesNumbers, TakesPairs, MayAppend};
+    ghost use Rattle.weld_built.specs.Merges.{merge_all, is_list_part, TakesNumbers, TakesPairs, MayAppend};
     ghost use Rattle.weld_built.specs.Logged.{IsItemOf, HasResult};
     ghost use Rattle.weld_built.specs.Pair.{pair, number_pairs};
     ghost use Rattle.weld_built.specs.State.{MergeAnswer};
@@ -243,6 +246,32 @@ impl Built {
         values_into(&mut self.state, key, number_of(kind, x))
     }
 
+    /// Whether it is a list. It takes no memory.
+    pub fn is_list(&self) -> bool
+        ensures { result ≡ is_list_part self.now }
+    {
+        match &self.state {
+            State::List(_, _) => true,
+            _ => false,
+        }
+    }
+
+    /// Appends so many items that are structs of numbers of these kinds, whose numbers stand one after another, where the builder
+    /// is a list; it tells whether it is. Else nothing changes.
+    pub fn append_rows(
+        &mut self,
+        kinds: &[Kind],
+        numbers: &[i64],
+        count: usize,
+    ) -> Result<bool, AllocError>
+        requires { AreKeptStructs count kinds.now numbers.now }
+        ensures { MayAppend result self.old
+            (λ all. merge_all self.old (structs_in count kinds.now numbers.now) ≡ done all)
+            self.new }
+    {
+        rows_into(&mut self.state, kinds, numbers, count)
+    }
+
     /// Makes room for so many more items where it is a list: of numbers of the kind, where one is
     /// given. It holds what it held, whether there is room or not.
     pub fn reserve(&mut self, kind: Option<Kind>, items: u64) -> Result<(), AllocError>
@@ -388,6 +417,30 @@ fn own_into<T: Own>(state: &mut State, numbers: &[T]) -> Result<bool, AllocError
     match state {
         State::List(_, list) => match T::append(list, numbers) {
             Ok(told) => return Ok(told),
+            Err(e) => return Err(e),
+        },
+        _ => return Ok(false),
+    }
+}
+
+/// Appends structs of numbers.
+#[tactic(auto, using(crate::proofs::ManyLemmas::merged_list))]
+fn rows_into(
+    state: &mut State,
+    kinds: &[Kind],
+    numbers: &[i64],
+    count: usize,
+) -> Result<bool, AllocError>
+    requires state { IsState state.old }
+    requires structs { AreKeptStructs count kinds.now numbers.now }
+    ensures answer { MayAppend result (part_of_state state.old)
+        (λ all. merge_all (part_of_state state.old) (structs_in count kinds.now numbers.now)
+        ≡ done all) (part_of_state state.new) }
+    ensures state { IsState state.new }
+{
+    match state {
+        State::List(alloc, list) => match push_rows(*alloc, list, kinds, numbers, count) {
+            Ok(()) => return Ok(true),
             Err(e) => return Err(e),
         },
         _ => return Ok(false),

@@ -12,6 +12,7 @@ mod keyed;
 mod list;
 pub mod own;
 mod pairs;
+mod rows;
 pub mod totals;
 
 pub use built::Built;

@@ -10,8 +10,9 @@ ghost use Rattle.weld_pieces.specs.Kept.{IsKeptAs};
 ghost use Rattle.weld_built.specs.Pair.{pair};
 
 use crate::fitting::{are_alike, best_for, keeps, keeps_item, number_of};
+use crate::rows::begin;
 use std::alloc::{AllocError, Global};
-use weld_data::{Kind, Val, Vals};
+use weld_data::{Kind, Structs, Val, Vals};
 use weld_pieces::ListPart;
 
 /// Appends a number.
@@ -113,6 +114,9 @@ pub(crate) fn reserve(
 ) -> Result<(), AllocError>
     ensures { items_of_list list.new ≡ items_of_list list.old }
 {
+    if let ListPart::Structs(rows) = list {
+        return rows.reserve(items as usize);
+    }
     if list.is_empty() && !are_alike(list.kind(), kind) {
         *list = ListPart::empty(alloc, kind);
     }
@@ -129,12 +133,29 @@ fn make_ready(alloc: Global, list: &mut ListPart, item: &Val) -> Result<(), Allo
         if !are_alike(list.kind(), kind) {
             *list = ListPart::empty(alloc, kind);
         }
-        return Ok(());
+        return begin_structs(alloc, list, item);
     }
     if keeps_item(list.kind(), item) {
         return Ok(());
     }
     make_values(alloc, list)
+}
+
+/// Where the first item will be a struct of numbers, the list keeps such structs by their numbers.
+fn begin_structs(alloc: Global, list: &mut ListPart, item: &Val) -> Result<(), AllocError>
+    requires none { items_of_list list.old ≡ [] }
+    requires kept { IsKeptAs (kind_of_items list.old) (view_val item.now) }
+    ensures items { OnOk result (items_of_list list.new ≡ items_of_list list.old) }
+    ensures kept { OnOk result (IsKeptAs (kind_of_items list.new) (view_val item.now)) }
+{
+    match item {
+        Val::Struct(fields) => match Structs::like(alloc, fields.as_slice()) {
+            Ok(Some(rows)) => begin(list, rows),
+            Ok(None) => Ok(()),
+            Err(e) => Err(e),
+        },
+        _ => Ok(()),
+    }
 }
 
 /// Keeps the items as values.

@@ -17,6 +17,7 @@ use crate::fitting::number_of;
 use crate::groups::push_item;
 use crate::keyed::{merge_number, merge_numbers, merge_value};
 use crate::list;
+use crate::rows::{push_pairs, push_two};
 use crate::totals::merge_two;
 use weld_data::{Kind, Stop, Val};
 use weld_pieces::fields::as_number;
@@ -48,6 +49,10 @@ pub(crate) fn pair_into(
             key,
             i128::from(x),
         ) {
+            Ok(()) => return Ok(()),
+            Err(_) => return Err(Stop::Memory),
+        },
+        State::List(alloc, items) => match push_two(*alloc, items, key_kind, key, kind, x) {
             Ok(()) => return Ok(()),
             Err(_) => return Err(Stop::Memory),
         },
@@ -93,6 +98,7 @@ pub(crate) fn values_into(state: &mut State, first: Val, second: Val) -> Result<
 }
 
 /// Merges structs of two numbers, the first one first.
+#[tactic(auto, using(crate::proofs::ManyLemmas::merged_list))]
 pub(crate) fn pairs_into(
     state: &mut State,
     key_kind: Kind,
@@ -114,6 +120,12 @@ pub(crate) fn pairs_into(
     match state {
         State::Cells(cells) => return merge_cells(cells, keys, numbers),
         State::Keyed(alloc, part) => match merge_numbers(*alloc, part, key_kind, keys, numbers) {
+            Ok(()) => return Ok(()),
+            Err(_) => return Err(Stop::Memory),
+        },
+        State::List(alloc, items) => match push_pairs(
+            *alloc, items, key_kind, keys, kind, numbers,
+        ) {
             Ok(()) => return Ok(()),
             Err(_) => return Err(Stop::Memory),
         },

@@ -5,5 +5,6 @@ pub mod Lookups
 pub mod Operations
 pub mod Ranges
 mod Rising
+mod StructLemmas
 mod Views
 pub mod Wrapping

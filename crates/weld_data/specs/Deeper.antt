@@ -22,6 +22,7 @@ deep-Val-le (val.List (column.U8 items)) = omega arith
 deep-Val-le (val.List (column.U16 items)) = omega arith
 deep-Val-le (val.List (column.U32 items)) = omega arith
 deep-Val-le (val.List (column.U64 items)) = omega arith
+deep-Val-le (val.List (column.Structs items)) = omega arith
 deep-Val-le (val.List (column.Nest items)) = omega arith
 deep-Val-le (val.Struct fields) = omega arith
 deep-Val-le (val.Dict pairs) = omega arith

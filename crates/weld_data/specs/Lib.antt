@@ -5,6 +5,7 @@ pub mod Kind
 pub mod Lookup
 pub mod Operation
 pub mod Order
+pub mod Structs
 pub mod Value
 pub mod ValueCode
 pub mod View

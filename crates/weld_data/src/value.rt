@@ -7,6 +7,7 @@ mod order;
 use crate::i8s::I8s;
 use crate::items::{Bools, I16s, I32s, I64s, U8s, U16s, U32s, U64s};
 use crate::num::Num;
+use crate::structs::Structs;
 pub use order::compare_keys;
 use std::alloc::{AllocError, Global};
 use std::marker::Model;
@@ -21,7 +22,8 @@ pub enum Val {
     Dict(Pairs),
 }
 
-/// The elements of a list value. A list of numbers keeps them in an array of their kind.
+/// The elements of a list value. A list of numbers keeps them in an array of their kind, one of structs of numbers may keep the
+/// numbers.
 #[cycle(value)]
 #[derive(Debug, Drop)]
 pub enum Column {
@@ -34,6 +36,7 @@ pub enum Column {
     U16(U16s),
     U32(U32s),
     U64(U64s),
+    Structs(Structs),
     Nest(Vals),
 }
 
@@ -268,6 +271,7 @@ impl Column {
             Column::U16(items) => items.len(),
             Column::U32(items) => items.len(),
             Column::U64(items) => items.len(),
+            Column::Structs(items) => items.len(),
             Column::Nest(items) => items.len(),
         }
     }
@@ -295,6 +299,10 @@ impl Column {
             Column::U16(items) => Num::of_u16(items.as_slice()[index]),
             Column::U32(items) => Num::of_u32(items.as_slice()[index]),
             Column::U64(items) => Num::of_u64(items.as_slice()[index]),
+            Column::Structs(items) => {
+                items.holds_struct(index);
+                unreachable!()
+            }
             Column::Nest(items) => match items.at(index) {
                 Val::Num(number) => *number,
                 _ => unreachable!(),
@@ -317,6 +325,7 @@ impl Column {
             Column::U16(items) => Ok(Val::Num(Num::of_u16(items.as_slice()[index]))),
             Column::U32(items) => Ok(Val::Num(Num::of_u32(items.as_slice()[index]))),
             Column::U64(items) => Ok(Val::Num(Num::of_u64(items.as_slice()[index]))),
+            Column::Structs(items) => items.copy_at(alloc, index),
             Column::Nest(items) => items.at(index).copy(alloc),
         }
     }

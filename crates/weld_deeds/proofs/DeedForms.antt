@@ -1,7 +1,7 @@
 -- Deeds by their form.
-use Rattle.std.proofs.Common.{◌≡◌, ℕ, refl, sym, ◌∙◌, subst, Result}
+use Rattle.std.proofs.Common.{◌≡◌, ℕ, refl, sym, ◌∙◌, subst, Result, Vec, Global}
 use Rattle.weld_data.specs.declared.stop.Stop.{Stop}
-use Rattle.weld_builders.specs.Outcome.{Outcome}
+use Rattle.weld_builders.specs.Outcome.{Outcome, done}
 use Rattle.weld_meaning.specs.Thing.{Thing}
 use Rattle.weld_acts.specs.Act.{Acts}
 use Rattle.weld_deeds.specs.Deeds.{do_of, DeedFits}
@@ -9,6 +9,7 @@ use Rattle.weld_deeds.specs.Does.{DoesAs, number_done, NumberFits, pair_done, Pa
 use Rattle.weld_deeds.specs.declared.deed.Deed.{Deed}
 use Rattle.weld_deeds.specs.declared.deed.Deed as deed
 use Rattle.weld_blocks.specs.declared.numbers.Numbers.{Numbers}
+use Rattle.weld_deeds.specs.Rows.{struct_done, struct_guarded, StructGuardedFits}
 use Rattle.weld_deeds.specs.Choices.{IsChoice}
 use Rattle.weld_deeds.specs.Chosen.{pair_guarded, PairGuardedFits}
 use Rattle.weld_deeds.specs.Through.{done_through, FitsThrough}
@@ -50,6 +51,20 @@ pair_guarded_as (deed.Choice' x a y b z) c k n t e h p q =
     (subst (λ (u : Deed). As (deed.Choice' c a (deed.Pair k n) b u)) (sym (h.2 ∙ q)) (record { same = λ j s. refl; can = λ j s f. (f.0, f.1, f.2) })))
 pair_guarded_as (deed.Fields ds) c k n t e h p q = absurd h
 
+pub struct_guarded_as : (d : Deed) (c : Numbers) (cs : Vec Numbers Global) (t e : Deed) → IsChoice d c t e → t ≡ deed.Struct cs → e ≡ deed.Nothing → DoesAs (struct_guarded c cs.items) (StructGuardedFits c cs.items) d
+struct_guarded_as deed.Nothing c cs t e h p q = absurd h
+struct_guarded_as (deed.Number x) c cs t e h p q = absurd h
+struct_guarded_as (deed.Pair x y) c cs t e h p q = absurd h
+struct_guarded_as (deed.Struct xs) c cs t e h p q = absurd h
+struct_guarded_as (deed.List xs) c cs t e h p q = absurd h
+struct_guarded_as (deed.Same u) c cs t e h p q = absurd h
+struct_guarded_as (deed.Choice' x a y b z) c cs t e h p q =
+    let As = DoesAs (struct_guarded c cs.items) (StructGuardedFits c cs.items) in
+    subst (λ (u : Numbers). As (deed.Choice' u a y b z)) (sym h.0)
+    (subst (λ (u : Deed). As (deed.Choice' c a u b z)) (sym (h.1 ∙ p))
+    (subst (λ (u : Deed). As (deed.Choice' c a (deed.Struct cs) b u)) (sym (h.2 ∙ q)) (record { same = λ j s. refl; can = λ j s f. (f.0, f.1, f.2) })))
+struct_guarded_as (deed.Fields ds) c cs t e h p q = absurd h
+
 -- an answer of what is done so is one of the deed
 pub acts_as : {T : Type 0} (r : Result T Stop) (o p : Outcome Thing) (t : Thing) → o ≡ p → Acts r o t → Acts r p t
 acts_as r o p t e h = subst (λ (u : Outcome Thing). Acts r u t) e h
@@ -61,6 +76,14 @@ number_fits d c n s e h = subst (λ (x : Deed). FitsThrough (do_of x) (DeedFits 
 
 pub number_acts : {T : Type 0} (r : Result T Stop) (d : Deed) (c : Numbers) (n : ℕ) (s t : Thing) → d ≡ deed.Number c → Acts r (done_through (number_done c) 0 n s) t → Acts r (done_through (do_of d) 0 n s) t
 number_acts r d c n s t e h = subst (λ (x : Deed). Acts r (done_through (do_of x) 0 n s) t) (sym e) h
+
+-- ---- a struct of numbers on each row
+
+pub struct_done_is : (d : Deed) (cs : Vec Numbers Global) (n : ℕ) (s t : Thing) → d ≡ deed.Struct cs → done_through (struct_done cs.items) 0 n s ≡ done t → done_through (do_of d) 0 n s ≡ done t
+struct_done_is d cs n s t e h = subst (λ (x : Deed). done_through (do_of x) 0 n s ≡ done t) (sym e) h
+
+pub same_fits : (d : Deed) (n : ℕ) (s t : Thing) → t ≡ s → FitsThrough (do_of d) (DeedFits d) 0 n s → FitsThrough (do_of d) (DeedFits d) 0 n t
+same_fits d n s t e h = subst (FitsThrough (do_of d) (DeedFits d) 0 n) (sym e) h
 
 -- ---- two numbers on each row
 

@@ -1,13 +1,15 @@
 mod ArmLemmas
 mod BodyLemmas
 mod ChosenLemmas
-mod Doing
-pub mod Merges
-mod PairLemmas
-mod PutLemmas
 mod DeedForms
+mod Doing
 mod FieldLemmas
 mod ListLemmas
 mod ManyPairs
 mod ManyPuts
+pub mod Merges
+mod NamedLemmas
+mod PairLemmas
+mod PutLemmas
+mod RowLemmas
 mod ThroughLemmas

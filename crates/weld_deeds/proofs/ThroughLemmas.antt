@@ -62,3 +62,6 @@ fits_as does fits d n s how h = fits_from does fits d 0 n s how h
 
 pub acts_as : {T : Type 0} (r : Result T Stop) (does : ℕ → Thing → Outcome Thing) (fits : ℕ → Thing → Type 0) (d : Deed) (n : ℕ) (s t : Thing) → DoesAs does fits d → Acts r (done_through does 0 n s) t → Acts r (done_through (do_of d) 0 n s) t
 acts_as r does fits d n s t how h = subst (λ (o : Outcome Thing). Acts r o t) (done_from does fits d 0 n s how) h
+
+pub done_as : (does : ℕ → Thing → Outcome Thing) (fits : ℕ → Thing → Type 0) (d : Deed) (n : ℕ) (s t : Thing) → DoesAs does fits d → done_through does 0 n s ≡ done t → done_through (do_of d) 0 n s ≡ done t
+done_as does fits d n s t how h = sym (done_from does fits d 0 n s how) ∙ h

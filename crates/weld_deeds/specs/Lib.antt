@@ -6,5 +6,7 @@ pub mod Chosen
 pub mod Deeds
 pub mod Does
 pub mod Lists
+pub mod Named
 pub mod Puts
+pub mod Rows
 pub mod Through

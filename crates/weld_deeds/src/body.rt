@@ -8,12 +8,17 @@ ghost use Rattle.weld_eval.specs.ThingView.{thing_of};
 ghost use Rattle.weld_deeds.specs.Block.{MayBeBlock};
 ghost use Rattle.weld_deeds.specs.Deeds.{IsDeed, MayBeDeed, MayBeItem, MayBePair, IsBefore, IsMergeTree, IsQuiet, item_at};
 ghost use Rattle.weld_eval_plain.specs.Nodes.{IsIf};
+ghost use Rattle.weld_builders.specs.Outcome.{done};
+ghost use Rattle.weld_meaning.specs.Evaluation.{eval as eval_of};
+ghost use Rattle.weld_meaning.specs.Thing.{plain};
+ghost use Rattle.weld_deeds.specs.Named.{MayBeStructs};
 ghost use Rattle.weld_deeds.specs.Arms.{IsDeedWhere, MayBeDeedWhere, MayBeItemWhere};
 ghost use Rattle.weld_blocks.specs.Numbers.{number_at, IsChosen};
 ghost use Rattle.weld_blocks.specs.Scope.{scope_env};
 
 use crate::deed::{Deed, Deeds};
 use crate::lists::lists_of;
+use crate::named::columns_named;
 use crate::pairs::pair_named;
 use crate::texts::same_text;
 use std::alloc::Global;
@@ -123,10 +128,32 @@ fn struct_of(item: &Expr, scope: &Scope, count: usize, alloc: Global) -> Option<
 {
     match columns_of(item, scope, count, alloc) {
         Some(columns) => Some(Deed::Struct(columns)),
-        None => match lists_of(item, scope, count, alloc) {
-            Some(columns) => Some(Deed::List(columns)),
-            None => text_of(item, scope, alloc),
+        None => match named_columns(item, scope, count, alloc) {
+            Some(columns) => Some(Deed::Struct(columns)),
+            None => list_of(item, scope, count, alloc),
         },
+    }
+}
+
+/// The numbers of each field of the structs that a name is.
+#[tactic(auto, using(crate::proofs::NamedLemmas::named_item))]
+fn named_columns(item: &Expr, scope: &Scope, count: usize, alloc: Global) -> Option<Vec<Numbers>>
+    ensures { MayBeStructs (λ place v. eval_of item.now (scope_env scope.now place)
+        ≡ done (plain v)) result count }
+{
+    match name_of(item) {
+        Some(name) => columns_named(scope, name, count, alloc),
+        None => None,
+    }
+}
+
+/// A vector of numbers, or a string.
+fn list_of(item: &Expr, scope: &Scope, count: usize, alloc: Global) -> Option<Deed>
+    ensures { MayBeItem item.now (scope_env scope.now) result count }
+{
+    match lists_of(item, scope, count, alloc) {
+        Some(columns) => Some(Deed::List(columns)),
+        None => text_of(item, scope, alloc),
     }
 }
 

@@ -5,8 +5,10 @@ pub mod body;
 mod chosen;
 pub mod deed;
 mod lists;
+mod named;
 mod pairs;
 pub mod puts;
+mod rows;
 mod texts;
 mod through;
 

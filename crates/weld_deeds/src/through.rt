@@ -10,12 +10,14 @@ ghost use Rattle.weld_deeds.specs.Chosen.{pair_guarded, PairGuardedFits};
 ghost use Rattle.weld_deeds.specs.Deeds.{DeedFits, DeedsFit, do_of, do_all, DoesAll};
 ghost use Rattle.weld_deeds.specs.Does.{DoesAs};
 ghost use Rattle.weld_blocks.specs.Numbers.{count_of};
+ghost use Rattle.weld_deeds.specs.Rows.{struct_guarded, StructGuardedFits};
 ghost use Rattle.weld_deeds.specs.Through.{FitsThrough, done_through};
-ghost use Rattle.weld_deeds.specs.declared.deed.Deed.TheVariants.{Nothing as DoesNothing, Number as OfNumber, Pair as OfPair, Fields as OfFields};
+ghost use Rattle.weld_deeds.specs.declared.deed.Deed.TheVariants.{Nothing as DoesNothing, Number as OfNumber, Pair as OfPair, Fields as OfFields, Struct as OfStruct};
 
 use crate::chosen::put_chosen;
 use crate::deed::{AnyDeed, Deed, Deeds, Does, EachGuarded, EachNumber, EachPair};
 use crate::puts::{put_numbers, put_pairs};
+use crate::rows::{put_chosen_rows, put_rows};
 use weld_blocks::numbers::Numbers;
 use weld_data::Stop;
 use weld_eval::thing::{Fields, Owned};
@@ -31,9 +33,8 @@ pub fn do_through(deed: &Deed, count: usize, builder: &mut Owned) -> Result<(), 
         Deed::Nothing => Ok(()),
         Deed::Number(numbers) => do_number(deed, numbers, count, builder),
         Deed::Pair(keys, numbers) => do_pair(deed, keys, numbers, count, builder),
-        Deed::Struct(_) | Deed::List(_) | Deed::Same(_) => {
-            do_each(deed, &AnyDeed { deed }, count, builder)
-        }
+        Deed::Struct(columns) => do_rows(deed, columns, count, builder),
+        Deed::List(_) | Deed::Same(_) => do_each(deed, &AnyDeed { deed }, count, builder),
         Deed::Choice(truths, then, otherwise) => {
             do_choice(deed, truths, then, otherwise, count, builder)
         }
@@ -78,6 +79,27 @@ fn do_pair(
     } else {
         let each = EachPair { keys, numbers };
         do_each(deed, &each, count, builder)
+    }
+}
+
+/// The same of a struct of numbers on each row: all at once where the builder is a list.
+#[tactic(auto, using(crate::proofs::DeedForms::any_as, crate::proofs::DeedForms::struct_done_is, crate::proofs::DeedForms::same_fits))]
+fn do_rows(
+    deed: &Deed,
+    columns: &Vec<Numbers>,
+    count: usize,
+    builder: &mut Owned,
+) -> Result<(), Stop>
+    requires fits { FitsThrough (do_of deed.now) (DeedFits deed.now) 0 count
+        (thing_of builder.old) }
+    requires rows { deed.now ≡ OfStruct columns.now }
+    ensures { Acts result (done_through (do_of deed.now) 0 count (thing_of builder.old))
+        (thing_of builder.new) }
+{
+    match put_rows(columns, count, builder) {
+        Ok(true) => Ok(()),
+        Ok(false) => do_each(deed, &AnyDeed { deed }, count, builder),
+        Err(_) => Err(Stop::Memory),
     }
 }
 
@@ -172,7 +194,7 @@ fn is_calm(deed: &Deed) -> bool
 
 /// The same where a truth value says what is done: a loop of its own where that is a merge of a
 /// number, or of two, or nothing.
-#[tactic(auto, using(crate::proofs::DeedForms::guarded_as, crate::proofs::DeedForms::pair_guarded_as, crate::proofs::DeedForms::any_as))]
+#[tactic(auto, using(crate::proofs::DeedForms::guarded_as, crate::proofs::DeedForms::pair_guarded_as, crate::proofs::DeedForms::struct_guarded_as, crate::proofs::DeedForms::any_as))]
 fn do_choice(
     deed: &Deed,
     truths: &Numbers,
@@ -195,7 +217,33 @@ fn do_choice(
         Deed::Pair(keys, numbers) if is_nothing(otherwise) => {
             do_chosen(deed, truths, keys, numbers, count, builder)
         }
+        Deed::Struct(columns) if is_nothing(otherwise) => {
+            do_chosen_rows(deed, truths, columns, count, builder)
+        }
         _ => do_each(deed, &AnyDeed { deed }, count, builder),
+    }
+}
+
+/// The same of a struct of numbers or nothing: those that are chosen all at once where the builder is a list.
+#[tactic(auto, using(crate::proofs::DeedForms::any_as, crate::proofs::DeedForms::same_fits, crate::proofs::ThroughLemmas::fits_as, crate::proofs::ThroughLemmas::done_as))]
+fn do_chosen_rows(
+    deed: &Deed,
+    truths: &Numbers,
+    columns: &Vec<Numbers>,
+    count: usize,
+    builder: &mut Owned,
+) -> Result<(), Stop>
+    requires fits { FitsThrough (do_of deed.now) (DeedFits deed.now) 0 count
+        (thing_of builder.old) }
+    requires each { DoesAs (struct_guarded truths.now columns.now.items)
+        (StructGuardedFits truths.now columns.now.items) deed.now }
+    ensures { Acts result (done_through (do_of deed.now) 0 count (thing_of builder.old))
+        (thing_of builder.new) }
+{
+    match put_chosen_rows(truths, columns, count, builder) {
+        Ok(true) => Ok(()),
+        Ok(false) => do_each(deed, &AnyDeed { deed }, count, builder),
+        Err(_) => Err(Stop::Memory),
     }
 }
 

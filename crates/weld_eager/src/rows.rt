@@ -79,6 +79,10 @@ fn element_dot(
     match row {
         Element::Lent(row) => row_dot(alloc, kind, row, weights),
         Element::Number(_) => unreachable!(),
+        Element::Packed(row) => {
+            row.list.holds_struct(row.place);
+            unreachable!()
+        }
     }
 }
 

@@ -4,7 +4,7 @@ use Rattle.std.specs.Int.{cast_signed, int_wrap}
 use Rattle.std.proofs.lemmas.Int.{to_z-of_z}
 use Rattle.std.proofs.lemmas.List.{map_more}
 use Rattle.weld_data.specs.declared.kind.Kind.TheVariants as kinds
-use Rattle.weld_data.specs.Value.{Value, number}
+use Rattle.weld_data.specs.Value.{number}
 use Rattle.weld_data.specs.Wrapped.{wrapped}
 use Rattle.weld_meaning.specs.Evaluation.{byte_value}
 

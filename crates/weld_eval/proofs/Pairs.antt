@@ -1,5 +1,5 @@
 -- Structs of two numbers.
-use Rattle.std.proofs.Common.{◌≡◌, ℕ, ◌<◌, ltb, Bool, true, false, ◌&&◌, List, [], ◌∷◌, ◌++◌, length, slice_get, option_to_list, Some, Bor, refl, ap, sym, subst, ◌∙◌}
+use Rattle.std.proofs.Common.{◌≡◌, ℕ, ◌<◌, ltb, Bool, true, false, ◌&&◌, List, [], ◌∷◌, ◌++◌, length, slice_get, option_to_list, Some, Bor, refl, ap, sym, ◌∙◌}
 use Rattle.std.proofs.lemmas.Bool.{ltb-true}
 use Rattle.weld_data.specs.View.{view_val, view_column}
 use Rattle.weld_data.specs.declared.value.Val.{Val}

@@ -1,13 +1,13 @@
 -- Operators on numbers of one kind.
-use Rattle.std.proofs.Common.{◌≡◌, ℤ, pos, negsuc, Bool, true, false, if◌then◌else◌, Option, Some, None, option_map, refl, ap, sym, subst, ◌∙◌}
+use Rattle.std.proofs.Common.{◌≡◌, ℤ, Bool, true, if◌then◌else◌, Some, None, option_map, refl, ap, sym, subst, ◌∙◌}
 use Rattle.weld_data.specs.declared.kind.Kind.{Kind}
 use Rattle.weld_data.specs.declared.kind.Kind.TheVariants as kinds
 use Rattle.weld_data.specs.declared.op.BinOp.{BinOp}
 use Rattle.weld_data.specs.Kind.{IsInteger, InRange}
 use Rattle.weld_data.specs.Operation.{TakesKind, operation, answer_kind}
 use Rattle.weld_data.specs.Lookup.{same_kind}
-use Rattle.weld_data.specs.Value.{Value, number}
-use Rattle.weld_builders.specs.Outcome.{Outcome, done, fault, stuck, or_fault}
+use Rattle.weld_data.specs.Value.{number}
+use Rattle.weld_builders.specs.Outcome.{done, fault, stuck, or_fault}
 use Rattle.weld_meaning.specs.Evaluation.{operated}
 use Rattle.weld_eval.specs.Fits.{AreOperands, IsIntegerNumber}
 

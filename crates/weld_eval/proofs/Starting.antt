@@ -1,5 +1,5 @@
 -- Mergers of structs that start without a value.
-use Rattle.std.proofs.Common.{◌≡◌, ℕ, zero, suc, ◌+◌, ◌<◌, ◌≤◌, ℤ, None, List, [], ◌∷◌, ◌++◌, length, take, map, slice_index_or, ap, sym, subst, refl, ◌∙◌, arith}
+use Rattle.std.proofs.Common.{◌≡◌, ℕ, zero, suc, ◌+◌, ◌<◌, ◌≤◌, None, List, [], ◌∷◌, ◌++◌, length, take, slice_index_or, ap, sym, subst, refl, ◌∙◌, arith}
 use Rattle.std.proofs.lemmas.List.{take_more, take_all, map-append}
 use Rattle.weld_data.specs.declared.kind.Kind.{Kind}
 use Rattle.weld_data.specs.declared.num.Num.{Num}
@@ -7,11 +7,11 @@ use Rattle.weld_data.specs.declared.op.MergeOp.{MergeOp}
 use Rattle.weld_data.specs.Operation.{start_of}
 use Rattle.weld_tree.specs.TypeTree.{TypeTree, scalar, vec, struct as tuple, dict, build, total, pack}
 use Rattle.weld_tree.specs.Types.{IsIntegerType, AreIntegerTypes}
-use Rattle.weld_builders.specs.Outcome.{Outcome, done, and_then, map_out}
+use Rattle.weld_builders.specs.Outcome.{done, and_then, map_out}
 use Rattle.weld_builders.specs.Part.{Part, Totals, totals_part, totals_builder, kinds_of, neutral_totals, start}
 use Rattle.weld_pieces.specs.Totals.{total_in, totals_in, AreIntegers}
 use Rattle.weld_meaning.specs.Thing.{building}
-use Rattle.weld_meaning.specs.Evaluation.{kinds_in, kind_of, started_builder}
+use Rattle.weld_meaning.specs.Evaluation.{kinds_in, started_builder}
 use Rattle.weld_eval.specs.Fresh.{kind_in, kinds_listed}
 use Rattle.weld_eval.specs.Takes.{IsScalar}
 

@@ -1,15 +1,12 @@
 -- Parts of vectors.
-use Rattle.std.proofs.Common.{◌≡◌, ℕ, zero, suc, ◌+◌, ◌-◌, ◌*◌, ◌/◌, ◌%◌, ◌==◌, ◌≤◌, ◌<◌, ◌≢◌, eqb, leb, ℤ, pos, negsuc, Bool, true, false, ◌&&◌, if◌then◌else◌, List, [], ◌∷◌, ◌++◌, map, take, drop, length, slice_get, Option, Some, None, Result, Ok, Err, option_to_list, refl, ap, sym, subst, ◌∙◌, arith}
+use Rattle.std.proofs.Common.{◌≡◌, ℕ, zero, suc, ◌+◌, ◌-◌, ◌*◌, ◌/◌, ◌%◌, ◌==◌, ◌≤◌, ◌<◌, ◌≢◌, leb, ℤ, pos, negsuc, Bool, true, false, ◌&&◌, if◌then◌else◌, List, [], ◌∷◌, ◌++◌, map, take, drop, length, slice_get, Option, Some, None, Result, Ok, Err, option_to_list, refl, ap, sym, subst, ◌∙◌, arith}
 use Rattle.std.proofs.lemmas.Bool.{le-leb, lt-leb, eq-eqb, eqb-true}
 use Rattle.std.proofs.lemmas.Nat.{div-add-mod', mod-mul-add, div-mul-add}
-use Rattle.weld_data.specs.Value.{Value, list, values, list_of_values, list_of_values-values}
-use Rattle.weld_builders.specs.Outcome.{Outcome, done, fault, stuck, and_then, map_out, or_fault}
+use Rattle.weld_data.specs.Value.{Value, list, values, list_of_values-values}
+use Rattle.weld_builders.specs.Outcome.{Outcome, done, fault, and_then, map_out, or_fault}
 use Rattle.weld_builders.specs.Part.{as_number}
 use Rattle.weld_data.specs.declared.kind.Kind.{Kind}
-use Rattle.weld_data.specs.declared.kind.Kind.TheVariants as kinds
 use Rattle.weld_data.specs.Value.{number, struct, dict}
-use Rattle.weld_data.specs.View.{view_val}
-use Rattle.weld_data.specs.declared.value.Val.{Val}
 use Rattle.weld_meaning.specs.Thing.{value_field}
 use Rattle.weld_meaning.specs.Evaluation.{whole_number, length_of, element_at, looked_up, part_of, sliced, strided_part, strided_of, picked}
 use Rattle.weld_pieces.specs.Answer.{IsOutside}

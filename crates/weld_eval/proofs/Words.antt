@@ -1,16 +1,15 @@
 -- Numbers in words: what is said of them is said of the words modulo two to the 64th.
-use Rattle.std.proofs.Common.{◌≡◌, ◌≢◌, ℕ, suc, ◌+◌, ◌-◌, ◌/◌, ◌%◌, ◌^◌, ◌<◌, Bool, true, false, ℤ, pos, negsuc, neg_ℤ, ◌+ℤ◌, ◌-ℤ◌, ◌*ℤ◌, ◌≤ℤ◌, int_div, int_rem, int_lt, int_le, FitsSigned, unsigned_abs, w64, refl, sym, ap, subst, ◌∙◌, arith, mod-eq_of_lt, div-le_self}
+use Rattle.std.proofs.Common.{◌≡◌, ℕ, ◌^◌, ℤ, pos, negsuc, neg_ℤ, ◌+ℤ◌, ◌-ℤ◌, ◌*ℤ◌, int_div, int_rem, FitsSigned, unsigned_abs, w64, refl, sym, ap, ◌∙◌, arith}
 use Rattle.std.specs.Int.{Width, cast_unsigned, cast_signed, int_rem_euclid, int_wrap}
 use mir.Val.{bits}
 use Rattle.std.proofs.lemmas.Bool.Decides.{Decides-int_eq, same_from_decides}
 use Rattle.std.specs.Ordering.{int_eq}
-use Rattle.std.proofs.lemmas.Int.{ints, to_z-of_z, of_z-to_z}
+use Rattle.std.proofs.lemmas.Int.{ints, to_z-of_z}
 use Rattle.std.proofs.Math.IntN.{*ℤ_comm}
 use Rattle.weld_data.specs.declared.kind.Kind.{Kind}
 use Rattle.weld_data.specs.declared.kind.Kind.TheVariants as kinds
-use Rattle.weld_data.specs.Kind.{IsNarrow, InRange, IsInteger, size_of}
+use Rattle.weld_data.specs.Kind.{IsNarrow, InRange, size_of}
 use Rattle.weld_data.specs.Wrapped.{SameModulo, wrapped}
-use Rattle.weld_data.proofs.Ranges.{FitsSigned-kind, IsNarrow-not_u64}
 use Rattle.weld_data.proofs.Wrapping.{IsWrapped-wrapped, wrapped-same, wrapped-in_range}
 use Rattle.weld_data.proofs.Integers.{add-*ℤ, SameModulo-refl, SameModulo-mul}
 use Rattle.weld_eval.specs.Word.{of_word}

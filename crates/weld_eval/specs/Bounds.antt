@@ -1,9 +1,9 @@
 -- Places in vectors, as the code answers them.
-use Rattle.std.specs.Prelude.{◌≡◌, ℕ, suc, ◌+◌, ◌*◌, ◌<◌, ◌≤◌, ◌^◌, ℤ, pos, negsuc, Result, Ok, Err, Option, Some, None, List, length}
+use Rattle.std.specs.Prelude.{◌≡◌, ℕ, ◌+◌, ◌*◌, ◌<◌, ◌≤◌, ◌^◌, ℤ, pos, negsuc, Result, Ok, Err, Option, Some, None, List, length}
 use Rattle.weld_data.specs.declared.stop.Stop.{Stop}
 use Rattle.weld_data.specs.declared.stop.Stop.TheVariants.{Fault, Memory}
 use Rattle.weld_data.specs.Value.{Value}
-use Rattle.weld_builders.specs.Outcome.{Outcome, done, fault}
+use Rattle.weld_builders.specs.Outcome.{done, fault}
 use Rattle.weld_builders.specs.Part.{as_number}
 use Rattle.weld_meaning.specs.Evaluation.{part_of, strided_part}
 

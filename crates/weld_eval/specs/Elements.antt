@@ -1,4 +1,4 @@
--- What an element stands for, lent or a number.
+-- What an element stands for, lent, a number or a struct of numbers.
 use Rattle.std.specs.Prelude.{◌≡◌, ℕ, ◌<◌, ℤ, pos, Result, Ok, Err}
 use Rattle.weld_data.specs.declared.stop.Stop.{Stop}
 use Rattle.weld_data.specs.declared.stop.Stop.TheVariants.{Fault, Memory}
@@ -6,7 +6,7 @@ use Rattle.weld_data.specs.Value.{Value, number}
 use Rattle.weld_builders.specs.Outcome.{done}
 use Rattle.weld_builders.specs.Part.{as_number}
 use Rattle.weld_pieces.specs.Answer.{IsOutside}
-use Rattle.weld_data.specs.View.{view_val}
+use Rattle.weld_data.specs.View.{view_val, view_packed}
 use Rattle.weld_eval.specs.declared.values.element.Element.{Element}
 use Rattle.weld_eval.specs.declared.values.element.Element.TheVariants as elements
 use Rattle.weld_data.specs.declared.num.Num.{Num}
@@ -14,6 +14,7 @@ use Rattle.weld_data.specs.declared.num.Num.{Num}
 abbrev pub view_element : Element → Value
 view_element (elements.Lent v) = view_val v.now
 view_element (elements.Number n) = number n.kind n.value
+view_element (elements.Packed p) = view_packed p
 
 abbrev pub view_num : Num → Value
 view_num n = number n.kind n.value

@@ -6,7 +6,7 @@ use Rattle.weld_data.specs.declared.op.BinOp.{BinOp}
 use Rattle.weld_data.specs.Kind.{IsInteger}
 use Rattle.weld_data.specs.Operation.{TakesKind}
 use Rattle.weld_data.specs.Order.{IsNumber, IsKeyFor}
-use Rattle.weld_data.specs.Value.{Value, Values, no_values, and_value, number, list, struct, dict, list_of_values, list_of_entries}
+use Rattle.weld_data.specs.Value.{Value, number, list, struct, dict, list_of_values, list_of_entries}
 use Rattle.weld_tree.specs.HasValue.{IsNumber as IsNumberOf}
 
 -- numbers of one kind that the operator takes

@@ -1,5 +1,5 @@
 -- What the operators make of numbers, in words.
-use Rattle.std.specs.Prelude.{◌≡◌, ℤ, pos, Option, Some, None}
+use Rattle.std.specs.Prelude.{◌≡◌, ℤ, Option, Some, None}
 use Rattle.weld_data.specs.declared.kind.Kind.{Kind}
 use Rattle.weld_data.specs.declared.op.BinOp.{BinOp}
 use Rattle.weld_data.specs.Kind.{InRange}

@@ -1,6 +1,6 @@
 //! The things of the names in scope.
 
-ghost use Rattle.std.specs.Prelude.{◌≡◌, ◌∷◌, Some, None, MatchOption, IsSome};
+ghost use Rattle.std.specs.Prelude.{◌≡◌, ◌∷◌, Some, None, MatchOption, IsSome, IfSome};
 ghost use Rattle.weld_data.specs.View.{view_val};
 ghost use Rattle.weld_builders.specs.Outcome.{done};
 ghost use Rattle.weld_meaning.specs.Environment.{look_for};
@@ -119,7 +119,10 @@ fn build<'a>(row: &'a RowAt<'a>, alloc: Global) -> Result<Held<'a>, Stop>
     ensures { Answers held_of result (done (plain (row_value row.now))) }
 {
     if row.is_element() {
-        return Ok(lent_element(row.element()));
+        match lent_element(row.element()) {
+            Some(x) => return Ok(x),
+            None => {}
+        }
     }
     match row.to_value(alloc) {
         Ok(v) => Ok(Held::Made(Owned::Value(v))),
@@ -127,14 +130,15 @@ fn build<'a>(row: &'a RowAt<'a>, alloc: Global) -> Result<Held<'a>, Stop>
     }
 }
 
-/// An element as a thing. It takes no memory.
+/// An element as a thing, where that takes no memory: it isn't a struct of numbers.
 #[inline]
-pub fn lent_element<'a>(element: Element<'a>) -> Held<'a>
-    ensures { held_of result ≡ plain (view_element element.entry) }
+pub fn lent_element<'a>(element: Element<'a>) -> Option<Held<'a>>
+    ensures { IfSome result (λ x. held_of x ≡ plain (view_element element.entry)) }
 {
     match element {
-        Element::Lent(v) => Held::Lent(v),
-        Element::Number(n) => Held::Made(Owned::Value(Val::Num(n))),
+        Element::Lent(v) => Some(Held::Lent(v)),
+        Element::Number(n) => Some(Held::Made(Owned::Value(Val::Num(n)))),
+        Element::Packed(_) => None,
     }
 }
 

@@ -10,9 +10,9 @@ ghost use Rattle.weld_eval.specs.LegsView.{lists_of};
 ghost use Rattle.weld_eval.specs.NumberAnswers.{NumberAnswer, FieldNumber, PairAnswer};
 ghost use Rattle.weld_eval.specs.RowLists.{RowsAnswer, all_long, all_reach, has_row, is_one, row_in, elements_at};
 
-use crate::number::{number_at, number_of, pair_of};
+use crate::number::{number_at, number_of, pair_of, pair_of_packed};
 use crate::short::Short;
-use crate::values::{Element, element_of, field_of};
+use crate::values::{Element, element_of, field_of, field_of_packed};
 use std::alloc::{AllocError, Global};
 use weld_data::{Column, Stop, Val, Vals};
 
@@ -111,6 +111,7 @@ pub(crate) fn field_in<'a>(legs: &'a Legs<'a>, number: usize, field: u32) -> Ele
         match element_in(legs, number) {
             Element::Lent(v) => Element::Lent(field_of(v, field)),
             Element::Number(_) => unreachable!(),
+            Element::Packed(row) => Element::Number(field_of_packed(row, field)),
         }
     } else {
         element_of(leg_at(legs, field), number)
@@ -145,6 +146,7 @@ pub(crate) fn number_field_in(legs: &Legs, number: usize, field: u32) -> Option<
         match element_in(legs, number) {
             Element::Lent(v) => number_of(field_of(v, field)),
             Element::Number(_) => unreachable!(),
+            Element::Packed(row) => Some(Short::of_num(field_of_packed(row, field))),
         }
     } else {
         number_at(leg_at(legs, field), number)
@@ -186,6 +188,7 @@ pub(crate) fn pair_in_legs(legs: &Legs, number: usize) -> Option<(Short, Short)>
         match element_in(legs, number) {
             Element::Lent(v) => pair_of(v),
             Element::Number(_) => None,
+            Element::Packed(row) => pair_of_packed(row),
         }
     } else {
         pair_in_columns(legs, number)

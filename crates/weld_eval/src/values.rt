@@ -5,7 +5,7 @@ pub mod element;
 pub mod scalar;
 pub mod vector;
 
-pub use element::{Element, element_of, field_of, has_key, look_up, place_of};
+pub use element::{Element, element_of, field_of, field_of_packed, has_key, look_up, place_of};
 pub use scalar::{
     cast, cast_number, contrary, length, negated, negated_number, operated, truth_of, whole_number,
 };

@@ -60,7 +60,7 @@ fn looked_up<'a>(x: Held<'a>, y: Held<'a>, alloc: Global) -> Result<Held<'a>, St
 {
     match x {
         Held::Lent(v) => {
-            let element = lent_element(v, &y);
+            let element = lent_element(v, &y, alloc);
             let_go(y);
             element
         }
@@ -75,14 +75,14 @@ fn looked_up<'a>(x: Held<'a>, y: Held<'a>, alloc: Global) -> Result<Held<'a>, St
 
 /// The same of what is lent.
 #[tactic(auto, using(crate::proofs::TwoShapes::looks_up))]
-fn lent_element<'a>(v: &'a Val, y: &Held) -> Result<Held<'a>, Stop>
+fn lent_element<'a>(v: &'a Val, y: &Held, alloc: Global) -> Result<Held<'a>, Stop>
     requires { TwoTakes look_up_form (plain (view_val v.now)) (held_of y.now) }
     ensures { Answers held_of result (two_thing look_up_form (plain (view_val v.now))
         (done (held_of y.now))) }
 {
     match look_up(v, value_of(y)) {
         Ok(Element::Lent(w)) => Ok(Held::Lent(w)),
-        Ok(Element::Number(n)) => Ok(number(n)),
+        Ok(element) => made_of(element, alloc),
         Err(stop) => Err(stop),
     }
 }
@@ -114,6 +114,10 @@ fn made_of<'a, 'b>(element: Element<'b>, alloc: Global) -> Result<Held<'a>, Stop
             Err(_) => Err(Stop::Memory),
         },
         Element::Number(n) => Ok(number(n)),
+        Element::Packed(row) => match row.copy(alloc) {
+            Ok(copy) => Ok(Held::Made(Owned::Value(copy))),
+            Err(_) => Err(Stop::Memory),
+        },
     }
 }
 

@@ -20,6 +20,7 @@ kind_of_items (lists.U8 v) = Some kinds.U8
 kind_of_items (lists.U16 v) = Some kinds.U16
 kind_of_items (lists.U32 v) = Some kinds.U32
 kind_of_items (lists.U64 v) = Some kinds.U64
+kind_of_items (lists.Structs s) = None
 kind_of_items (lists.Nest v) = None
 
 -- the items, however they are kept
@@ -33,6 +34,7 @@ items_of_list (lists.U8 v) = map (λ (n : ℕ). number kinds.U8 (pos n)) v.items
 items_of_list (lists.U16 v) = map (λ (n : ℕ). number kinds.U16 (pos n)) v.items
 items_of_list (lists.U32 v) = map (λ (n : ℕ). number kinds.U32 (pos n)) v.items
 items_of_list (lists.U64 v) = map (λ (n : ℕ). number kinds.U64 (pos n)) v.items
+items_of_list (lists.Structs s) = s
 items_of_list (lists.Nest v) = map view_val v.items
 
 -- for how many more items there is room
@@ -46,4 +48,5 @@ spare_of_list (lists.U8 v) = vec_capacity v - vec_len v
 spare_of_list (lists.U16 v) = vec_capacity v - vec_len v
 spare_of_list (lists.U32 v) = vec_capacity v - vec_len v
 spare_of_list (lists.U64 v) = vec_capacity v - vec_len v
+spare_of_list (lists.Structs s) = 0
 spare_of_list (lists.Nest v) = vec_capacity v - vec_len v

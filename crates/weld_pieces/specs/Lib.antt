@@ -1,5 +1,6 @@
 pub mod Answer
 pub mod Fields
+pub mod Grown
 pub mod Items
 pub mod Kept
 pub mod KeyHash

@@ -1,14 +1,16 @@
-ghost use Rattle.std.specs.Prelude.{◌≡◌, map, IfOk};
+ghost use Rattle.std.specs.Prelude.{◌≡◌, ◌∷◌, ◌++◌, [], map, None, IfOk, OnOk, OnErr};
 ghost use Rattle.weld_data.specs.View.{view_val, view_column};
+ghost use Rattle.weld_pieces.specs.Items.{kind_of_items, items_of_list};
+ghost use Rattle.weld_pieces.specs.Grown.{MayGrow};
 
 use crate::grow::append_item;
 use crate::part::Part;
 use crate::words::append_words;
 use std::alloc::{AllocError, Global};
-use weld_data::{Column, I8s, Items, Kind, Stop, Val, Vals};
+use weld_data::{Column, I8s, Items, Kind, Stop, Structs, Val, Vals};
 
-/// The items of a list, numbers of one kind in an array of that kind. A caller that merges many
-/// numbers matches once and pushes onto the array itself.
+/// The items of a list, numbers of one kind in an array of that kind, structs of numbers as their numbers. A caller that merges
+/// many numbers matches once and pushes onto the array itself.
 #[derive(Debug, Drop)]
 pub enum ListPart {
     Bool(Vec<bool>),
@@ -20,6 +22,7 @@ pub enum ListPart {
     U16(Vec<u16>),
     U32(Vec<u32>),
     U64(Vec<u64>),
+    Structs(Structs),
     Nest(Vec<Val>),
 }
 
@@ -67,7 +70,7 @@ impl ListPart {
             ListPart::U16(_) => Some(Kind::U16),
             ListPart::U32(_) => Some(Kind::U32),
             ListPart::U64(_) => Some(Kind::U64),
-            ListPart::Nest(_) => None,
+            ListPart::Structs(_) | ListPart::Nest(_) => None,
         }
     }
 
@@ -85,6 +88,7 @@ impl ListPart {
             ListPart::U16(items) => items.is_empty(),
             ListPart::U32(items) => items.is_empty(),
             ListPart::U64(items) => items.is_empty(),
+            ListPart::Structs(items) => items.is_empty(),
             ListPart::Nest(items) => items.is_empty(),
         }
     }
@@ -113,7 +117,7 @@ impl ListPart {
             ListPart::U16(items) => append_item(items, x as u16),
             ListPart::U32(items) => append_item(items, x as u32),
             ListPart::U64(items) => append_item(items, x as u64),
-            ListPart::Nest(_) => unreachable!(),
+            ListPart::Structs(_) | ListPart::Nest(_) => unreachable!(),
         }
     }
 
@@ -139,7 +143,7 @@ impl ListPart {
             ListPart::U16(items) => append_item(items, x as u16),
             ListPart::U32(items) => append_item(items, x as u32),
             ListPart::U64(items) => append_item(items, x as u64),
-            ListPart::Nest(_) => unreachable!(),
+            ListPart::Structs(_) | ListPart::Nest(_) => unreachable!(),
         }
     }
 
@@ -162,7 +166,7 @@ impl ListPart {
             ListPart::U8(own) => append_words(own, items),
             ListPart::U16(own) => append_words(own, items),
             ListPart::U32(own) => append_words(own, items),
-            ListPart::U64(_) | ListPart::Nest(_) => unreachable!(),
+            ListPart::U64(_) | ListPart::Structs(_) | ListPart::Nest(_) => unreachable!(),
         }
     }
 
@@ -179,6 +183,14 @@ impl ListPart {
             ≡ spare_of_list self.old }
     {
         match self {
+            ListPart::Structs(items) => match push_struct(items, item) {
+                Ok(Some(values)) => {
+                    *self = ListPart::Nest(values);
+                    Ok(())
+                }
+                Ok(None) => Ok(()),
+                Err(e) => Err(e),
+            },
             ListPart::Nest(items) => append_item(items, item),
             _ => match item {
                 Val::Num(n) => self.push_wide(n.kind, n.value),
@@ -201,17 +213,28 @@ impl ListPart {
             *self = later;
             return Ok(());
         }
+        if let ListPart::Structs(items) = self {
+            match join_structs(items, later) {
+                Ok(Some(values)) => {
+                    *self = ListPart::Nest(values);
+                }
+                Ok(None) => {}
+                Err(e) => return Err(e),
+            }
+            return Ok(());
+        }
         match (self, later) {
-            (ListPart::Bool(items), ListPart::Bool(more)) => items.extend_from_slice(&more),
-            (ListPart::I8(items), ListPart::I8(more)) => items.extend_from_slice(&more),
-            (ListPart::I16(items), ListPart::I16(more)) => items.extend_from_slice(&more),
-            (ListPart::I32(items), ListPart::I32(more)) => items.extend_from_slice(&more),
-            (ListPart::I64(items), ListPart::I64(more)) => items.extend_from_slice(&more),
-            (ListPart::U8(items), ListPart::U8(more)) => items.extend_from_slice(&more),
-            (ListPart::U16(items), ListPart::U16(more)) => items.extend_from_slice(&more),
-            (ListPart::U32(items), ListPart::U32(more)) => items.extend_from_slice(&more),
-            (ListPart::U64(items), ListPart::U64(more)) => items.extend_from_slice(&more),
-            (ListPart::Nest(items), ListPart::Nest(mut more)) => items.append(&mut more),
+            (ListPart::Bool(items), ListPart::Bool(more)) => return items.extend_from_slice(&more),
+            (ListPart::I8(items), ListPart::I8(more)) => return items.extend_from_slice(&more),
+            (ListPart::I16(items), ListPart::I16(more)) => return items.extend_from_slice(&more),
+            (ListPart::I32(items), ListPart::I32(more)) => return items.extend_from_slice(&more),
+            (ListPart::I64(items), ListPart::I64(more)) => return items.extend_from_slice(&more),
+            (ListPart::U8(items), ListPart::U8(more)) => return items.extend_from_slice(&more),
+            (ListPart::U16(items), ListPart::U16(more)) => return items.extend_from_slice(&more),
+            (ListPart::U32(items), ListPart::U32(more)) => return items.extend_from_slice(&more),
+            (ListPart::U64(items), ListPart::U64(more)) => return items.extend_from_slice(&more),
+            (ListPart::Nest(items), ListPart::Nest(mut more)) => return items.append(&mut more),
+            (ListPart::Nest(items), ListPart::Structs(more)) => return append_values(items, &more),
             _ => unreachable!(),
         }
     }
@@ -231,6 +254,7 @@ impl ListPart {
             ListPart::U16(items) => Ok(ListPart::U16(Vec::from_slice(alloc, items)?)),
             ListPart::U32(items) => Ok(ListPart::U32(Vec::from_slice(alloc, items)?)),
             ListPart::U64(items) => Ok(ListPart::U64(Vec::from_slice(alloc, items)?)),
+            ListPart::Structs(items) => Ok(ListPart::Structs(items.copy(alloc)?)),
             ListPart::Nest(items) => Ok(ListPart::Nest(copies_of(alloc, items)?)),
         }
     }
@@ -258,6 +282,7 @@ impl ListPart {
             ListPart::U16(items) => Column::U16(Items::from_vec(items)),
             ListPart::U32(items) => Column::U32(Items::from_vec(items)),
             ListPart::U64(items) => Column::U64(Items::from_vec(items)),
+            ListPart::Structs(items) => Column::Structs(items),
             ListPart::Nest(items) => Column::Nest(Vals::from_vec(items)),
         }
     }
@@ -276,6 +301,7 @@ impl ListPart {
             ListPart::U16(items) => items.capacity() - items.len(),
             ListPart::U32(items) => items.capacity() - items.len(),
             ListPart::U64(items) => items.capacity() - items.len(),
+            ListPart::Structs(_) => 0,
             ListPart::Nest(items) => items.capacity() - items.len(),
         }
     }
@@ -297,9 +323,79 @@ impl ListPart {
             ListPart::U16(items) => items.reserve(more),
             ListPart::U32(items) => items.reserve(more),
             ListPart::U64(items) => items.reserve(more),
+            ListPart::Structs(items) => {
+                let mut values = values_of(items)?;
+                values.reserve(more)?;
+                *self = ListPart::Nest(values);
+                Ok(())
+            }
             ListPart::Nest(items) => items.reserve(more),
         }
     }
+}
+
+/// Appends an item to structs of numbers, where it is such a struct; else they are given back as values, the item behind them.
+fn push_struct(items: &mut Structs, item: Val) -> Result<Option<Vec<Val>>, AllocError>
+    ensures { MayGrow result items.old (view_val item ∷ []) items.new }
+{
+    if let Val::Struct(fields) = &item {
+        match items.push(fields.as_slice()) {
+            Ok(true) => return Ok(None),
+            Ok(false) => {}
+            Err(e) => return Err(e),
+        }
+    }
+    let mut values = values_of(items)?;
+    values.push(item)?;
+    Ok(Some(values))
+}
+
+/// Appends the items of a later list, which keeps values or such structs, to structs of numbers, where they are such; else all are
+/// given back as values.
+fn join_structs(items: &mut Structs, later: ListPart) -> Result<Option<Vec<Val>>, AllocError>
+    requires { kind_of_items later ≡ None }
+    ensures { MayGrow result items.old (items_of_list later) items.new }
+{
+    match later {
+        ListPart::Structs(more) => match items.append(&more) {
+            Ok(true) => Ok(None),
+            Ok(false) => {
+                let mut values = values_of(items)?;
+                append_values(&mut values, &more)?;
+                Ok(Some(values))
+            }
+            Err(e) => Err(e),
+        },
+        ListPart::Nest(mut more) => {
+            let mut values = values_of(items)?;
+            values.append(&mut more)?;
+            Ok(Some(values))
+        }
+        _ => unreachable!(),
+    }
+}
+
+/// Appends the values that structs of numbers are.
+fn append_values(values: &mut Vec<Val>, more: &Structs) -> Result<(), AllocError>
+    ensures ok { OnOk result (map view_val values.new.items
+        ≡ map view_val values.old.items ++ more.now) }
+    ensures err { OnErr result (values.new.items ≡ values.old.items) }
+{
+    let mut more = values_of(more)?;
+    values.append(&mut more)
+}
+
+/// The values that structs of numbers are.
+fn values_of(items: &Structs) -> Result<Vec<Val>, AllocError>
+    ensures { IfOk result (λ values. map view_val values.items ≡ items.now) }
+{
+    let alloc = items.allocator();
+    let count = items.len();
+    let mut values = Vec::with_capacity(alloc, count)?;
+    for place in 0..count {
+        values.push(items.copy_at(alloc, place)?)?;
+    }
+    Ok(values)
 }
 
 /// Values that equal these.

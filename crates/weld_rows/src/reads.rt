@@ -149,7 +149,7 @@ fn lent_in_slot<'a>(field: u32, slot: Slot<'a>) -> Option<Held<'a>>
     ensures { IsLentAs result (one_thing (field_form field) (slot_thing slot.entry)) }
 {
     match slot {
-        Slot::Row(row) => Some(lent_element(row.field(field))),
+        Slot::Row(row) => lent_element(row.field(field)),
         Slot::Value(v) => Some(Held::Lent(field_of(v, field))),
         Slot::Number(_) => None,
         Slot::Builder(_) => None,

@@ -30,18 +30,19 @@ use Rattle.weld_data.proofs.value.Pairs.TheLaws.TheKnot
 use Rattle.std.specs.contracts.result.Result as Result
 use Rattle.weld_data.specs.contracts.stop.Stop as Stop
 use Rattle.weld_data.proofs.stop.Stop.TheSendSync as StopSends
+use Rattle.weld_data.proofs.structs.Structs.TheSendSync as StructLists
 use Rattle.weld_tiles.proofs.tile.Tile.TheSendSync as TileSends
 use Rattle.weld_tile_parts.specs.contracts.piece.TilePart as TilePart
 use Rattle.weld_tile_parts.proofs.mark.Mark.TheSendSync as MarkSends
 
 val_send : IsSend Val.the_row
-val_send = search (Crossing.crosses, TheKnot.crosses, sendable) depth 60 fits 100000
+val_send = search (Crossing.crosses, TheKnot.crosses, StructLists.the_send, sendable) depth 60 fits 100000
 
 vals_send : IsSend Vals.the_row
-vals_send = search (Crossing.crosses, TheKnot.crosses, sendable) depth 60 fits 100000
+vals_send = search (Crossing.crosses, TheKnot.crosses, StructLists.the_send, sendable) depth 60 fits 100000
 
 list_send : IsSend ListPart.the_row
-list_send = search (Crossing.crosses, val_send, sendable) depth 60 fits 100000
+list_send = search (Crossing.crosses, val_send, StructLists.the_send, sendable) depth 60 fits 100000
 
 key_send : IsSend Key.the_row
 key_send = view_send _ _ _ _ _ (declared_send KeyInside.the_type ((search sendable), (val_send, tt)))
@@ -82,7 +83,7 @@ built_send : IsSend Built.the_row
 built_send = view_send _ _ _ _ _ (declared_send BuiltInside.the_type (state_send, tt))
 
 pub owned_send : IsSend Owned.the_row
-owned_send = search (Crossing.crosses, FieldsKnot.crosses, TheKnot.crosses, built_send, vals_send, sendable) depth 60 fits 100000
+owned_send = search (Crossing.crosses, FieldsKnot.crosses, TheKnot.crosses, built_send, vals_send, StructLists.the_send, sendable) depth 60 fits 100000
 
 pub part_send : IsSend TilePart.the_row
 part_send = declared_send TilePart.the_type (TileSends.the_send, (owned_send, (MarkSends.the_send, tt)))

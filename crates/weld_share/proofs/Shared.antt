@@ -39,6 +39,7 @@ use Rattle.weld_share.specs.contracts.sharing.Batch as Batch
 use Rattle.weld_tiles.proofs.tile.Tile.TheSendSync as TileSends
 use Rattle.weld_data.proofs.op.BinOp.TheSendSync as BinOps
 use Rattle.weld_data.proofs.num.Num.TheSendSync as Nums
+use Rattle.weld_data.proofs.structs.Structs.TheSendSync as StructLists
 use Rattle.weld_data.proofs.text.Text.TheSendSync as Texts
 use Rattle.weld_data.proofs.items.Items.TheSendSync as ItemLists
 use Rattle.weld_meaning.proofs.loop_id.LoopId.TheSendSync as LoopIds
@@ -55,13 +56,13 @@ use Rattle.weld_tree.proofs.expr.Expr.TheLaws.TheKnot as ExprKnot
 use Rattle.weld_tree.proofs.ty.Ty.TheLaws.TheKnot as TypeKnot
 
 val_sync : IsSync Val.the_row
-val_sync = search (Crossing.crosses, TheKnot.crosses, sendable) depth 60 fits 100000
+val_sync = search (Crossing.crosses, TheKnot.crosses, StructLists.the_sync, sendable) depth 60 fits 100000
 
 vals_sync : IsSync Vals.the_row
-vals_sync = search (Crossing.crosses, TheKnot.crosses, sendable) depth 60 fits 100000
+vals_sync = search (Crossing.crosses, TheKnot.crosses, StructLists.the_sync, sendable) depth 60 fits 100000
 
 list_sync : IsSync ListPart.the_row
-list_sync = search (Crossing.crosses, val_sync, sendable) depth 60 fits 100000
+list_sync = search (Crossing.crosses, val_sync, StructLists.the_sync, sendable) depth 60 fits 100000
 
 key_sync : IsSync Key.the_row
 key_sync = view_sync _ _ _ _ _ (declared_sync KeyInside.the_type ((search sendable), (val_sync, tt)))
@@ -102,10 +103,10 @@ built_sync : IsSync Built.the_row
 built_sync = view_sync _ _ _ _ _ (declared_sync BuiltInside.the_type (state_sync, tt))
 
 owned_sync : IsSync Owned.the_row
-owned_sync = search (Crossing.crosses, FieldsKnot.crosses, TheKnot.crosses, built_sync, vals_sync, sendable) depth 60 fits 100000
+owned_sync = search (Crossing.crosses, FieldsKnot.crosses, TheKnot.crosses, built_sync, vals_sync, StructLists.the_sync, sendable) depth 60 fits 100000
 
 fields_sync : IsSync Fields.the_row
-fields_sync = search (Crossing.crosses, FieldsKnot.crosses, TheKnot.crosses, built_sync, vals_sync, sendable) depth 60 fits 100000
+fields_sync = search (Crossing.crosses, FieldsKnot.crosses, TheKnot.crosses, built_sync, vals_sync, StructLists.the_sync, sendable) depth 60 fits 100000
 
 named_sync : IsSync Named.the_row
 named_sync = declared_sync Named.the_type (Syms.the_sync, (owned_sync, tt))

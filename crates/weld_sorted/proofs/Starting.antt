@@ -99,6 +99,7 @@ starts_stand (val.List (column.I8 xs)) (val.List (column.U8 ys)) s t p q h g dif
 starts_stand (val.List (column.I8 xs)) (val.List (column.U16 ys)) s t p q h g differ = absurd q
 starts_stand (val.List (column.I8 xs)) (val.List (column.U32 ys)) s t p q h g differ = absurd q
 starts_stand (val.List (column.I8 xs)) (val.List (column.U64 ys)) s t p q h g differ = absurd q
+starts_stand (val.List (column.I8 xs)) (val.List (column.Structs ys)) s t p q h g differ = absurd q
 starts_stand (val.List (column.I8 xs)) (val.List (column.Nest ys)) s t p q h g differ = absurd q
 starts_stand (val.Num m) b s t p q h g differ = absurd p
 starts_stand (val.Struct xs) b s t p q h g differ = absurd p
@@ -111,6 +112,7 @@ starts_stand (val.List (column.U8 xs)) b s t p q h g differ = absurd p
 starts_stand (val.List (column.U16 xs)) b s t p q h g differ = absurd p
 starts_stand (val.List (column.U32 xs)) b s t p q h g differ = absurd p
 starts_stand (val.List (column.U64 xs)) b s t p q h g differ = absurd p
+starts_stand (val.List (column.Structs xs)) b s t p q h g differ = absurd p
 starts_stand (val.List (column.Nest xs)) b s t p q h g differ = absurd p
 
 -- ---- the number is made digit by digit

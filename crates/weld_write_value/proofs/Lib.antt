@@ -1,1 +1,2 @@
+mod StructTexts
 mod Texts

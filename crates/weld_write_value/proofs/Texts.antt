@@ -15,14 +15,14 @@ use Rattle.weld_tree.specs.HasValue.{HasValue, HaveValues, AllAre, AllEntriesAre
 use Rattle.weld_write_value.specs.Showing.{IsI8}
 use Rattle.weld_write_value.specs.Showing.{shown_scalar, led, shown_list, shown_byte, shown_item, strung, shown_elements, led_entries, shown_entries, show, show_fields}
 
-some_is : {A : Type 0} (x y : A) → Some x ≡ Some y → x ≡ y
+pub some_is : {A : Type 0} (x y : A) → Some x ≡ Some y → x ≡ y
 some_is x y e = cc
 
-none_is : {A : Type 0} (x : A) → None ≡ Some x → ⊥
+pub none_is : {A : Type 0} (x : A) → None ≡ Some x → ⊥
 none_is x e = cc
 
 -- a number of a type is shown as a scalar
-number_shown : (t : TypeTree) (v : Value) → HasValue t v → IsNumber v → show t v ≡ shown_scalar v
+pub number_shown : (t : TypeTree) (v : Value) → HasValue t v → IsNumber v → show t v ≡ shown_scalar v
 number_shown (scalar k) v h n = refl
 number_shown (vec t) (number k x) h n = absurd h
 number_shown (vec t) (list vs) h n = absurd n

@@ -11,6 +11,7 @@ ghost use Rattle.weld_tree.specs.HasValue.{HasValue, HaveValues, AllAre, AllEntr
 ghost use Rattle.weld_write_value.specs.Showing.{IsI8, shown_scalar, shown_number, shown_list, shown_byte, hex_of, strung, shown_elements, shown_entries, show, show_fields, ShowValue};
 
 use crate::cell::Cell;
+use crate::structs::write_structs;
 use itoa::Buffer;
 use std::alloc::{AllocError, Global};
 use weld_data::{Column, Kind, Num, Pairs, Text, Val, Vals};
@@ -98,7 +99,7 @@ fn write_string(column: &Column, out: &mut Text) -> Result<(), AllocError>
 }
 
 /// Appends a number.
-fn write_number(number: Num, out: &mut Text) -> Result<(), AllocError>
+pub(crate) fn write_number(number: Num, out: &mut Text) -> Result<(), AllocError>
     ensures { OnOk result (out.new ≡ out.old ++ shown_number number.kind number.value) }
 {
     match number.kind {
@@ -158,6 +159,7 @@ fn write_column(item: &Ty, column: &Column, out: &mut Text) -> Result<(), AllocE
         Column::U16(items) => write_cells(items.as_slice(), out),
         Column::U32(items) => write_cells(items.as_slice(), out),
         Column::U64(items) => write_cells(items.as_slice(), out),
+        Column::Structs(items) => write_structs(item, items, out),
         Column::Nest(items) => write_nested(item, items.as_slice(), out),
     }
 }

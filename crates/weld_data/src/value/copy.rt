@@ -38,6 +38,7 @@ impl Column {
             Column::U16(items) => Ok(Column::U16(Items::copy_of(alloc, items.as_slice())?)),
             Column::U32(items) => Ok(Column::U32(Items::copy_of(alloc, items.as_slice())?)),
             Column::U64(items) => Ok(Column::U64(Items::copy_of(alloc, items.as_slice())?)),
+            Column::Structs(items) => Ok(Column::Structs(items.copy(alloc)?)),
             Column::Nest(items) => Ok(Column::Nest(items.copy(alloc)?)),
         }
     }

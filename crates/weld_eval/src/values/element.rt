@@ -2,7 +2,8 @@
 
 ghost use Rattle.std.specs.Prelude.{◌≡◌, ◌<◌, length as length_of, slice_get, Some, IfOk};
 ghost use Rattle.weld_data.specs.Order.{IsNumber};
-ghost use Rattle.weld_data.specs.View.{view_val, view_column};
+ghost use Rattle.weld_data.specs.Value.{number};
+ghost use Rattle.weld_data.specs.View.{view_val, view_column, view_packed};
 ghost use Rattle.weld_builders.specs.Outcome.{done};
 ghost use Rattle.weld_meaning.specs.Evaluation.{looked_up, has_key as has_key_value, truth_value};
 ghost use Rattle.weld_meaning.specs.Thing.{value_field};
@@ -10,12 +11,13 @@ ghost use Rattle.weld_eval.specs.Answers.{Answers, IsSure};
 ghost use Rattle.weld_eval.specs.Elements.{view_element, PlaceAnswer};
 ghost use Rattle.weld_eval.specs.Fits.{IsLookUp, IsKeyLookUp, HasField};
 
-use weld_data::{Column, Num, Stop, Val};
+use weld_data::{Column, Num, Packed, Stop, Val};
 
-/// An element of a vector or a dictionary: lent where it stands, or a number.
+/// An element of a vector or a dictionary: lent where it stands, a number, or a struct of numbers where it stands.
 pub enum Element<'a> {
     Lent(&'a Val),
     Number(Num),
+    Packed(Packed<'a>),
 }
 
 /// The element at a place, from 0. It takes no memory.
@@ -33,6 +35,7 @@ pub fn element_of<'a>(column: &'a Column, place: usize) -> Element<'a>
         Column::U16(items) => Element::Number(Num::of_u16(items.as_slice()[place])),
         Column::U32(items) => Element::Number(Num::of_u32(items.as_slice()[place])),
         Column::U64(items) => Element::Number(Num::of_u64(items.as_slice()[place])),
+        Column::Structs(items) => Element::Packed(items.at(place)),
         Column::Nest(items) => Element::Lent(items.at(place)),
     }
 }
@@ -83,6 +86,19 @@ pub fn has_key(v: &Val, w: &Val) -> bool
     match v {
         Val::Dict(pairs) => pairs.contains_key(w),
         _ => unreachable!(),
+    }
+}
+
+/// The number in the field of a struct of numbers, from 0. It takes no memory.
+#[inline(always)]
+#[tactic(auto, using(crate::proofs::PackedLemmas::field_there, crate::proofs::PackedLemmas::field_ends))]
+pub fn field_of_packed(row: Packed, field: u32) -> Num
+    requires { HasField field (view_packed row) }
+    ensures { value_field field (view_packed row.entry) ≡ done (number result.kind result.value) }
+{
+    match row.number(field as usize) {
+        Some(n) => n,
+        None => unreachable!(),
     }
 }
 

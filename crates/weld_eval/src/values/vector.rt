@@ -11,7 +11,7 @@ ghost use Rattle.weld_eval.specs.Bounds.{NumberCount, CountAnswer, BoundsAnswer,
 ghost use Rattle.weld_eval.specs.Fits.{IsList, IsPlaceNumber};
 
 use std::alloc::{AllocError, Global};
-use weld_data::{Column, I8s, Items, Stop, Text, Val, Vals};
+use weld_data::{Column, I8s, Items, Stop, Structs, Text, Val, Vals};
 
 /// The bytes of a string as a vector of numbers of kind i8.
 pub fn bytes_of(alloc: Global, text: &Text) -> Result<Val, AllocError>
@@ -85,6 +85,7 @@ fn elements_from(
         Column::U16(items) => Ok(Column::U16(items_from(alloc, items, start, count)?)),
         Column::U32(items) => Ok(Column::U32(items_from(alloc, items, start, count)?)),
         Column::U64(items) => Ok(Column::U64(items_from(alloc, items, start, count)?)),
+        Column::Structs(items) => Ok(Column::Nest(structs_from(alloc, items, start, count)?)),
         Column::Nest(items) => Ok(Column::Nest(values_from(alloc, items, start, count)?)),
     }
 }
@@ -120,6 +121,26 @@ fn values_from(alloc: Global, items: &Vals, start: usize, count: usize) -> Resul
     let mut part = Vals::new(alloc);
     for place in 0..count {
         let copy = items.at(start + place).copy(alloc)?;
+        part.push(copy)?;
+    }
+    Ok(part)
+}
+
+/// The structs of numbers from a place on, copied as values.
+#[tactic(auto, using(crate::proofs::VectorLemmas::copied_one))]
+fn structs_from(
+    alloc: Global,
+    items: &Structs,
+    start: usize,
+    count: usize,
+) -> Result<Vals, AllocError>
+    requires { start + count ≤ length_of items.now }
+    ensures { IfOk result (λ part. part ≡ take count (drop start items.now)) }
+{
+    let _length = items.len();
+    let mut part = Vals::new(alloc);
+    for place in 0..count {
+        let copy = items.copy_at(alloc, start + place)?;
         part.push(copy)?;
     }
     Ok(part)

@@ -54,7 +54,7 @@ fn append_column(
 {
     match column {
         Column::Bool(items) => append_many(rt, alloc, items.as_slice(), workers, out),
-        Column::I8(_) | Column::Nest(_) => Ok(false),
+        Column::I8(_) | Column::Structs(_) | Column::Nest(_) => Ok(false),
         Column::I16(items) => append_many(rt, alloc, items.as_slice(), workers, out),
         Column::I32(items) => append_many(rt, alloc, items.as_slice(), workers, out),
         Column::I64(items) => append_many(rt, alloc, items.as_slice(), workers, out),

@@ -1,4 +1,4 @@
-use Rattle.std.proofs.Common.{◌+◌, ◌-◌, ◌*◌, ◌++◌, length, suc, ap, sym, ◌∙◌, arith}
+use Rattle.std.proofs.Common.{◌+◌, ◌-◌, ◌*◌, ◌++◌, length, ap, sym, ◌∙◌, arith}
 use Rattle.weld_data.specs.View.{view_val, view_column}
 use Rattle.weld_meaning.specs.Evaluation.{picked}
 use Rattle.weld_eval.proofs.VectorLemmas.{pick_one, place_next, next_place, one_fewer}

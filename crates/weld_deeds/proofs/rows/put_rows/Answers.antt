@@ -1,0 +1,8 @@
+use Rattle.std.proofs.Common.{ap, refl}
+use Rattle.weld_eval.specs.ThingView.{thing_of}
+use Rattle.weld_deeds.proofs.RowLemmas.{rows_done}
+use Rattle.weld_deeds.proofs.rows.put_rows.Goals as goal
+
+pub returns-in-Built : goal.returns-in-Built
+returns-in-Built c =
+    rows_done c.append_rows.result c.args.columns.now.items c.deref.result.now c.args.count (thing_of c.args.builder.now) _ c.in-Built.built c.append_rows.new.built c.deref.ensures.value (ap thing_of c.in-Built.is) refl c.append_rows.ensures
