@@ -15,9 +15,9 @@ use crate::fitting::number_of;
 use crate::groups::join_groups;
 use crate::keyed::join_keyed;
 use crate::list;
-use crate::own::Own;
+use crate::own::{Own, own_into};
 use crate::pairs::{pair_into, pairs_into, values_into};
-use crate::rows::push_rows;
+use crate::rows::rows_into;
 use crate::totals::merge_fields;
 use std::alloc::{AllocError, Global};
 use std::marker::Model;
@@ -402,48 +402,6 @@ fn numbers_into(state: &mut State, kind: Kind, items: &[i64]) -> Result<(), Stop
             Err(_) => return Err(Stop::Memory),
         },
         _ => unreachable!(),
-    }
-}
-
-/// Appends numbers in the width of their kind.
-#[tactic(auto, using(crate::proofs::ManyLemmas::merged_list))]
-fn own_into<T: Own>(state: &mut State, numbers: &[T]) -> Result<bool, AllocError>
-    requires { IsState state.old }
-    ensures answer { MayAppend result (part_of_state state.old)
-        (λ all. merge_all (part_of_state state.old) (map T.value numbers.now) ≡ done all)
-        (part_of_state state.new) }
-    ensures state { IsState state.new }
-{
-    match state {
-        State::List(_, list) => match T::append(list, numbers) {
-            Ok(told) => return Ok(told),
-            Err(e) => return Err(e),
-        },
-        _ => return Ok(false),
-    }
-}
-
-/// Appends structs of numbers.
-#[tactic(auto, using(crate::proofs::ManyLemmas::merged_list))]
-fn rows_into(
-    state: &mut State,
-    kinds: &[Kind],
-    numbers: &[i64],
-    count: usize,
-) -> Result<bool, AllocError>
-    requires state { IsState state.old }
-    requires structs { AreKeptStructs count kinds.now numbers.now }
-    ensures answer { MayAppend result (part_of_state state.old)
-        (λ all. merge_all (part_of_state state.old) (structs_in count kinds.now numbers.now)
-        ≡ done all) (part_of_state state.new) }
-    ensures state { IsState state.new }
-{
-    match state {
-        State::List(alloc, list) => match push_rows(*alloc, list, kinds, numbers, count) {
-            Ok(()) => return Ok(true),
-            Err(e) => return Err(e),
-        },
-        _ => return Ok(false),
     }
 }
 

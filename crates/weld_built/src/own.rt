@@ -1,9 +1,13 @@
 //! Numbers in the width of their kind, appended to the array of a list that keeps them so.
 
-ghost use Rattle.std.specs.Prelude.{pos};
+ghost use Rattle.std.specs.Prelude.{◌≡◌, map, pos};
+ghost use Rattle.weld_builders.specs.Outcome.{done};
+ghost use Rattle.weld_built.specs.Merges.{merge_all, MayAppend};
+ghost use Rattle.weld_built.specs.State.{part_of_state, IsState};
 ghost use Rattle.weld_data.specs.Value.{number};
 ghost use Rattle.weld_data.specs.declared.kind.Kind.TheVariants as kinds;
 
+use crate::built::State;
 use std::alloc::AllocError;
 use weld_pieces::ListPart;
 
@@ -62,5 +66,23 @@ impl Own for u32 {
             },
             _ => Ok(false),
         }
+    }
+}
+
+/// Appends numbers in the width of their kind to a builder, where it is a list that keeps such.
+#[tactic(auto, using(crate::proofs::ManyLemmas::merged_list))]
+pub(crate) fn own_into<T: Own>(state: &mut State, numbers: &[T]) -> Result<bool, AllocError>
+    requires { IsState state.old }
+    ensures answer { MayAppend result (part_of_state state.old)
+        (λ all. merge_all (part_of_state state.old) (map T.value numbers.now) ≡ done all)
+        (part_of_state state.new) }
+    ensures state { IsState state.new }
+{
+    match state {
+        State::List(_, list) => match T::append(list, numbers) {
+            Ok(told) => return Ok(told),
+            Err(e) => return Err(e),
+        },
+        _ => return Ok(false),
     }
 }

@@ -1,22 +1,50 @@
 //! Structs of numbers as the items of a list, which keeps them by their numbers.
 
 ghost use Rattle.std.specs.Prelude.{◌≡◌, ◌<◌, ◌∷◌, ◌++◌, [], length, zip, get_or, pos, None, IfOk, OnOk};
+ghost use Rattle.weld_builders.specs.Outcome.{done};
 ghost use Rattle.weld_builders.specs.Range.{AllInRange};
 ghost use Rattle.weld_data.specs.Kind.{IsNarrow, InRange};
 ghost use Rattle.weld_data.specs.Structs.{structs_in, AreKeptStructs};
 ghost use Rattle.weld_data.specs.Value.{number};
 ghost use Rattle.weld_pieces.specs.Items.{items_of_list, kind_of_items};
+ghost use Rattle.weld_built.specs.Merges.{merge_all, MayAppend};
 ghost use Rattle.weld_built.specs.Pair.{pair, number_pairs};
 ghost use Rattle.weld_built.specs.Rows.{interleaved};
+ghost use Rattle.weld_built.specs.State.{part_of_state, IsState};
 
+use crate::built::State;
 use crate::fitting::number_of;
 use crate::list::{join_lists, push_pair};
 use std::alloc::{AllocError, Global};
 use weld_data::{Kind, Structs};
 use weld_pieces::ListPart;
 
+/// Appends so many structs of numbers to a builder, where it is a list.
+#[tactic(auto, using(crate::proofs::ManyLemmas::merged_list))]
+pub(crate) fn rows_into(
+    state: &mut State,
+    kinds: &[Kind],
+    numbers: &[i64],
+    count: usize,
+) -> Result<bool, AllocError>
+    requires state { IsState state.old }
+    requires structs { AreKeptStructs count kinds.now numbers.now }
+    ensures answer { MayAppend result (part_of_state state.old)
+        (λ all. merge_all (part_of_state state.old) (structs_in count kinds.now numbers.now)
+        ≡ done all) (part_of_state state.new) }
+    ensures state { IsState state.new }
+{
+    match state {
+        State::List(alloc, list) => match push_rows(*alloc, list, kinds, numbers, count) {
+            Ok(()) => return Ok(true),
+            Err(e) => return Err(e),
+        },
+        _ => return Ok(false),
+    }
+}
+
 /// Appends so many structs of these kinds, whose numbers stand one after another.
-pub(crate) fn push_rows(
+fn push_rows(
     alloc: Global,
     list: &mut ListPart,
     kinds: &[Kind],

@@ -124,7 +124,8 @@ impl Structs {
     /// Appends the struct of these fields, where they are numbers of the list's kinds; tells whether it did. Else nothing
     /// changes.
     pub fn push(&mut self, fields: &[Val]) -> Result<bool, AllocError>
-        ensures { MayTake result self.old (struct (values (map view_val fields.now)) ∷ []) self.new }
+        ensures { MayTake result self.old (struct (values (map view_val fields.now)) ∷ [])
+            self.new }
     {
         push_in(&mut self.kept, fields)
     }
@@ -348,7 +349,8 @@ fn number_of(kind: Kind, x: i64) -> Num
 
 /// Whether each value is a number that lies within an i64 by its kind. It takes no memory.
 fn are_numbers(fields: &[Val]) -> bool
-    ensures { result ≡ true → FitKinds (kinds_of (map view_val fields.now)) (map view_val fields.now) }
+    ensures { result ≡ true → FitKinds (kinds_of (map view_val fields.now))
+        (map view_val fields.now) }
 {
     match fields.split_first() {
         None => true,

@@ -32,9 +32,9 @@ use weld_eval::legs::Legs;
 use weld_eval::thing::Owned;
 use weld_tree::{Expr, Form, LeafForm, ManyForm, ThreeForm, TwoForm};
 
-/// What the body of a loop does on so many rows from one on, where all that it merges is numbers, or structs and vectors
-/// of such, which `numbers` works out; it merges into its own builder, into fields of it, or as `if` chooses. There is none where there is
-/// no memory for it.
+/// What the body of a loop does on so many rows from one on, where all that it merges is numbers, structs and vectors of
+/// such, which `numbers` works out, or strings that are written out; it merges into its own builder, into fields of it, or as
+/// `if` chooses. There is none where there is no memory for it.
 pub fn block_of(
     e: &Expr,
     frame: &Frame,

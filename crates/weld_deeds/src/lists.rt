@@ -88,8 +88,7 @@ pub(crate) fn put_list(
     }
 }
 
-/// The vector of the numbers at a place: in the width of their kind where they are of one whose numbers lie within an i64, with
-/// room for these alone.
+/// The vector of the numbers at a place: in the width of their kind where they are of one whose numbers lie within an i64.
 fn list_of_row(columns: &[Numbers], place: usize, alloc: Global) -> Result<Val, AllocError>
     requires { AreLonger columns.now place }
     ensures { IfOk result (λ v. list_at columns.now place ≡ view_val v) }
