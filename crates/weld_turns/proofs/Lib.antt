@@ -1,5 +1,7 @@
 mod Copying
 mod Fillings
+mod Following
+mod LowerLemmas
 mod Making
 mod Outside
 mod Runs

@@ -1,15 +1,23 @@
 -- Turn after turn.
-use Rattle.std.proofs.Common.{◌≡◌, ℕ, suc, ◌+◌, ◌-◌, ◌<◌, ◌≤◌, ◌∷◌, Bool, true, false, if◌then◌else◌, List, [], length, set, refl, ap, sym, subst, ◌∙◌, arith}
+use Rattle.std.proofs.Common.{◌≡◌, ℕ, suc, ◌+◌, ◌-◌, ◌<◌, ◌≤◌, ◌∷◌, Bool, true, false, if◌then◌else◌, List, [], Option, Some, None, IfSome, Result, length, set, refl, ap, sym, subst, ◌∙◌, arith}
 use Rattle.weld_data.specs.Value.{Value}
 use Rattle.weld_built.specs.Pair.{pair}
 use Rattle.weld_tree.specs.ExprTree.{ExprTree}
-use Rattle.weld_builders.specs.Outcome.{Outcome, done, fault, and_then}
-use Rattle.weld_meaning.specs.Evaluation.{Env, eval, next_turn, truth_of, turns, turn_limit, value_out}
+use Rattle.weld_builders.specs.Outcome.{Outcome, done, fault, stuck, and_then, map_out}
+use Rattle.weld_meaning.specs.Evaluation.{Env, eval, next_turn, truth_of, truth_value, turns, turn_limit, value_out}
 use Rattle.weld_eval.specs.ShortView.{view_short}
 use Rattle.weld_eval.specs.declared.short.Short.{Short}
 use Rattle.weld_turns.specs.CodeView.{Slots, shape_value, slots_of, turn_value}
 use Rattle.weld_turns.specs.Scopes.{AreBelow, TurnMeans, room_of, with_scope}
-use Rattle.weld_turns.specs.States.{next_of, Follows, IsFollowed}
+use Rattle.weld_turns.specs.States.{next_of, Follows, IsFollowed, IsFollowedBy, RunsOn, StepsRunOn}
+use Rattle.weld_turns.specs.Lowering.{Lowers, Meaning, settle, settled}
+use Rattle.weld_turns.specs.StepView.{Words, shown, step_value}
+use Rattle.weld_turns.specs.declared.step.Step.{Step}
+use Rattle.weld_eval.specs.Answers.{Answers}
+use Rattle.weld_eval.specs.ThingView.{held_of}
+use Rattle.weld_eval.specs.declared.thing.Held.{Held}
+use Rattle.weld_data.specs.declared.stop.Stop.{Stop}
+use Rattle.weld_meaning.specs.Thing.{plain, value_field}
 use Rattle.weld_turns.specs.declared.code.Place.{Place}
 use Rattle.weld_turns.specs.declared.code.Shape.{Shape}
 use Rattle.weld_turns.specs.declared.code.Shape.TheVariants.{One, Pair}
@@ -59,6 +67,66 @@ faults t shape f g i h is e =
 
 pub exceeds : (v : Value) (g : Value → Outcome Value) (i : ℕ) → 1000000 ≤ i → turns (turn_limit - i) v g ≡ fault
 exceeds v g i h = ap (λ n. turns n v g) (none_left i h)
+
+-- ---- turns that go on elsewhere
+
+pub carries_on : (r : Result Held Stop) (t : Turn) (shape : Shape) (f h : Slots) (i : ℕ) → i ≡ 8 → RunsOn r t shape h (turn_limit - 8)
+    → ((g : Value → Outcome Value) → IsFollowed t shape g → turns turn_limit (shape_value shape 0 f) g ≡ turns (turn_limit - i) (shape_value shape 0 h) g) → RunsOn r t shape f turn_limit
+carries_on r t shape f h i e on same g is =
+    subst (λ (o : Outcome Value). Answers held_of r (map_out plain o)) (sym (same g is ∙ ap (λ n. turns (turn_limit - n) (shape_value shape 0 h) g) e)) (on g is)
+
+next_settled : (a b : Outcome Value) (go : Value → Outcome Value)
+    → and_then a (λ s. and_then b (λ u. and_then (truth_of u) (λ (c : Bool). if c then go s else done s)))
+    ≡ and_then (and_then a (λ s. and_then b (λ u. and_then (truth_of u) (λ (c : Bool). done (pair s (truth_value c)))))) (λ w. next_turn w go)
+next_settled (done s) (done u) go = by (truth_of u)
+  where
+    by : (o : Outcome Bool) → and_then o (λ (c : Bool). if c then go s else done s) ≡ and_then (and_then o (λ (c : Bool). done (pair s (truth_value c)))) (λ w. next_turn w go)
+    by (done true) = refl
+    by (done false) = refl
+    by fault = refl
+    by stuck = refl
+next_settled (done s) fault go = refl
+next_settled (done s) stuck go = refl
+next_settled fault b go = refl
+next_settled stuck b go = refl
+
+settled_next : (o : Outcome Value) (go : Value → Outcome Value) → and_then o (λ w. next_turn w go) ≡ and_then (and_then o settle) (λ w. next_turn w go)
+settled_next (done v) go = next_settled (value_field 0 v) (value_field 1 v) go
+settled_next fault go = refl
+settled_next stuck go = refl
+
+stepped : (t : Step) (shape : Shape) (w : Words) (g : Value → Outcome Value) (i : ℕ) → i < 1000000 → IsFollowedBy t shape g
+    → turns (turn_limit - i) (shape_value shape 0 (shown w)) g ≡ and_then (step_value t shape w) (λ v. next_turn v (λ state. turns (turn_limit - (i + 1)) state g))
+stepped t shape w g i h is =
+    unrolled i (shape_value shape 0 (shown w)) g h ∙ settled_next (g (shape_value shape 0 (shown w))) (λ state. turns (turn_limit - (i + 1)) state g)
+    ∙ ap (λ (o : Outcome Value). and_then o (λ v. next_turn v (λ state. turns (turn_limit - (i + 1)) state g))) (is w)
+
+stepped_by : (t : Step) (shape : Shape) (w u : Words) (g : Value → Outcome Value) (i : ℕ) (v : Value) (b : Bool) → i < 1000000 → IsFollowedBy t shape g → step_value t shape w ≡ done (pair (shape_value shape 0 (shown u)) v) → truth_of v ≡ done b
+    → turns (turn_limit - i) (shape_value shape 0 (shown w)) g ≡ (if b then turns (turn_limit - (i + 1)) (shape_value shape 0 (shown u)) g else done (shape_value shape 0 (shown u)))
+stepped_by t shape w u g i v b h is e q =
+    stepped t shape w g i h is ∙ ap (λ (o : Outcome Value). and_then o (λ x. next_turn x (λ state. turns (turn_limit - (i + 1)) state g))) e
+    ∙ next_by (shape_value shape 0 (shown u)) v b (λ state. turns (turn_limit - (i + 1)) state g) q
+
+pub steps_go_on : (t : Step) (shape : Shape) (w u : Words) (g : Value → Outcome Value) (i : ℕ) (v : Value) → i < 1000000 → IsFollowedBy t shape g → step_value t shape w ≡ done (pair (shape_value shape 0 (shown u)) v) → truth_of v ≡ done true
+    → turns (turn_limit - i) (shape_value shape 0 (shown w)) g ≡ turns (turn_limit - (i + 1)) (shape_value shape 0 (shown u)) g
+steps_go_on t shape w u g i v h is e q = stepped_by t shape w u g i v true h is e q
+
+pub steps_end : (t : Step) (shape : Shape) (w u : Words) (g : Value → Outcome Value) (i : ℕ) (v : Value) → i < 1000000 → IsFollowedBy t shape g → step_value t shape w ≡ done (pair (shape_value shape 0 (shown u)) v) → truth_of v ≡ done false
+    → turns (turn_limit - i) (shape_value shape 0 (shown w)) g ≡ done (shape_value shape 0 (shown u))
+steps_end t shape w u g i v h is e q = stepped_by t shape w u g i v false h is e q
+
+pub steps_fault : (t : Step) (shape : Shape) (w : Words) (g : Value → Outcome Value) (i : ℕ) → i < 1000000 → IsFollowedBy t shape g → step_value t shape w ≡ fault → turns (turn_limit - i) (shape_value shape 0 (shown w)) g ≡ fault
+steps_fault t shape w g i h is e = stepped t shape w g i h is ∙ ap (λ (o : Outcome Value). and_then o (λ x. next_turn x (λ state. turns (turn_limit - (i + 1)) state g))) e
+
+lowered_runs : (r : Result Held Stop) (t : Turn) (s : Step) (shape : Shape) (f : Slots) (w : Words) (whole : Meaning) (left : ℕ) → whole ≡ settled t → Lowers s whole → shape_value shape 0 (shown w) ≡ shape_value shape 0 f → StepsRunOn r s shape w left → RunsOn r t shape f left
+lowered_runs r t s shape f w whole left e lowers state on g is =
+    subst (λ (v : Value). Answers held_of r (map_out plain (turns left v g))) state
+    (on g (λ u. ap (λ (o : Outcome Value). and_then o settle) (is (shown u)) ∙ ap (λ (m : Meaning). m shape (shown u)) (sym e) ∙ lowers shape (shown u) u (λ i h. refl)))
+
+pub lowered_some : (o : Option (Result Held Stop)) (t : Turn) (s : Step) (shape : Shape) (f : Slots) (w : Words) (whole : Meaning) (left : ℕ) → whole ≡ settled t → Lowers s whole → shape_value shape 0 (shown w) ≡ shape_value shape 0 f
+    → IfSome o (λ r. StepsRunOn r s shape w left) → IfSome o (λ r. RunsOn r t shape f left)
+lowered_some (Some r) t s shape f w whole left e lowers state on = lowered_runs r t s shape f w whole left e lowers state on
+lowered_some None t s shape f w whole left e lowers state on = on
 
 -- ---- the state that the turns start with
 

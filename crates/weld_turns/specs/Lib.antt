@@ -2,6 +2,8 @@ pub mod Answers
 pub mod CodeSize
 pub mod CodeView
 pub mod Fillings
+pub mod Lowering
 pub mod Outside
 pub mod Scopes
 pub mod States
+pub mod StepView

@@ -4,12 +4,17 @@
 pub mod code;
 mod copies;
 mod fill;
+mod lower;
+mod lower_code;
 mod make;
 mod make_turn;
 mod outer;
+mod rest;
 mod run;
+mod run_steps;
 mod scope;
 mod slots;
+mod step;
 mod turns;
 mod words;
 

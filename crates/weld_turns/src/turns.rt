@@ -1,7 +1,9 @@
 //! The turns of an `iterate` whose state is a number or a struct of two and whose body is numbers. Its code is made once,
 //! before the first turn; no turn takes memory.
 
-ghost use Rattle.std.specs.Prelude.{◌≡◌, [], ◌∷◌, IfOk, IfSome};
+ghost use Rattle.std.specs.Prelude.{◌≡◌, ◌-◌, [], ◌∷◌, true, IfOk, IfSome};
+ghost use Rattle.weld_data.specs.declared.kind.Kind.TheVariants as kinds;
+ghost use Rattle.weld_data.specs.Value.{number};
 ghost use Rattle.weld_data.specs.View.{view_val};
 ghost use Rattle.weld_builders.specs.Outcome.{done};
 ghost use Rattle.weld_built.specs.Pair.{pair};
@@ -14,15 +16,20 @@ ghost use Rattle.weld_eval_plain.specs.Turns.{turns_from};
 ghost use Rattle.weld_meaning.specs.Evaluation.{turn_limit};
 ghost use Rattle.weld_meaning.specs.Thing.{plain};
 ghost use Rattle.weld_turns.specs.CodeView.{shape_value, slots_of};
-ghost use Rattle.weld_turns.specs.States.{comes_from, Follows, IsState, RunsTo};
+ghost use Rattle.weld_turns.specs.StepView.{shown, words_of};
+ghost use Rattle.weld_turns.specs.States.{comes_from, Follows, IsState, RunsOn, RunsTo, StepsRunOn};
 
 use crate::code::{Halt, Place, Shape, Turn, Unmade};
+use crate::lower::lower;
 use crate::make_turn::make_turn;
+use crate::rest::of_turn;
 use crate::run::run_turn;
+use crate::run_steps::{WORDS, run_steps};
 use crate::scope::{no_names, with_name};
 use crate::slots::SLOTS;
+use crate::step::Step;
 use std::alloc::{AllocError, Global};
-use weld_data::{Stop, Val, Vals};
+use weld_data::{Kind, Stop, Val, Vals};
 use weld_eval::frame::Frame;
 use weld_eval::number::{number_of, pair_of};
 use weld_eval::short::Short;
@@ -31,6 +38,12 @@ use weld_tree::{Expr, Form, Sym};
 
 /// How many turns an `iterate` may take.
 const TURN_LIMIT: u32 = 1_000_000;
+
+/// How many of them are run by the code before it is lowered to instructions, which pays where more follow.
+const FIRST_TURNS: u32 = 8;
+
+/// How much of a turn is lowered at most, with the nodes of its code: what follows a choice counts once for each of its arms.
+const MOST_STEPS: usize = 400;
 
 /// What an `iterate` comes to from a state on, where its state and its body are of that form; none where they aren't: then
 /// nothing is done. The millionth turn may be the last, and one more is a fault.
@@ -113,8 +126,8 @@ fn turn_of_body(
     make_turn(body, shape, &scope, 2, frame, alloc)
 }
 
-/// The turns, until one says that it is the last.
-#[tactic(auto, using(crate::proofs::States::goes_on, crate::proofs::States::ends, crate::proofs::States::faults, crate::proofs::States::exceeds))]
+/// The turns, until one says that it is the last: the first ones by the code, those that are left as `run_on` runs them.
+#[tactic(auto, using(crate::proofs::States::goes_on, crate::proofs::States::ends, crate::proofs::States::faults, crate::proofs::States::carries_on))]
 fn run_turns<'a>(
     turn: &Turn,
     shape: Shape,
@@ -123,7 +136,50 @@ fn run_turns<'a>(
 ) -> Option<Result<Held<'a>, Stop>>
     ensures { IfSome result (λ r. RunsTo r turn.now shape (slots_of slots.old)) }
 {
-    for _turn in 0..TURN_LIMIT {
+    for _turn in 0..FIRST_TURNS {
+        match run_turn(turn, shape, slots) {
+            Ok(true) => {}
+            Ok(false) => return last_state(shape, slots, alloc),
+            Err(Halt::Fault) => return Some(Err(Stop::Fault)),
+            Err(Halt::Other) => return None,
+        }
+    }
+    run_on(turn, shape, slots, alloc)
+}
+
+/// The turns behind the first ones: by instructions on words where the turn can be lowered to such, else by the code.
+fn run_on<'a>(
+    turn: &Turn,
+    shape: Shape,
+    slots: &mut [Short],
+    alloc: Global,
+) -> Option<Result<Held<'a>, Stop>>
+    ensures { IfSome result (λ r. RunsOn r turn.now shape (slots_of slots.old) (turn_limit - 8)) }
+{
+    let mut words = [0; WORDS];
+    if !put_words(shape, slots, &mut words) {
+        return run_code(turn, shape, slots, alloc);
+    }
+    let mut left = MOST_STEPS;
+    let whole = of_turn(turn);
+    match lower(&whole, &mut left, alloc) {
+        Ok(step) => run_lowered(&step, shape, &mut words, alloc),
+        Err(Unmade::Other) => run_code(turn, shape, slots, alloc),
+        Err(Unmade::Memory) => Some(Err(Stop::Memory)),
+    }
+}
+
+/// The turns behind the first ones, by the code.
+#[tactic(auto, using(crate::proofs::States::goes_on, crate::proofs::States::ends, crate::proofs::States::faults, crate::proofs::States::exceeds))]
+fn run_code<'a>(
+    turn: &Turn,
+    shape: Shape,
+    slots: &mut [Short],
+    alloc: Global,
+) -> Option<Result<Held<'a>, Stop>>
+    ensures { IfSome result (λ r. RunsOn r turn.now shape (slots_of slots.old) (turn_limit - 8)) }
+{
+    for _turn in FIRST_TURNS..TURN_LIMIT {
         match run_turn(turn, shape, slots) {
             Ok(true) => {}
             Ok(false) => return last_state(shape, slots, alloc),
@@ -132,6 +188,83 @@ fn run_turns<'a>(
         }
     }
     Some(Err(Stop::Fault))
+}
+
+/// The same by instructions.
+#[tactic(auto, using(crate::proofs::States::steps_go_on, crate::proofs::States::steps_end, crate::proofs::States::steps_fault, crate::proofs::States::exceeds))]
+fn run_lowered<'a>(
+    step: &Step,
+    shape: Shape,
+    words: &mut [i64],
+    alloc: Global,
+) -> Option<Result<Held<'a>, Stop>>
+    ensures { IfSome result (λ r. StepsRunOn r step.now shape (words_of words.old)
+        (turn_limit - 8)) }
+{
+    for _turn in FIRST_TURNS..TURN_LIMIT {
+        match run_steps(step, shape, words) {
+            Ok(true) => {}
+            Ok(false) => return last_words(shape, words, alloc),
+            Err(Halt::Fault) => return Some(Err(Stop::Fault)),
+            Err(Halt::Other) => return None,
+        }
+    }
+    Some(Err(Stop::Fault))
+}
+
+/// Puts a state that stands in the first slots into the first words, where its numbers are of kind i64; it tells whether they are.
+fn put_words(shape: Shape, slots: &[Short], words: &mut [i64]) -> bool
+    ensures { result ≡ true → shape_value shape 0 (shown (words_of words.new))
+        ≡ shape_value shape 0 (slots_of slots.now) }
+{
+    match shape {
+        Shape::One => match word_in_slot(slots, 0) {
+            Some(x) => put_one(x, words),
+            None => false,
+        },
+        Shape::Pair => match (word_in_slot(slots, 0), word_in_slot(slots, 1)) {
+            (Some(x), Some(y)) => put_two(x, y, words),
+            _ => false,
+        },
+    }
+}
+
+/// The word of a slot, where the slot is there and its number is of kind i64.
+fn word_in_slot(slots: &[Short], i: usize) -> Option<i64>
+    ensures { IfSome result (λ x. slots_of slots.now i ≡ number kinds.I64 x) }
+{
+    if i >= slots.len() {
+        return None;
+    }
+    let n = slots[i];
+    match n.kind {
+        Kind::I64 => Some(n.word),
+        _ => None,
+    }
+}
+
+/// Puts a word into the first place; it tells whether the place is there.
+fn put_one(x: i64, words: &mut [i64]) -> bool
+    ensures { result ≡ true → words_of words.new 0 ≡ x }
+{
+    if words.is_empty() {
+        return false;
+    }
+    words[0] = x;
+    true
+}
+
+/// Puts two words into the first places; it tells whether the places are there.
+fn put_two(x: i64, y: i64, words: &mut [i64]) -> bool
+    ensures first { result ≡ true → words_of words.new 0 ≡ x }
+    ensures second { result ≡ true → words_of words.new 1 ≡ y }
+{
+    if words.len() < 2 {
+        return false;
+    }
+    words[0] = x;
+    words[1] = y;
+    true
 }
 
 /// The state that stands in the first slots, as a value.
@@ -165,4 +298,18 @@ fn two_fields(x: Short, y: Short, alloc: Global) -> Result<Vals, AllocError>
     fields.push(Val::Num(x.to_num()))?;
     fields.push(Val::Num(y.to_num()))?;
     Ok(Vals::from_vec(fields))
+}
+
+/// The state that stands in the first words, as a value.
+fn last_words<'a>(shape: Shape, words: &[i64], alloc: Global) -> Option<Result<Held<'a>, Stop>>
+    ensures { IfSome result (λ r. IsState r shape (shown (words_of words.now))) }
+{
+    if words.len() < 2 {
+        return None;
+    }
+    let x = Short::of_i64(words[0]);
+    match shape {
+        Shape::One => Some(Ok(Held::Made(Owned::Value(Val::Num(x.to_num()))))),
+        Shape::Pair => Some(pair_of_two(x, Short::of_i64(words[1]), alloc)),
+    }
 }
