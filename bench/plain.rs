@@ -1,6 +1,6 @@
 // The plain programs beside which `weld run` is measured, and the jobs for both. `make NAME ROWS` writes a job, `run NAME`
 // reads one on standard input and writes the same answer as `weld run`: the text is read a byte at a time into vectors, then
-// comes one loop.
+// come one loop or two.
 use std::collections::BTreeMap;
 use std::io::{Read, Write, stdin, stdout};
 
@@ -17,7 +17,7 @@ impl Random {
     }
 }
 
-const JOBS: [(&str, &str, usize); 10] = [
+const JOBS: [(&str, &str, usize); 14] = [
     ("passthrough", "|v: vec[i64]| v", 8_000_000),
     ("squares", "|v: vec[i64]| result(for(v, merger[i64,+], |b,i,x| merge(b, x * x)))", 8_000_000),
     ("guarded", "|v: vec[i64]| result(for(v, merger[i64,+], |b,i,x| if(x > 3L, merge(b, x), b)))", 8_000_000),
@@ -27,6 +27,10 @@ const JOBS: [(&str, &str, usize); 10] = [
     ("cells", "|k: vec[i64], c: vec[i64]| result(for(k, vecmerger[i64,+](c), |b,i,x| merge(b, {x % 10L, 1L})))", 8_000_000),
     ("groups", "|k: vec[i64], v: vec[i64]| result(for(zip(k, v), groupbuilder[i64,i64], |b,i,x| merge(b, x)))", 4_500_000),
     ("nested", "|m: vec[vec[i64]]| result(for(m, merger[i64,+], |b,i,r| merge(b, result(for(r, merger[i64,+], |c,j,x| merge(c, x))))))", 800_000),
+    ("turns", "|v: vec[i64]| result(for(v, merger[i64,+], |b,i,x| merge(b, iterate({x, 0L}, |s| if(s.$0 == 1L, {s, false}, {{if(s.$0 % 2L == 0L, s.$0 / 2L, s.$0 * 3L + 1L), s.$1 + 1L}, true})).$1)))", 100_000),
+    ("pairs", "|v: vec[i64]| result(for(result(for(v, vecbuilder[{i64,i64}], |b,i,x| merge(b, {x, x + i}))), merger[i64,+], |b,i,x| merge(b, x.$0 * x.$1)))", 4_000_000),
+    ("zipped", "|v: vec[i64], w: vec[i64]| len(result(for(zip(v, w), vecbuilder[{i64,i64}], |b,i,x| merge(b, x))))", 3_000_000),
+    ("vectors", "|v: vec[i64]| len(result(for(v, vecbuilder[vec[i64]], |b,i,x| merge(b, [x, x + 1L]))))", 2_000_000),
     ("strings", "|w: vec[vec[i8]]| result(for(w, dictmerger[vec[i8],i64,+], |b,i,x| merge(b, {x, 1L})))", 4_500_000),
 ];
 
@@ -47,10 +51,11 @@ fn make(name: &str, rows: usize) {
     let mut out = Vec::new();
     out.extend(text.as_bytes());
     out.extend(b"\n%%\n");
-    let mut small = |r: &mut Random| { let d = r.below(6) as u32 + 3; r.below(10u64.pow(d)) as i64 - 10 };
+    let small = |r: &mut Random| { let d = r.below(6) as u32 + 3; r.below(10u64.pow(d)) as i64 - 10 };
     match name {
-        "passthrough" | "squares" | "guarded" => numbers(&mut out, rows, || small(&mut r)),
-        "dot" => { numbers(&mut out, rows, || small(&mut r)); numbers(&mut out, rows, || small(&mut r)) }
+        "turns" => { let mut at = 0; numbers(&mut out, rows, || { at += 1; at }) }
+        "passthrough" | "squares" | "guarded" | "pairs" | "vectors" => numbers(&mut out, rows, || small(&mut r)),
+        "dot" | "zipped" => { numbers(&mut out, rows, || small(&mut r)); numbers(&mut out, rows, || small(&mut r)) }
         "dict10" => { numbers(&mut out, rows, || r.below(10) as i64); numbers(&mut out, rows, || small(&mut r)) }
         "dict100k" | "groups" => { numbers(&mut out, rows, || r.below(100_000) as i64); numbers(&mut out, rows, || small(&mut r)) }
         "cells" => { numbers(&mut out, rows, || r.below(1_000_000) as i64); out.extend(b"%value\n[0,0,0,0,0,0,0,0,0,0]\n") }
@@ -125,6 +130,31 @@ fn run(name: &str) {
         "squares" => { let v = r.numbers(); let mut s = 0i64; for &x in &v { s = s.wrapping_add(x.wrapping_mul(x)); } writeln!(out, "{s}").unwrap() }
         "guarded" => { let v = r.numbers(); let mut s = 0i64; for &x in &v { if x > 3 { s = s.wrapping_add(x); } } writeln!(out, "{s}").unwrap() }
         "dot" => { let v = r.numbers(); let w = r.numbers(); let mut s = 0i64; for (&x, &y) in v.iter().zip(&w) { s = s.wrapping_add(x.wrapping_mul(y)); } writeln!(out, "{s}").unwrap() }
+        "turns" => {
+            let v = r.numbers(); let mut s = 0i64;
+            for &x in &v {
+                let (mut x, mut count) = (x, 0i64);
+                while x != 1 { x = if x % 2 == 0 { x / 2 } else { x.wrapping_mul(3).wrapping_add(1) }; count += 1; }
+                s += count;
+            }
+            writeln!(out, "{s}").unwrap()
+        }
+        "pairs" => {
+            let v = r.numbers(); let mut s = 0i64;
+            let pairs: Vec<(i64, i64)> = v.iter().enumerate().map(|(i, &x)| (x, x.wrapping_add(i as i64))).collect();
+            for &(x, y) in std::hint::black_box(&pairs) { s = s.wrapping_add(x.wrapping_mul(y)); }
+            writeln!(out, "{s}").unwrap()
+        }
+        "zipped" => {
+            let v = r.numbers(); let w = r.numbers();
+            let pairs: Vec<(i64, i64)> = v.iter().copied().zip(w.iter().copied()).collect();
+            writeln!(out, "{}", std::hint::black_box(&pairs).len()).unwrap()
+        }
+        "vectors" => {
+            let v = r.numbers();
+            let lists: Vec<Vec<i64>> = v.iter().map(|&x| vec![x, x.wrapping_add(1)]).collect();
+            writeln!(out, "{}", std::hint::black_box(&lists).len()).unwrap()
+        }
         "dict10" | "dict100k" => {
             let k = r.numbers(); let v = r.numbers(); let mut d = BTreeMap::new();
             for (&k, &x) in k.iter().zip(&v) { let e = d.entry(k).or_insert(0i64); *e = e.wrapping_add(x); }
