@@ -113,14 +113,6 @@ pub either_filling : (d : Filling) (c : Code) (x y : Filling) (rest whole : Mean
 either_filling d c x y rest whole is e shape f =
     ap (λ (o : Outcome Slots). and_then o (λ g. rest shape g)) (is f) ∙ choice_moves (value c f) (filled x f) (filled y f) (λ g. rest shape g) ∙ at_each whole (either_then c (filled_then x rest) (filled_then y rest)) shape f e
 
--- ---- numbers of two
-
-pub put_choice : (d : Code) (to : ℕ) (c x y : Code) (rest whole : Meaning) → ((f : Slots) → value d f ≡ and_then (value c f) (λ u. either_of u (value x f) (value y f))) → whole ≡ either_then c (put_then to x rest) (put_then to y rest)
-    → (shape : Shape) (f : Slots) → put_then to d rest shape f ≡ whole shape f
-put_choice d to c x y rest whole is e shape f =
-    ap (λ (o : Outcome Value). and_then o (λ v. rest shape (with_slot f to v))) (is f) ∙ choice_moves (value c f) (value x f) (value y f) (λ v. rest shape (with_slot f to v))
-    ∙ at_each whole (either_then c (put_then to x rest) (put_then to y rest)) shape f e
-
 -- ---- truth values
 
 pub test_contrary : (d c : Code) (x y whole : Meaning) → ((f : Slots) → value d f ≡ and_then (value c f) (λ v. contrary v)) → whole ≡ either_then c y x → (shape : Shape) (f : Slots) → either_then d x y shape f ≡ whole shape f

@@ -70,11 +70,11 @@ hand_brings t k c o below e h f w a = subst (λ (p : Outcome Value). IsBrought p
 pub slot_brings : (t k : Step) (c : Code) (i below : ℕ) → t ≡ k → IsAtHand c (operands.Place i) → Brings t k c (operands.Place i) below
 slot_brings t k c i below e h = hand_brings t k c (operands.Place i) below e h
 
-pub put_brings : (t k : Step) (c : Code) (place : ℕ) → Puts t k c place (place + 1) → Brings t k c (operands.Place place) place
+pub put_brings : (t k : Step) (c : Code) (place : ℕ) → Puts t k c place place → Brings t k c (operands.Place place) place
 put_brings t k c place h f w a = by (value c f) (h f w a)
   where
-    by : (p : Outcome Value) → IsPut p t k w place (place + 1) → IsBrought p (operands.Place place) t k w place
-    by (done v) (x, u, e, s, at, kept) = (u, e ∙ ap (number kinds.I64) (sym at), s, (λ i l. kept i (omega (arith, l)) (λ q. omega (arith, l, q))))
+    by : (p : Outcome Value) → IsPut p t k w place place → IsBrought p (operands.Place place) t k w place
+    by (done v) (x, u, e, s, at, kept) = (u, e ∙ ap (number kinds.I64) (sym at), s, (λ i l. kept i l (λ q. omega (arith, l, q))))
     by fault q = q
     by stuck q = q
 

@@ -43,17 +43,14 @@ fn spend(code: &Code, left: &mut usize) -> bool
     true
 }
 
-/// How many nodes code has.
+/// How many nodes code has, where all of them are operators between slots and literals; else there is no end to it, as nothing
+/// else is lowered.
 #[cycle(size_of)]
 fn size_of(code: &Code) -> usize {
     match code {
         Code::Slot(_) | Code::Literal(_) => 1,
         Code::Work(_, x, y) => size_of(x).saturating_add(size_of(y)).saturating_add(1),
-        Code::Opposite(x) | Code::Contrary(x) | Code::Cast(_, x) => size_of(x).saturating_add(1),
-        Code::Choice(test, x, y) | Code::Select(test, x, y) => size_of(test)
-            .saturating_add(size_of(x))
-            .saturating_add(size_of(y))
-            .saturating_add(1),
+        _ => usize::MAX,
     }
 }
 
@@ -127,29 +124,6 @@ fn lower_filling(
 /// A number put into a slot, and what follows.
 #[cycle(lower)]
 fn lower_put(
-    to: usize,
-    code: &Code,
-    rest: &Rest,
-    left: &mut usize,
-    alloc: Global,
-) -> Result<Step, Unmade>
-    ensures lowered { IfOk result (λ t. Lowers t (put_then to code.now (rest_value rest.now))) }
-    ensures left { left.new ≤ left.old }
-{
-    match code {
-        Code::Choice(test, x, y) => {
-            let yes = put(to, x, &*rest);
-            let no = put(to, y, &*rest);
-            let whole = either(test, &yes, &no);
-            lower(&whole, left, alloc)
-        }
-        _ => put_first(to, code, rest, left, alloc),
-    }
-}
-
-/// The same where the number isn't one of two.
-#[cycle(lower)]
-fn put_first(
     to: usize,
     code: &Code,
     rest: &Rest,

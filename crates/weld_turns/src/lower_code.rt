@@ -197,7 +197,7 @@ fn bring(
     }
     match hand {
         Some(_) => Ok(rest),
-        None => put_code(code, place, place + 1, rest, alloc),
+        None => put_code(code, place, place, rest, alloc),
     }
 }
 
@@ -220,7 +220,7 @@ fn bring_place(
     }
     match slot {
         Some(_) => Ok(rest),
-        None => put_code(code, place, place + 1, rest, alloc),
+        None => put_code(code, place, place, rest, alloc),
     }
 }
 

@@ -30,9 +30,9 @@ fn answer(op: BinOp, x: i64, y: i64) -> Option<i64>
 fn answer_with(op: BinOp, x: i64, y: i64) -> Option<i64>
     ensures { result ≡ answer_of op kinds.I64 x y }
 {
-    match y {
-        2 => answer(op, x, 2),
-        10 => answer(op, x, 10),
+    match (op, y) {
+        (BinOp::Div | BinOp::Rem, 2) => answer(op, x, 2),
+        (BinOp::Div | BinOp::Rem, 10) => answer(op, x, 10),
         _ => answer(op, x, y),
     }
 }

@@ -164,8 +164,7 @@ fn run_on<'a>(
     let whole = of_turn(turn);
     match lower(&whole, &mut left, alloc) {
         Ok(step) => run_lowered(&step, shape, &mut words, alloc),
-        Err(Unmade::Other) => run_code(turn, shape, slots, alloc),
-        Err(Unmade::Memory) => Some(Err(Stop::Memory)),
+        Err(_) => run_code(turn, shape, slots, alloc),
     }
 }
 

@@ -1,7 +1,7 @@
 use Rattle.std.proofs.Common.{◌≡◌, true, false, ap}
 use Rattle.weld_turns.specs.CodeView.{filled, turn_value, value}
 use Rattle.weld_turns.specs.Lowering.{either_then, ended_at, filled_then, put_then, rest_value, settled}
-use Rattle.weld_turns.proofs.Following.{either_filling, ok_as, put_choice, put_filling, test_choice, test_contrary, then_filling, turn_either, turn_end, turn_first}
+use Rattle.weld_turns.proofs.Following.{either_filling, ok_as, put_filling, test_choice, test_contrary, then_filling, turn_either, turn_end, turn_first}
 use Rattle.weld_turns.proofs.LowerLemmas.{put_ok}
 use Rattle.weld_turns.proofs.lower.+lower.Goals as goal
 
@@ -29,17 +29,6 @@ lower_filling-returns-in-Either-clause-lowered t c =
     let h5 = c.deref-in-Either-2.ensures in
     let e : rest_value c.either-whole.result ≡ either_then c.in-Either.test (filled_then c.in-Either.x.value (rest_value c.args.rest.now)) (filled_then c.in-Either.y.value (rest_value c.args.rest.now)) = cc in
     ok_as c.lower-in-Either.result (rest_value c.either-whole.result) (filled_then c.args.filling.now (rest_value c.args.rest.now)) (either_filling c.args.filling.now c.in-Either.test c.in-Either.x.value c.in-Either.y.value (rest_value c.args.rest.now) (rest_value c.either-whole.result) (λ f. ap (λ x. filled x f) c.in-Either.is) e) c.lower-in-Either.ensures.lowered
-
-pub lower_put-returns-in-Choice-clause-lowered : goal.lower_put-returns-in-Choice-clause-lowered
-lower_put-returns-in-Choice-clause-lowered t c =
-    let h1 = c.either-whole.ensures in
-    let h2 = c.put-yes.ensures in
-    let h3 = c.put-no.ensures in
-    let h4 = c.deref.ensures in
-    let h5 = c.deref-in-Choice.ensures in
-    let h6 = c.deref-in-Choice-2.ensures in
-    let e : rest_value c.either-whole.result ≡ either_then c.in-Choice.test.value (put_then c.args.to c.in-Choice.x.value (rest_value c.args.rest.now)) (put_then c.args.to c.in-Choice.y.value (rest_value c.args.rest.now)) = cc in
-    ok_as c.lower.result (rest_value c.either-whole.result) (put_then c.args.to c.args.code.now (rest_value c.args.rest.now)) (put_choice c.args.code.now c.args.to c.in-Choice.test.value c.in-Choice.x.value c.in-Choice.y.value (rest_value c.args.rest.now) (rest_value c.either-whole.result) (λ f. ap (λ x. value x f) c.in-Choice.is) e) c.lower.ensures.lowered
 
 pub lower_test-returns-in-Contrary-clause-lowered : goal.lower_test-returns-in-Contrary-clause-lowered
 lower_test-returns-in-Contrary-clause-lowered t c =
@@ -85,5 +74,5 @@ lower_turn-returns-in-End-clause-lowered t c =
     let e : rest_value c.either-whole-in-End.result ≡ either_then c.in-End.test (ended_at c.in-End.first true) (ended_at c.in-End.first false) = cc in
     ok_as c.lower-in-End.result (rest_value c.either-whole-in-End.result) (settled c.args.turn.now) (turn_end c.args.turn.now c.in-End.test c.in-End.first (rest_value c.either-whole-in-End.result) (λ shape f. ap (λ x. turn_value x shape f) c.in-End.is) e) c.lower-in-End.ensures.lowered
 
-pub put_first-returns-in-Ok-clause-lowered : goal.put_first-returns-in-Ok-clause-lowered
-put_first-returns-in-Ok-clause-lowered t c = put_ok c.put_code.result c.in-Ok.after c.args.code.now c.args.to (rest_value c.args.rest.now) c.in-Ok.ensures.lowered c.put_code.ensures
+pub lower_put-returns-in-Ok-clause-lowered : goal.lower_put-returns-in-Ok-clause-lowered
+lower_put-returns-in-Ok-clause-lowered t c = put_ok c.put_code.result c.in-Ok.after c.args.code.now c.args.to (rest_value c.args.rest.now) c.in-Ok.ensures.lowered c.put_code.ensures

@@ -11,10 +11,7 @@ abbrev pub decreases-lower_filling : goal.decreases-lower_filling
 decreases-lower_filling l = 3 * l.left.now + 1
 
 abbrev pub decreases-lower_put : goal.decreases-lower_put
-decreases-lower_put l = 3 * l.left.now + 2
-
-abbrev pub decreases-put_first : goal.decreases-put_first
-decreases-put_first l = 3 * l.left.now + 1
+decreases-lower_put l = 3 * l.left.now + 1
 
 abbrev pub decreases-lower_test : goal.decreases-lower_test
 decreases-lower_test l = 3 * l.left.now + 2
