@@ -1,5 +1,5 @@
-//! The rows of loops of plain arithmetic, run by lanes: what their bodies merge is worked out for thousands of rows at once, in
-//! arrays of the numbers' own width, and merged as one list.
+//! The rows of loops of plain arithmetic, run by lanes: what their bodies merge is worked out for 512 rows at once, in arrays of the
+//! numbers' own width, and merged as one list.
 #![tactic(auto)]
 
 mod columns;

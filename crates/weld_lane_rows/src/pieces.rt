@@ -1,6 +1,6 @@
 //! Pieces of the rows of a loop: the numbers of each are worked out, and merged as one list.
 
-ghost use Rattle.std.specs.Prelude.{◌≡◌, ◌-◌, ◌<◌, ◌≤◌, length, map, min, OnOk};
+ghost use Rattle.std.specs.Prelude.{◌≡◌, ◌-◌, ◌<◌, ◌≤◌, length, map, OnOk};
 ghost use Rattle.weld_data.specs.Kind.{IsNarrow};
 ghost use Rattle.weld_builders.specs.Outcome.{done};
 ghost use Rattle.weld_acts.specs.Ranges.{HoldsRange, range_over};
@@ -16,11 +16,8 @@ use weld_data::Stop;
 use weld_eval::frame::Frame;
 use weld_eval::legs::Legs;
 use weld_eval::thing::Owned;
-use weld_lanes::{LaneProgram, Scratch, map_lanes};
+use weld_lanes::{BLOCK, LaneProgram, answer_block, room_for};
 use weld_tree::Expr;
-
-/// How many rows a piece has at most: few enough for its numbers to stay near the processor.
-const PIECE: usize = 4096;
 
 /// A loop's steps, the numbers that are the same on all its rows, and the columns of the rows.
 #[derive(Drop)]
@@ -54,33 +51,22 @@ pub(crate) fn run_pieces<L: Word>(
     ensures { OnOk result (range_over node.now (env_of frame.now) (lists_of legs.now) from to
         (thing_of builder.old) ≡ done (thing_of builder.new)) }
 {
-    let size = (to - from).min(PIECE);
-    let mut scratch = Scratch::new(lanes.program, alloc)?;
-    let mut answers = vec![in alloc; L::of_truth(false); size]?;
-    let mut words = vec![in alloc; 0i64; size]?;
+    let mut room = room_for::<L>(lanes.program, alloc)?;
+    let mut words = vec![in alloc; 0i64; BLOCK]?;
     run_in_room(
-        node,
-        frame,
-        legs,
-        lanes,
-        &mut scratch,
-        &mut answers,
-        &mut words,
-        from,
-        to,
-        builder,
+        node, frame, legs, lanes, &mut room, &mut words, from, to, builder,
     )
 }
 
-/// The same with room for the steps, and for the answers of a piece in the width of their kind and in words.
+/// The same with room for the answers of the steps on a piece, and for those of the last one in words. A piece is a block of the
+/// steps, so that what they answer is merged from where they have put it.
 #[tactic(auto, using(weld_acts::proofs::RangeSteps::range_start, weld_acts::proofs::RangeSteps::range_ends, crate::proofs::PieceLemmas::part_merges))]
 fn run_in_room<L: Word>(
     node: &Expr,
     frame: &Frame,
     legs: &Legs,
     lanes: &Lanes<L>,
-    scratch: &mut Scratch<L>,
-    answers: &mut [L],
+    room: &mut [L],
     words: &mut [i64],
     from: usize,
     to: usize,
@@ -94,19 +80,18 @@ fn run_in_room<L: Word>(
     requires merges { MergesRows node.now (env_of frame.now) (lists_of legs.now) L.kind
         (answer_at L.number L.kind lanes.now.program.now lanes.now.uniforms.now lanes.now.first.now
         lanes.now.second.now) to }
-    requires room { room_of (length lanes.now.program.now.steps.items) ≤ scratch.old }
-    requires answers { min (to - from) 4096 ≤ length answers.old }
-    requires words { min (to - from) 4096 ≤ length words.old }
+    requires room { room_of (length lanes.now.program.now.steps.items) ≤ length room.old }
+    requires words { 512 ≤ length words.old }
     ensures { OnOk result (range_over node.now (env_of frame.now) (lists_of legs.now) from to
         (thing_of builder.old) ≡ done (thing_of builder.new)) }
 {
     let mut reached = from;
     'pieces: while reached < to {
         let end = piece_end(reached, to);
-        let numbers = piece_numbers(lanes, scratch, answers, reached, end);
-        let room = &mut words[..end - reached];
+        let numbers = piece_numbers(&*lanes, room, reached, end);
+        let own = &mut words[..end - reached];
         merge_piece(
-            node, frame, legs, lanes, numbers, room, reached, end, builder,
+            node, frame, legs, lanes, numbers, own, reached, end, builder,
         )?;
         reached = end;
     }
@@ -118,56 +103,31 @@ fn piece_end(from: usize, to: usize) -> usize
     requires { from < to }
     ensures more { from < result }
     ensures within { result ≤ to }
-    ensures small { result - from ≤ 4096 }
+    ensures small { result - from ≤ 512 }
 {
-    if to - from < PIECE { to } else { from + PIECE }
+    if to - from < BLOCK { to } else { from + BLOCK }
 }
 
 /// What the steps answer on the rows of a piece, in the width of their kind.
 fn piece_numbers<'a, L: Word>(
-    lanes: &Lanes<L>,
-    scratch: &mut Scratch<L>,
-    answers: &'a mut [L],
+    lanes: &'a Lanes<'a, L>,
+    room: &'a mut [L],
     from: usize,
     to: usize,
 ) -> &'a [L]
     requires ordered { from ≤ to }
+    requires small { to - from ≤ 512 }
     requires kind { lanes.now.program.now.kind ≡ L.kind }
     requires first { to ≤ length lanes.now.first.now }
     requires second { to ≤ length lanes.now.second.now }
-    requires room { room_of (length lanes.now.program.now.steps.items) ≤ scratch.old }
-    requires answers { to - from ≤ length answers.old }
-    ensures room { scratch.new ≡ scratch.old }
+    requires room { room_of (length lanes.now.program.now.steps.items) ≤ length room.old }
     ensures long { length result.now ≡ to - from }
     ensures are { AreFrom (answer_at L.number L.kind lanes.now.program.now lanes.now.uniforms.now
         lanes.now.first.now lanes.now.second.now) from (to - from) (map L.number result.now) }
 {
-    let out = &mut answers[..to - from];
-    piece_answers(lanes, scratch, out, from, to);
-    out
-}
-
-/// The same, written into the room.
-fn piece_answers<L: Word>(
-    lanes: &Lanes<L>,
-    scratch: &mut Scratch<L>,
-    out: &mut [L],
-    from: usize,
-    to: usize,
-)
-    requires ordered { from ≤ to }
-    requires kind { lanes.now.program.now.kind ≡ L.kind }
-    requires first { to ≤ length lanes.now.first.now }
-    requires second { to ≤ length lanes.now.second.now }
-    requires room { room_of (length lanes.now.program.now.steps.items) ≤ scratch.old }
-    requires out { length out.old ≡ to - from }
-    ensures room { scratch.new ≡ scratch.old }
-    ensures are { AreFrom (answer_at L.number L.kind lanes.now.program.now lanes.now.uniforms.now
-        lanes.now.first.now lanes.now.second.now) from (to - from) (map L.number out.new) }
-{
     let first = &lanes.first[from..to];
     let second = &lanes.second[from..to];
-    map_lanes(lanes.program, scratch, first, second, lanes.uniforms, out);
+    answer_block(lanes.program, room, first, second, lanes.uniforms)
 }
 
 /// Merges the numbers of a piece.

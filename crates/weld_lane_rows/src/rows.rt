@@ -25,8 +25,8 @@ use weld_tree::{Expr, Form};
 const FEW: usize = 64;
 
 /// Hands a builder through the rows of a loop from a number up to, not including, another, where its body is plain arithmetic
-/// on numbers of one kind and there are rows enough: what the body merges is worked out by lanes for thousands of rows at
-/// once, and merged as one list. Tells whether it did; where it didn't, the builder is as it was. After want of memory the
+/// on numbers of one kind and there are rows enough: what the body merges is worked out by lanes for 512 rows at once, and
+/// merged as one list. Tells whether it did; where it didn't, the builder is as it was. After want of memory the
 /// builder is only good to be dropped.
 pub fn run_lanes(
     node: &Expr,

@@ -113,6 +113,28 @@ fn block_answers<'a, L: Lane>(
     operand(&rows, steps.len() - 1)
 }
 
+/// The answers of the program's steps on the rows of one block, of which there are 512 at most, lent from the room for them, or
+/// from a column that the last step is. Columns and uniform numbers are as for `map_lanes`. It takes no memory, and what the room
+/// holds doesn't matter.
+#[tactic(auto, using(crate::proofs::Meaning::block_meaning))]
+pub fn answer_block<'a, L: Lane>(
+    program: &'a LaneProgram,
+    room: &'a mut [L],
+    first: &'a [L],
+    second: &'a [L],
+    uniforms: &'a [L],
+) -> &'a [L]
+    requires kind { program.now.kind ≡ L.kind }
+    requires room { room_of (length program.now.steps.items) ≤ length room.old }
+    requires second { length second.now ≡ length first.now }
+    requires small { length first.now ≤ 512 }
+    ensures long { length result.now ≡ length first.now }
+    ensures answers { map L.number result.now ≡ lane_meaning L.kind program.now.steps.items
+        (map L.number uniforms.now) (map L.number first.now) (map L.number second.now) }
+{
+    block_answers(program, uniforms, first, second, room)
+}
+
 /// The answers of the program's steps on all rows, one row after another, whose numbers of the first and of the second column
 /// stand at the same place; a loop over one column hands it over twice. The numbers that are the same for all rows are named
 /// by their places. It takes no memory, and what the scratch holds doesn't matter.

@@ -10,7 +10,7 @@ pub mod steps;
 mod works;
 
 pub use formed::{are_steps, is_arithmetic, is_comparison};
-pub use kernels::{fold_lanes, map_lanes};
+pub use kernels::{answer_block, fold_lanes, map_lanes};
 pub use kinds::Lane;
-pub use room::Scratch;
+pub use room::{BLOCK, Scratch, room_for};
 pub use steps::{LaneProgram, LaneStep};

@@ -1,12 +1,25 @@
 //! Room for the answers of steps on a block of rows.
 
+ghost use Rattle.std.specs.Prelude.{◌≤◌, length, IfOk};
+ghost use Rattle.weld_lanes.specs.Answers.{room_of};
+
 use crate::kinds::Lane;
 use crate::steps::LaneProgram;
 use std::alloc::{AllocError, Global};
 use std::marker::Model;
 
 /// How many rows a block has at most: few enough for the answers of some steps to stay in the nearest cache.
-pub(crate) const BLOCK: usize = 512;
+pub const BLOCK: usize = 512;
+
+/// Room for the answers of a program's steps on a block of rows.
+pub fn room_for<L: Lane>(program: &LaneProgram, alloc: Global) -> Result<Vec<L>, AllocError>
+    ensures { IfOk result (λ room. room_of (length program.now.steps.items) ≤ length room.items) }
+{
+    match program.steps.len().checked_mul(BLOCK) {
+        Some(count) => vec![in alloc; L::of_truth(false); count],
+        None => Err(AllocError),
+    }
+}
 
 /// Room for the answers of steps. Contracts see how many numbers it has room for.
 #[derive(Drop)]
@@ -30,13 +43,8 @@ impl<L: Lane> Scratch<L> {
     pub fn new(program: &LaneProgram, alloc: Global) -> Result<Scratch<L>, AllocError>
         ensures { IfOk result (λ scratch. room_of (length program.now.steps.items) ≤ scratch) }
     {
-        let count = match program.steps.len().checked_mul(BLOCK) {
-            Some(count) => count,
-            None => return Err(AllocError),
-        };
-        let zero = L::of_truth(false);
         Ok(Scratch {
-            items: vec![in alloc; zero; count]?,
+            items: room_for(program, alloc)?,
         })
     }
 }

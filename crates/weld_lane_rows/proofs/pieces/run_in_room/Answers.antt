@@ -15,5 +15,4 @@ pieces-preserved g c = record {
   runs = goes_on c.args.node.now (env_of c.args.frame.now) (lists_of c.args.legs.now) c.args.from c.args.to (thing_of c.args.builder.now) c.pieces.reached c.piece_end-end.result (thing_of c.pieces.builder) (thing_of c.merge_piece.new.builder)
       c.pieces.invariant.runs (omega (arith, c.piece_end-end.ensures.more)) c.piece_end-end.ensures.within c.in_ok-merge_piece.ensures;
   low = omega (arith, c.pieces.invariant.low, c.piece_end-end.ensures.more);
-  room = omega (arith, c.pieces.invariant.room, c.piece_numbers-numbers.ensures.room);
 }
