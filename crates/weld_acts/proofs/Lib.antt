@@ -6,4 +6,4 @@ pub mod RowActs
 pub mod RangeSteps
 pub mod Children
 pub mod RangeLaw
-mod Decided
+pub mod Decided

@@ -9,7 +9,7 @@ use weld_tree::{Expr, Exprs, Form, LeafForm, Leg, Legs, Sym};
 
 /// Whether the name occurs in the expression where no binder of it binds it.
 #[cycle(uses)]
-pub(crate) fn uses(e: &Expr, name: Sym) -> bool
+pub fn uses(e: &Expr, name: Sym) -> bool
     ensures { result ≡ uses e.now name.0 }
 {
     match &e.form {

@@ -8,3 +8,4 @@ pub mod laws;
 mod path;
 
 pub use directness::is_direct;
+pub use free::uses;

@@ -7,5 +7,6 @@ mod OuterLemmas
 mod PickLemmas
 mod Scalars
 pub mod StructLemmas
+mod TurnLemmas
 pub mod Words
 mod WorkLemmas

@@ -4,4 +4,5 @@ pub mod Outer
 pub mod Picked
 pub mod Scope
 pub mod Structs
+pub mod Turned
 pub mod Works

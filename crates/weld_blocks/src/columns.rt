@@ -13,6 +13,7 @@ ghost use Rattle.weld_blocks.specs.Lent.{MayHaveLengths, MayHaveLooked};
 ghost use Rattle.weld_blocks.specs.Outer.{IsEverywhere};
 ghost use Rattle.weld_blocks.specs.Scope.{scope_env, MayBeBound};
 ghost use Rattle.weld_blocks.specs.Structs.{AreStructs, IsStructTree};
+ghost use Rattle.weld_blocks.specs.Turned.{AreEnds};
 
 mod arms;
 
@@ -26,6 +27,7 @@ use crate::operations::{Altered, is_integer, takes};
 use crate::outer::{Looked, outer_value};
 use crate::scalar::whole_number;
 use crate::scope::{Bound, Scope, with_bound};
+use crate::turning::{Asked, States, bound_states, ends_of, numbers_of_field, single_numbers};
 pub use arms::{chosen, numbers_where};
 use arms::{of_and, of_choice, of_if, of_or};
 use std::alloc::Global;
@@ -35,7 +37,8 @@ use weld_eval::short::Short;
 use weld_tree::{Expr, Form, LeafForm, ManyForm, OneForm, Sym, ThreeForm, TwoForm};
 
 /// The numbers that an expression comes to on so many rows, where it is made of literals, names, fields, operators, `if`, `select`,
-/// `let`, lengths and elements of vectors that stand outside or in the rows, no row of it faults, and there is memory for them.
+/// `let`, `iterate`s that go by instructions, lengths and elements of vectors that stand outside or in the rows, no row of it faults,
+/// and there is memory for them.
 #[cycle(columns)]
 #[tactic(auto, using(crate::proofs::ColumnLemmas::leaf_numbers))]
 pub fn numbers(e: &Expr, scope: &Scope, count: usize, alloc: Global) -> Option<Numbers>
@@ -54,6 +57,7 @@ pub fn numbers(e: &Expr, scope: &Scope, count: usize, alloc: Global) -> Option<N
         Form::Three(ThreeForm::If, _, _, _) => of_if(e, scope, count, alloc),
         Form::Three(ThreeForm::Select, _, _, _) => of_choice(e, scope, count, alloc),
         Form::Let(_, _, _) => of_let(e, scope, count, alloc),
+        Form::Iterate(_, _, _) => of_iterate(e, scope, count, alloc),
         _ => None,
     }
 }
@@ -93,7 +97,9 @@ fn literal(kind: Kind, value: i128) -> Option<Short>
     }))
 }
 
-/// The numbers of a field: of what a name stands for in columns, of a value that stands outside, or of the value of each row.
+/// The numbers of a field: of what a name stands for in columns, of a value that stands outside, of the value of each row, or of
+/// the state with which turns end.
+#[cycle(columns)]
 fn of_field(e: &Expr, scope: &Scope, count: usize, alloc: Global) -> Option<Numbers>
     ensures { MayBeNumbers e.now (scope_env scope.now) result count }
 {
@@ -101,8 +107,65 @@ fn of_field(e: &Expr, scope: &Scope, count: usize, alloc: Global) -> Option<Numb
         Some(numbers) => Some(numbers),
         None => match outer_value(e, &*scope) {
             Some(v) => everywhere(e, v, scope, count, alloc),
-            None => lent_numbers(e, scope, count, alloc),
+            None => match lent_numbers(e, scope, count, alloc) {
+                Some(numbers) => Some(numbers),
+                None => of_state(e, scope, count, alloc),
+            },
         },
+    }
+}
+
+/// The numbers of a field of the states with which the turns of an `iterate` end.
+#[cycle(columns)]
+#[tactic(auto, using(crate::proofs::TurnLemmas::field_of_ends))]
+fn of_state(e: &Expr, scope: &Scope, count: usize, alloc: Global) -> Option<Numbers>
+    ensures { MayBeNumbers e.now (scope_env scope.now) result count }
+{
+    match &e.form {
+        Form::One(OneForm::Field(field), part) => match ends(
+            part,
+            Asked::Pair,
+            scope,
+            count,
+            alloc,
+        ) {
+            Some(states) => numbers_of_field(*field, &states, count, alloc),
+            None => None,
+        },
+        _ => None,
+    }
+}
+
+/// The numbers of an `iterate` over single numbers.
+#[cycle(columns)]
+fn of_iterate(e: &Expr, scope: &Scope, count: usize, alloc: Global) -> Option<Numbers>
+    ensures { MayBeNumbers e.now (scope_env scope.now) result count }
+{
+    match ends(e, Asked::One, scope, count, alloc) {
+        Some(states) => single_numbers(e, &states, scope, count, alloc),
+        None => None,
+    }
+}
+
+/// The states with which the turns of an `iterate` end, where such are asked for.
+#[cycle(columns)]
+#[tactic(auto, using(crate::proofs::TurnLemmas::iterate_ends))]
+fn ends(e: &Expr, asked: Asked, scope: &Scope, count: usize, alloc: Global) -> Option<States>
+    ensures { IfSome result (λ ss. AreEnds e.now (scope_env scope.now) ss.shape ss.items.items
+        count) }
+{
+    match &e.form {
+        Form::Iterate(first, binder, body) => {
+            let start = match bound_of(first, &*scope, count, alloc) {
+                Some(start) => start,
+                None => return None,
+            };
+            match ends_of(binder.sym, body, &start, asked, &*scope, count, alloc) {
+                Some(states) => Some(states),
+                None => None,
+            }
+        }
+        _ => None,
     }
 }
 
@@ -334,10 +397,26 @@ pub fn bound_of(e: &Expr, scope: &Scope, count: usize, alloc: Global) -> Option<
             Some(columns) => Some(Bound::Fields(columns)),
             None => None,
         },
+        Form::Iterate(_, _, _) => bound_ends(e, scope, count, alloc),
         _ => match numbers(e, scope, count, alloc) {
             Some(numbers) => Some(Bound::Number(numbers)),
             None => None,
         },
+    }
+}
+
+/// What a `let` binds that binds the state with which turns end.
+#[cycle(columns)]
+#[tactic(auto, using(crate::proofs::TurnLemmas::ends_bound))]
+fn bound_ends(e: &Expr, scope: &Scope, count: usize, alloc: Global) -> Option<Bound>
+    ensures { MayBeBound e.now (scope_env scope.now) result count }
+{
+    match ends(e, Asked::Any, scope, count, alloc) {
+        Some(states) => match bound_states(&states, count, alloc) {
+            Some(bound) => Some(bound),
+            None => None,
+        },
+        None => None,
     }
 }
 

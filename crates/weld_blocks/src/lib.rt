@@ -16,4 +16,5 @@ pub mod picking;
 pub mod scalar;
 pub mod scope;
 pub mod structs;
+mod turning;
 mod works;

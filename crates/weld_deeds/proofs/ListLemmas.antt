@@ -1,6 +1,7 @@
 -- Vectors of numbers item by item.
 use Rattle.std.proofs.Common.{◌≡◌, ℕ, ◌<◌, ℤ, pos, List, [], ◌∷◌, ◌++◌, map, get_or, Option, Some, None, Vec, Global, refl, sym, ap, subst, ◌∙◌}
 use Rattle.weld_data.specs.declared.kind.Kind.{Kind}
+use Rattle.weld_data.specs.declared.kind.Kind.TheVariants as kinds
 use Rattle.weld_data.specs.declared.value.Val.{Val}
 use Rattle.weld_data.specs.declared.value.Val.TheVariants as val
 use Rattle.weld_data.specs.declared.value.Column.{Column}
@@ -18,7 +19,8 @@ use Rattle.weld_blocks.specs.Scope.{AreFieldsOf}
 use Rattle.weld_blocks.specs.Structs.{AreCounted}
 use Rattle.weld_blocks.specs.declared.numbers.Numbers.{Numbers}
 use Rattle.weld_deeds.specs.Deeds.{IsItem}
-use Rattle.weld_deeds.specs.Lists.{list_at, AreLists, MayBeFields, MayBeLists}
+use Rattle.weld_deeds.specs.Rows.{words_at}
+use Rattle.weld_deeds.specs.Lists.{list_at, AreAlike, AreLists, MayBeFields, MayBeLists}
 use Rattle.weld_deeds.specs.declared.deed.Deed as deed
 use Rattle.weld_deeds.specs.declared.texts.Same.{Same}
 
@@ -68,6 +70,16 @@ items_are v column cs j ws xs ys none same more is made =
 pub values_are : (v : Val) (column : Column) (cs : List Numbers) (j : ℕ) (xs ys : List Value) → xs ≡ [] → ys ≡ xs ++ map (λ c. number_at c j) cs → view_column column ≡ ys → v ≡ val.List column → list_at cs j ≡ view_val v
 values_are v column cs j xs ys none more is made =
     sym (ap view_val made ∙ ap (λ us. list (values us)) (is ∙ more ∙ ap (λ us. us ++ map (λ c. number_at c j) cs) none))
+
+wide_numbers : (cs : List Numbers) (j : ℕ) → AreAlike kinds.I64 cs → map (number kinds.I64) (words_at cs j) ≡ map (λ c. number_at c j) cs
+wide_numbers [] j alike = refl
+wide_numbers (c ∷ cs) j alike =
+    ap (λ (k : Kind). number k (of_word k (get_or c.items.items j (pos 0))) ∷ map (number kinds.I64) (words_at cs j)) (sym alike.0)
+    ∙ ap (λ (vs : List Value). number_at c j ∷ vs) (wide_numbers cs j alike.1)
+
+pub wide_are : (v : Val) (column : Column) (cs : List Numbers) (j : ℕ) (xs ws : List ℤ) → xs ≡ [] → ws ≡ xs ++ words_at cs j → view_column column ≡ map (number kinds.I64) ws → v ≡ val.List column → AreAlike kinds.I64 cs → list_at cs j ≡ view_val v
+wide_are v column cs j xs ws none more is made alike =
+    sym (ap view_val made ∙ ap (λ us. list (values us)) (is ∙ ap (map (number kinds.I64)) (more ∙ ap (λ us. us ++ words_at cs j) none) ∙ wide_numbers cs j alike))
 
 -- a string that is written out
 pub text_is : (a : At) (bytes : List ℕ) (envs : ℕ → Env) (n : ExprTree) (u : Same) → n ≡ leaf a (chars bytes) → view_val u.value ≡ list (values (map byte_value bytes)) → (count : ℕ) → IsItem n envs (deed.Same u) count

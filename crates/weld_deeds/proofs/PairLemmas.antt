@@ -12,7 +12,7 @@ use Rattle.weld_eval.specs.LegsView.{lists_of}
 use Rattle.weld_eval.specs.RowLists.{row_in}
 use Rattle.weld_blocks.specs.Numbers.{number_at, AreGiven, AreNumbersOf, IsName, IsChosen}
 use Rattle.weld_deeds.specs.Deeds.{IsPairOf, MayBePair, IsItem, MayBeItem, item_at}
-use Rattle.weld_blocks.specs.Scope.{bound_at, struct_at, scope_env}
+use Rattle.weld_blocks.specs.Scope.{bound_at, struct_at, scope_env, IsBound}
 use Rattle.weld_deeds.specs.declared.deed.Deed.{Deed}
 use Rattle.weld_deeds.specs.declared.deed.Deed as deed
 use Rattle.weld_blocks.specs.declared.numbers.Numbers.{Numbers}
@@ -90,6 +90,21 @@ row_pair (Some (deed.List cs)) e s envs n is h = absurd h
 row_pair (Some (deed.Same u)) e s envs n is h = absurd h
 row_pair (Some (deed.Choice' c a d b f)) e s envs n is h = absurd h
 row_pair (Some (deed.Fields ds)) e s envs n is h = absurd h
+
+-- what is bound
+pub ended_number : (c : Numbers) (e : ExprTree) (envs : ℕ → Env) (at : ℕ → Value) (n : ℕ) → IsBound e envs at n → AreGiven (λ j v. v ≡ at j) c n → AreNumbersOf e envs c n
+ended_number c e envs at n is h = record { long = h.long; each = λ j less. is j less ∙ ap (λ (v : Value). done (plain v)) (sym (h.each j less)) }
+
+pub ended_item : (r : Option Deed) (e : ExprTree) (envs : ℕ → Env) (at : ℕ → Value) (n : ℕ) → IsBound e envs at n → MayBePair (λ j v. at j ≡ v) r n → MayBeItem e envs r n
+ended_item None e envs at n is h = tt
+ended_item (Some (deed.Pair c d)) e envs at n is h = (h.0, h.1, λ j less. is j less ∙ ap (λ (v : Value). done (plain v)) (h.2 j less))
+ended_item (Some deed.Nothing) e envs at n is h = absurd h
+ended_item (Some (deed.Number c)) e envs at n is h = absurd h
+ended_item (Some (deed.Struct cs)) e envs at n is h = absurd h
+ended_item (Some (deed.List cs)) e envs at n is h = absurd h
+ended_item (Some (deed.Same u)) e envs at n is h = absurd h
+ended_item (Some (deed.Choice' c a d b f)) e envs at n is h = absurd h
+ended_item (Some (deed.Fields ds)) e envs at n is h = absurd h
 
 -- ---- one of two
 

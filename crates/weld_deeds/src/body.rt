@@ -19,7 +19,7 @@ ghost use Rattle.weld_blocks.specs.Scope.{scope_env};
 use crate::deed::{Deed, Deeds};
 use crate::lists::lists_of;
 use crate::named::columns_named;
-use crate::pairs::pair_named;
+use crate::pairs::{number_of_bound, pair_named, pair_of_bound};
 use crate::texts::same_text;
 use std::alloc::Global;
 use weld_blocks::columns::{bound_of, chosen, name_of, numbers, numbers_where};
@@ -113,25 +113,54 @@ fn is_quiet(e: &Expr) -> bool
 fn item_of(item: &Expr, scope: &Scope, count: usize, alloc: Global) -> Option<Deed>
     ensures { MayBeItem item.now (scope_env scope.now) result count }
 {
-    match numbers(item, scope, count, alloc) {
-        Some(numbers) => Some(Deed::Number(numbers)),
-        None => match pair_of(item, scope, count, alloc) {
-            Some(pair) => Some(pair),
-            None => struct_of(item, scope, count, alloc),
+    match &item.form {
+        Form::Iterate(_, _, _) => ended_item(item, scope, count, alloc),
+        _ => match numbers(item, scope, count, alloc) {
+            Some(numbers) => Some(Deed::Number(numbers)),
+            None => match pair_of(item, scope, count, alloc) {
+                Some(pair) => Some(pair),
+                None => struct_of(item, scope, count, alloc),
+            },
         },
     }
 }
 
-/// A struct or a vector of numbers, or a string.
+/// What the turns of an `iterate` end with, which are run once whether that is a number or a struct of two.
+#[tactic(auto, using(crate::proofs::PairLemmas::ended_item, crate::proofs::PairLemmas::ended_number))]
+fn ended_item(item: &Expr, scope: &Scope, count: usize, alloc: Global) -> Option<Deed>
+    ensures { MayBeItem item.now (scope_env scope.now) result count }
+{
+    let bound = match bound_of(item, scope, count, alloc) {
+        Some(bound) => bound,
+        None => return None,
+    };
+    match number_of_bound(&bound, count, alloc) {
+        Some(numbers) => Some(Deed::Number(numbers)),
+        None => pair_of_bound(&bound, count, alloc),
+    }
+}
+
+/// A struct or a vector of numbers, or a string. A struct of two that is written out was looked at already.
 fn struct_of(item: &Expr, scope: &Scope, count: usize, alloc: Global) -> Option<Deed>
     ensures { MayBeItem item.now (scope_env scope.now) result count }
 {
+    if is_written_pair(item) {
+        return None;
+    }
     match columns_of(item, scope, count, alloc) {
         Some(columns) => Some(Deed::Struct(columns)),
         None => match named_columns(item, scope, count, alloc) {
             Some(columns) => Some(Deed::Struct(columns)),
             None => list_of(item, scope, count, alloc),
         },
+    }
+}
+
+/// Whether it is a struct of two that is written out.
+fn is_written_pair(item: &Expr) -> bool {
+    match &item.form {
+        Form::Many(ManyForm::Struct, parts) => parts.len() == 2,
+        _ => false,
     }
 }
 
@@ -172,7 +201,7 @@ fn text_of(item: &Expr, scope: &Scope, alloc: Global) -> Option<Deed>
     }
 }
 
-/// A struct of two numbers: written out, a name for one, or one of two such.
+/// A struct of two numbers: written out, a name for one, one of two such, or one with which turns end.
 #[cycle(pairs)]
 #[tactic(auto, using(crate::proofs::PairLemmas::row_pair))]
 fn pair_of(item: &Expr, scope: &Scope, count: usize, alloc: Global) -> Option<Deed>
@@ -182,6 +211,7 @@ fn pair_of(item: &Expr, scope: &Scope, count: usize, alloc: Global) -> Option<De
         Some(name) => pair_named(scope, name, count, alloc),
         None => match &item.form {
             Form::Three(_, _, _, _) => chosen_pair(item, scope, count, alloc),
+            Form::Iterate(_, _, _) => ended_pair(item, scope, count, alloc),
             _ => written_pair(item, scope, count, alloc),
         },
     }
@@ -239,6 +269,17 @@ fn choose_pairs(
             _ => None,
         },
         _ => None,
+    }
+}
+
+/// A struct of two numbers with which the turns of an `iterate` end.
+#[tactic(auto, using(crate::proofs::PairLemmas::ended_item))]
+fn ended_pair(item: &Expr, scope: &Scope, count: usize, alloc: Global) -> Option<Deed>
+    ensures { MayBeItem item.now (scope_env scope.now) result count }
+{
+    match bound_of(item, scope, count, alloc) {
+        Some(bound) => pair_of_bound(&bound, count, alloc),
+        None => None,
     }
 }
 

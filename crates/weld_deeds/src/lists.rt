@@ -2,6 +2,7 @@
 
 ghost use Rattle.std.specs.Prelude.{◌≡◌, ◌<◌, ◌++◌, true, map, Some, IfOk, OnOk};
 ghost use Rattle.weld_data.specs.Kind.{IsNarrow, InRange};
+ghost use Rattle.weld_data.specs.declared.kind.Kind.TheVariants as kinds;
 ghost use Rattle.weld_data.specs.Value.{number};
 ghost use Rattle.weld_data.specs.View.{view_val};
 ghost use Rattle.weld_builders.specs.Outcome.{done};
@@ -17,11 +18,12 @@ ghost use Rattle.weld_deeds.specs.Lists.{list_at, AreAlike, MayBeFields, MayBeLi
 ghost use Rattle.weld_deeds.specs.Puts.{IsPut};
 
 use crate::puts::{empty_with_room, put_value, value_at};
+use crate::rows::push_words;
 use std::alloc::{AllocError, Global};
 use weld_blocks::columns::numbers;
 use weld_blocks::numbers::{Numbers, word_at};
 use weld_blocks::scope::Scope;
-use weld_data::{Column, Kind, Stop, Val, Vals};
+use weld_data::{Column, Items, Kind, Stop, Val, Vals};
 use weld_eval::thing::Owned;
 use weld_pieces::ListPart;
 use weld_tree::{Expr, Exprs, Form, ManyForm};
@@ -96,14 +98,27 @@ fn list_of_row(columns: &[Numbers], place: usize, alloc: Global) -> Result<Val, 
     match columns.first() {
         Some(first) => {
             let kind = first.kind;
-            if kind.is_narrow() && are_alike(kind, columns) {
-                typed_row(kind, columns, place, alloc)
-            } else {
-                values_row(columns, place, alloc)
+            if !kind.is_narrow() || !are_alike(kind, columns) {
+                return values_row(columns, place, alloc);
+            }
+            match kind {
+                Kind::I64 => wide_row(columns, place, alloc),
+                _ => typed_row(kind, columns, place, alloc),
             }
         }
         None => values_row(columns, place, alloc),
     }
+}
+
+/// The vector of numbers of kind i64, with room for these alone.
+fn wide_row(columns: &[Numbers], place: usize, alloc: Global) -> Result<Val, AllocError>
+    requires alike { AreAlike kinds.I64 columns.now }
+    requires long { AreLonger columns.now place }
+    ensures { IfOk result (λ v. list_at columns.now place ≡ view_val v) }
+{
+    let mut words = Vec::with_capacity(alloc, columns.len())?;
+    push_words(columns, place, &mut words)?;
+    Ok(Val::List(Column::I64(Items::from_vec(words))))
 }
 
 /// The vector of numbers of one kind.

@@ -1,4 +1,4 @@
-//! Structs of two numbers that a name stands for.
+//! Structs of two numbers that a name stands for, and what is bound.
 
 ghost use Rattle.std.specs.Prelude.{◌≡◌, ◌+◌, ◌∷◌, [], Some, IfSome};
 ghost use Rattle.weld_data.specs.View.{view_column};
@@ -7,11 +7,13 @@ ghost use Rattle.weld_meaning.specs.Thing.{plain};
 ghost use Rattle.weld_eval.specs.LegsView.{lists_of};
 ghost use Rattle.weld_eval.specs.RowLists.{row_in};
 ghost use Rattle.weld_deeds.specs.Deeds.{MayBePair};
+ghost use Rattle.weld_blocks.specs.Numbers.{MayGive};
 ghost use Rattle.weld_blocks.specs.Scope.{bound_at, scope_env};
 
 use crate::deed::Deed;
 use std::alloc::Global;
 use weld_blocks::leaves::{elements_of, first_of, only_column};
+use weld_blocks::numbers::Numbers;
 use weld_blocks::scope::{Bound, Scope};
 use weld_data::Column;
 use weld_eval::legs::Legs;
@@ -57,9 +59,20 @@ pub fn pair_named(scope: &Scope, name: Sym, count: usize, alloc: Global) -> Opti
     }
 }
 
+/// The numbers that are bound, where no structs are.
+#[tactic(auto, using(weld_blocks::proofs::LeafLemmas::number_bound))]
+pub(crate) fn number_of_bound(bound: &Bound, count: usize, alloc: Global) -> Option<Numbers>
+    ensures { MayGive (λ place v. v ≡ bound_at bound.now place) result count }
+{
+    match bound {
+        Bound::Number(numbers) => first_of(numbers, count, alloc),
+        Bound::Fields(_) => None,
+    }
+}
+
 /// The two numbers of the structs that are bound.
 #[tactic(auto, using(crate::proofs::PairLemmas::pair_bound))]
-fn pair_of_bound(bound: &Bound, count: usize, alloc: Global) -> Option<Deed>
+pub(crate) fn pair_of_bound(bound: &Bound, count: usize, alloc: Global) -> Option<Deed>
     ensures { MayBePair (λ place v. bound_at bound.now place ≡ v) result count }
 {
     match bound {

@@ -1,14 +1,16 @@
 -- Slots that are filled from other slots.
 use Rattle.std.proofs.Common.{◌≡◌, ℕ, suc, ◌+◌, Bool, true, false, if◌then◌else◌, refl, ap, sym, subst, ◌∙◌, arith}
 use Rattle.weld_data.specs.Value.{Value}
+use Rattle.weld_data.specs.declared.op.BinOp.{BinOp}
 use Rattle.weld_built.specs.Pair.{pair}
 use Rattle.weld_builders.specs.Outcome.{Outcome, done, fault, stuck, and_then, map_out}
-use Rattle.weld_meaning.specs.Evaluation.{selected, truth_of}
+use Rattle.weld_meaning.specs.Evaluation.{operated, selected, truth_of}
 use Rattle.weld_meaning.specs.Thing.{Thing, plain}
 use Rattle.weld_eval.specs.ShortView.{view_short}
 use Rattle.weld_eval.specs.declared.short.Short.{Short}
-use Rattle.weld_turns.specs.CodeView.{Slots, with_slot, shape_value, filled, either_of}
-use Rattle.weld_turns.specs.Fillings.{Copies, IsFilled, Picks, Puts}
+use Rattle.weld_turns.specs.CodeView.{Slots, with_slot, shape_value, filled, value, either_of}
+use Rattle.weld_turns.specs.Fillings.{Copies, IsFilled, IsWork, Picks, Puts}
+use Rattle.weld_turns.specs.declared.code.Code.{Code}
 use Rattle.weld_turns.specs.declared.code.Code as code
 use Rattle.weld_turns.specs.declared.code.Filling.{Filling}
 use Rattle.weld_turns.specs.declared.code.Filling as filling
@@ -72,3 +74,8 @@ pub copy_picked : (t x y : Filling) (held first : ℕ) → ((f : Slots) → fill
 copy_picked t x y held first is i j f =
     subst (λ (r : Outcome Slots). IsFilled (map_out plain (selected (f held) (shape_value Pair (held + 1) f) (shape_value Pair (held + 3) f))) r Pair first f) (sym (is f))
     (by_truth (truth_of (f held)) (shape_value Pair (held + 1) f) (shape_value Pair (held + 3) f) (filled x f) (filled y f) first f (i f) (j f))
+
+pub work_filled : (t : Filling) (x y : Code) (op : BinOp) (first second : ℕ) → x ≡ code.Slot first → y ≡ code.Slot second → ((f : Slots) → filled t f ≡ map_out (with_slot f first) (and_then (value x f) (λ v. and_then (value y f) (λ w. operated op v w)))) → IsWork t op first second
+work_filled t x y op first second p q is f =
+    is f ∙ ap (λ (c : Code). map_out (with_slot f first) (and_then (value c f) (λ v. and_then (value y f) (λ w. operated op v w)))) p
+    ∙ ap (λ (c : Code). map_out (with_slot f first) (and_then (value c f) (λ w. operated op (f first) w))) q

@@ -1,14 +1,15 @@
 -- Slots that are filled with what an expression comes to.
 use Rattle.std.proofs.Common.{◌≡◌, ℕ, suc, ◌+◌, ◌≤◌, List, ◌∷◌, length, get_or, Some, Result, Ok, Err, IfOk, refl, ap, sym, subst, ◌∙◌, arith}
 use Rattle.weld_data.specs.Value.{Value}
+use Rattle.weld_data.specs.declared.op.BinOp.{BinOp}
 use Rattle.weld_built.specs.Pair.{pair}
 use Rattle.weld_builders.specs.Outcome.{Outcome, done, fault, stuck, and_then, map_out}
-use Rattle.weld_tree.specs.ExprTree.{ExprTree, ExprTrees, pack_exprs, make_struct, select}
+use Rattle.weld_tree.specs.ExprTree.{ExprTree, ExprTrees, binary, pack_exprs, make_struct, select}
 use Rattle.weld_meaning.specs.Environment.{look_for}
-use Rattle.weld_meaning.specs.Evaluation.{Env, eval, eval_all, many_thing, three_thing, chosen, selected, truth_of, value_out}
+use Rattle.weld_meaning.specs.Evaluation.{Env, eval, eval_all, many_thing, operated, three_thing, two_thing, chosen, selected, truth_of, value_out}
 use Rattle.weld_meaning.specs.Thing.{Thing, plain, as_value, more_things, no_things, struct_of}
 use Rattle.weld_turns.specs.CodeView.{Slots, with_slot, shape_value, value, filled, either_of}
-use Rattle.weld_turns.specs.Fillings.{AreKept, Copies, Fills, IsFilled, Picks, Puts, Selects}
+use Rattle.weld_turns.specs.Fillings.{AreKept, Copies, Fills, IsFilled, IsWork, Picks, Puts, Selects}
 use Rattle.weld_turns.specs.Scopes.{with_scope, ended, room_of, AreBelow, IsNamedAt, IsOutsideName, IsStateAt, Means}
 use Rattle.weld_turns.specs.declared.code.Code.{Code}
 use Rattle.weld_turns.specs.declared.code.Filling.{Filling}
@@ -165,6 +166,23 @@ by_second : (q : Value → Outcome Value) (p : Outcome Thing) → map_out plain 
 by_second q (done t) = refl
 by_second q fault = refl
 by_second q stuck = refl
+
+-- ---- an operator whose sides have slots of their own
+
+pub work_fills : (x y z rest : Filling) (op : BinOp) (first next : ℕ) (ns : List (ℕ × Place)) (env : Env) (e d : ExprTree) → ((f : Slots) → filled rest f ≡ and_then (filled y f) (filled z)) → first + 1 ≤ next → AreBelow ns first → Fills x One first ns env (eval e) → Fills y One next ns env (eval d)
+    → IsWork z op first next → (f : Slots) → IsFilled (and_then (eval e (with_scope ns f env)) (λ u. two_thing (binary op) u (eval d (with_scope ns f env)))) (and_then (filled x f) (filled rest)) One first f
+work_fills x y z rest op first next ns env e d is less below i j work f =
+    let inner : Env = with_scope ns f env in
+    next_filled (eval e inner) (λ u. two_thing (binary op) u (eval d inner)) One One first first f (filled x f) (filled rest) (omega arith) (i f)
+    (λ g kept. subst (λ (r : Outcome Slots). IsFilled (two_thing (binary op) (plain (g first)) (eval d inner)) r One first g) (sym (is g))
+    (subst (λ (o : Outcome Thing). IsFilled o (and_then (filled y g) (filled z)) One first g) (sym (by_second (operated op (g first)) (eval d inner)))
+    (next_filled (eval d inner) (λ t. map_out plain (and_then (as_value t) (operated op (g first)))) One One next first g (filled y g) (filled z) (omega (arith, less))
+    (subst (λ (names : Env). IsFilled (eval d names) (filled y g) One next g) (scope_kept ns f g env first below kept) (j g))
+    (λ l more. subst (λ (r : Outcome Slots). IsFilled (map_out plain (operated op (g first) (l next))) r One first l) (sym (work l))
+    (subst (λ (v : Value). IsFilled (map_out plain (operated op v (l next))) (map_out (with_slot l first) (operated op (l first) (l next))) One first l) (more first (omega (arith, less)))
+    (put_fills l first (operated op (l first) (l next))))))))
+
+-- ---- a select, filled
 
 pub select_fills : (x y : Filling) (first next : ℕ) (ns : List (ℕ × Place)) (env : Env) (e g h : ExprTree) → first ≤ next → AreBelow ns next → Fills x One next ns env (eval e) → Selects y next first ns env (eval g) (eval h)
     → (f : Slots) → IsFilled (and_then (eval e (with_scope ns f env)) (λ u. three_thing select u (eval g (with_scope ns f env)) (eval h (with_scope ns f env)))) (and_then (filled x f) (filled y)) Pair first f

@@ -3,6 +3,7 @@ mod Fillings
 mod Following
 mod LowerLemmas
 mod Making
+mod OnRows
 mod Outside
 mod Runs
 mod Scoping

@@ -1,20 +1,22 @@
 -- Numbers that are put into places, and comparisons that choose.
-use Rattle.std.proofs.Common.{◌≡◌, ℕ, ℤ, suc, ◌+◌, ◌<◌, ◌≤◌, ◌==◌, Bool, true, false, not, if◌then◌else◌, Option, Some, None, option_map, Result, Ok, Err, IfOk, int_lt, int_le, refl, ap, sym, subst, ◌∙◌, arith}
+use Rattle.std.proofs.Common.{◌≡◌, ℕ, ℤ, pos, neg_ℤ, ◌*ℤ◌, suc, ◌+◌, ◌<◌, ◌≤◌, ◌==◌, Bool, true, false, not, if◌then◌else◌, Option, Some, None, option_map, Result, Ok, Err, IfOk, int_lt, int_le, refl, ap, sym, subst, ◌∙◌, arith}
 use Rattle.std.proofs.lemmas.Bool.{eq-eqb, eqb-true}
+use Rattle.std.proofs.Math.IntN.{*ℤ-negsuc, *ℤ-one}
 use Rattle.weld_data.specs.declared.kind.Kind.{Kind}
 use Rattle.weld_data.specs.declared.kind.Kind.TheVariants as kinds
 use Rattle.weld_data.specs.declared.op.BinOp.{BinOp}
 use Rattle.weld_data.specs.declared.op.BinOp.TheVariants as ops
 use Rattle.std.specs.Ordering.{int_eq}
+use Rattle.weld_data.specs.Wrapped.{wrapped}
 use Rattle.weld_data.specs.Operation.{operation, answer_kind}
 use Rattle.weld_data.specs.Value.{Value, number}
 use Rattle.weld_builders.specs.Outcome.{Outcome, done, fault, stuck, and_then, map_out, or_fault}
 use Rattle.weld_eval.specs.ShortView.{view_short}
 use Rattle.weld_eval.specs.declared.short.Short.{Short}
-use Rattle.weld_meaning.specs.Evaluation.{operated, truth_of, truth_value}
+use Rattle.weld_meaning.specs.Evaluation.{negated, operated, truth_of, truth_value}
 use Rattle.weld_turns.specs.CodeView.{Slots, either_of, value, with_slot}
 use Rattle.weld_turns.specs.StepView.{Words, step_value, with_word, word_of_operand}
-use Rattle.weld_turns.specs.Lowering.{Agree, Brings, Compares, Forks, IsAtHand, IsBrought, IsFork, IsForkOf, IsPut, IsWordPut, IsWorkPut, Lowers, MayHaveSlot, Meaning, Puts, Works, between, operand_or, picked_by, put_then, shared, slot_or}
+use Rattle.weld_turns.specs.Lowering.{Agree, Brings, Compares, Forks, IsAtHand, IsBrought, IsFork, IsForkOf, IsOppositePut, IsPut, IsWordPut, IsWorkPut, Lowers, MayHaveSlot, Meaning, Puts, Works, between, operand_or, picked_by, put_then, shared, slot_or}
 use Rattle.weld_turns.specs.declared.code.Code.{Code}
 use Rattle.weld_turns.specs.declared.code.Code as codes
 use Rattle.weld_turns.specs.declared.code.Shape.{Shape}
@@ -25,13 +27,13 @@ use Rattle.weld_turns.specs.declared.code.Unmade.{Unmade}
 
 -- ---- words
 
-with_same : (w : Words) (to : ℕ) (x : ℤ) → with_word w to x to ≡ x
+pub with_same : (w : Words) (to : ℕ) (x : ℤ) → with_word w to x to ≡ x
 with_same w to x = ap (λ (b : Bool). if b then x else w to) (eq-eqb to to refl)
 
 not_itself : (i to : ℕ) → (i ≡ to → ⊥) → (i == to) ≡ true → ⊥
 not_itself i to n q = n (eqb-true i to q)
 
-with_other : (w : Words) (to i : ℕ) (x : ℤ) → (i ≡ to → ⊥) → with_word w to x i ≡ w i
+pub with_other : (w : Words) (to i : ℕ) (x : ℤ) → (i ≡ to → ⊥) → with_word w to x i ≡ w i
 with_other w to i x n = by (i == to) refl
   where
     by : (b : Bool) → (i == to) ≡ b → (if i == to then x else w i) ≡ w i
@@ -104,6 +106,30 @@ answered t last k op to left below right w u works s kept = by (operation op kin
     by None q =
         subst (λ (o : Option ℤ). IsPut (or_fault (option_map (number (answer_kind op kinds.I64)) o)) t k w to below) (sym q)
         (λ shape. s shape ∙ works.works shape u ∙ ap (λ (o : Option ℤ). and_then (map_out (with_word u to) (or_fault o)) (λ (z : Words). step_value k shape z)) q)
+
+-- the opposite is the product with -1
+opposite_is : (x : ℤ) → negated (number kinds.I64 x) ≡ operated ops.Mul (number kinds.I64 x) (number kinds.I64 (neg_ℤ (pos 1)))
+unfolding lib.IntN.one
+opposite_is x = let same : neg_ℤ x ≡ x *ℤ neg_ℤ (pos 1) = sym (*ℤ-negsuc x 0 ∙ ap neg_ℤ (*ℤ-one x)) in ap (λ (z : ℤ). done (number kinds.I64 (wrapped kinds.I64 z))) same
+
+pub opposite_puts : (t last k : Step) (x : Code) (to below : ℕ) (slot : Option ℕ) → Works last k ops.Mul to (slot_or slot below) (operands.Word (neg_ℤ (pos 1))) → Brings t last x (operands.Place (slot_or slot below)) below → IsOppositePut t k x to below
+opposite_puts t last k x to below slot works first f w a = by (value x f) (first f w a)
+  where
+    by : (o : Outcome Value) → IsBrought o (operands.Place (slot_or slot below)) t last w below → IsPut (and_then o negated) t k w to below
+    by (done v) (u, e, s, kept) =
+        subst (λ (p : Outcome Value). IsPut p t k w to below) (sym (ap negated e ∙ opposite_is (u (slot_or slot below))))
+        (answered t last k ops.Mul to (slot_or slot below) below (operands.Word (neg_ℤ (pos 1))) w u works s kept)
+    by fault q = q
+    by stuck q = q
+
+pub opposite_ok : (r : Result Step Unmade) (last k : Step) (x : Code) (to below place : ℕ) (slot : Option ℕ) → place ≡ slot_or slot below → Works last k ops.Mul to place (operands.Word (neg_ℤ (pos 1))) → IfOk r (λ t. Brings t last x (operands.Place (slot_or slot below)) below)
+    → IfOk r (λ t. IsOppositePut t k x to below)
+opposite_ok (Ok t) last k x to below place slot at works h = opposite_puts t last k x to below slot (subst (λ (i : ℕ). Works last k ops.Mul to i (operands.Word (neg_ℤ (pos 1)))) at works) h
+opposite_ok (Err u) last k x to below place slot at works h = h
+
+pub opposite_code : (r : Result Step Unmade) (k : Step) (c x : Code) (to below : ℕ) → ((f : Slots) → value c f ≡ and_then (value x f) negated) → IfOk r (λ t. IsOppositePut t k x to below) → IfOk r (λ t. Puts t k c to below)
+opposite_code (Ok t) k c x to below is h = λ f w a. subst (λ (o : Outcome Value). IsPut o t k w to below) (sym (is f)) (h f w a)
+opposite_code (Err u) k c x to below is h = h
 
 pub work_puts : (t next last k : Step) (op : BinOp) (x y : Code) (to below : ℕ) (slot : Option ℕ) (hand : Option Operand) → shared ≤ below → MayHaveSlot x slot → Works last k op to (slot_or slot below) (operand_or hand (below + 1))
     → Brings next last y (operand_or hand (below + 1)) (below + 1) → Brings t next x (operands.Place (slot_or slot below)) below → IsWorkPut t k op x y to below

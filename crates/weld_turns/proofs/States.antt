@@ -9,9 +9,9 @@ use Rattle.weld_eval.specs.ShortView.{view_short}
 use Rattle.weld_eval.specs.declared.short.Short.{Short}
 use Rattle.weld_turns.specs.CodeView.{Slots, shape_value, slots_of, turn_value}
 use Rattle.weld_turns.specs.Scopes.{AreBelow, TurnMeans, room_of, with_scope}
-use Rattle.weld_turns.specs.States.{next_of, Follows, IsFollowed, IsFollowedBy, RunsOn, StepsRunOn}
+use Rattle.weld_turns.specs.States.{next_of, Follows, IsFollowed, RunsOn, StepsRunOn}
 use Rattle.weld_turns.specs.Lowering.{Lowers, Meaning, settle, settled}
-use Rattle.weld_turns.specs.StepView.{Words, shown, step_value}
+use Rattle.weld_turns.specs.StepView.{Words, shown}
 use Rattle.weld_turns.specs.declared.step.Step.{Step}
 use Rattle.weld_eval.specs.Answers.{Answers}
 use Rattle.weld_eval.specs.ThingView.{held_of}
@@ -39,10 +39,10 @@ none_left i h = omega (arith, limit_is)
 
 -- ---- one turn
 
-unrolled : (i : ℕ) (v : Value) (g : Value → Outcome Value) → i < 1000000 → turns (turn_limit - i) v g ≡ and_then (g v) (λ w. next_turn w (λ state. turns (turn_limit - (i + 1)) state g))
+pub unrolled : (i : ℕ) (v : Value) (g : Value → Outcome Value) → i < 1000000 → turns (turn_limit - i) v g ≡ and_then (g v) (λ w. next_turn w (λ state. turns (turn_limit - (i + 1)) state g))
 unrolled i v g h = ap (λ n. turns n v g) (one_less i h)
 
-next_by : (s v : Value) (b : Bool) (go : Value → Outcome Value) → truth_of v ≡ done b → next_turn (pair s v) go ≡ (if b then go s else done s)
+pub next_by : (s v : Value) (b : Bool) (go : Value → Outcome Value) → truth_of v ≡ done b → next_turn (pair s v) go ≡ (if b then go s else done s)
 next_by s v b go t = ap (λ (o : Outcome Bool). and_then o (λ (more : Bool). if more then go s else done s)) t
 
 turned : (t : Turn) (shape : Shape) (f f' : Slots) (g : Value → Outcome Value) (i : ℕ) (v : Value) (b : Bool) → i < 1000000 → IsFollowed t shape g → turn_value t shape f ≡ done (pair (shape_value shape 0 f') v) → truth_of v ≡ done b
@@ -90,33 +90,10 @@ next_settled (done s) stuck go = refl
 next_settled fault b go = refl
 next_settled stuck b go = refl
 
-settled_next : (o : Outcome Value) (go : Value → Outcome Value) → and_then o (λ w. next_turn w go) ≡ and_then (and_then o settle) (λ w. next_turn w go)
+pub settled_next : (o : Outcome Value) (go : Value → Outcome Value) → and_then o (λ w. next_turn w go) ≡ and_then (and_then o settle) (λ w. next_turn w go)
 settled_next (done v) go = next_settled (value_field 0 v) (value_field 1 v) go
 settled_next fault go = refl
 settled_next stuck go = refl
-
-stepped : (t : Step) (shape : Shape) (w : Words) (g : Value → Outcome Value) (i : ℕ) → i < 1000000 → IsFollowedBy t shape g
-    → turns (turn_limit - i) (shape_value shape 0 (shown w)) g ≡ and_then (step_value t shape w) (λ v. next_turn v (λ state. turns (turn_limit - (i + 1)) state g))
-stepped t shape w g i h is =
-    unrolled i (shape_value shape 0 (shown w)) g h ∙ settled_next (g (shape_value shape 0 (shown w))) (λ state. turns (turn_limit - (i + 1)) state g)
-    ∙ ap (λ (o : Outcome Value). and_then o (λ v. next_turn v (λ state. turns (turn_limit - (i + 1)) state g))) (is w)
-
-stepped_by : (t : Step) (shape : Shape) (w u : Words) (g : Value → Outcome Value) (i : ℕ) (v : Value) (b : Bool) → i < 1000000 → IsFollowedBy t shape g → step_value t shape w ≡ done (pair (shape_value shape 0 (shown u)) v) → truth_of v ≡ done b
-    → turns (turn_limit - i) (shape_value shape 0 (shown w)) g ≡ (if b then turns (turn_limit - (i + 1)) (shape_value shape 0 (shown u)) g else done (shape_value shape 0 (shown u)))
-stepped_by t shape w u g i v b h is e q =
-    stepped t shape w g i h is ∙ ap (λ (o : Outcome Value). and_then o (λ x. next_turn x (λ state. turns (turn_limit - (i + 1)) state g))) e
-    ∙ next_by (shape_value shape 0 (shown u)) v b (λ state. turns (turn_limit - (i + 1)) state g) q
-
-pub steps_go_on : (t : Step) (shape : Shape) (w u : Words) (g : Value → Outcome Value) (i : ℕ) (v : Value) → i < 1000000 → IsFollowedBy t shape g → step_value t shape w ≡ done (pair (shape_value shape 0 (shown u)) v) → truth_of v ≡ done true
-    → turns (turn_limit - i) (shape_value shape 0 (shown w)) g ≡ turns (turn_limit - (i + 1)) (shape_value shape 0 (shown u)) g
-steps_go_on t shape w u g i v h is e q = stepped_by t shape w u g i v true h is e q
-
-pub steps_end : (t : Step) (shape : Shape) (w u : Words) (g : Value → Outcome Value) (i : ℕ) (v : Value) → i < 1000000 → IsFollowedBy t shape g → step_value t shape w ≡ done (pair (shape_value shape 0 (shown u)) v) → truth_of v ≡ done false
-    → turns (turn_limit - i) (shape_value shape 0 (shown w)) g ≡ done (shape_value shape 0 (shown u))
-steps_end t shape w u g i v h is e q = stepped_by t shape w u g i v false h is e q
-
-pub steps_fault : (t : Step) (shape : Shape) (w : Words) (g : Value → Outcome Value) (i : ℕ) → i < 1000000 → IsFollowedBy t shape g → step_value t shape w ≡ fault → turns (turn_limit - i) (shape_value shape 0 (shown w)) g ≡ fault
-steps_fault t shape w g i h is e = stepped t shape w g i h is ∙ ap (λ (o : Outcome Value). and_then o (λ x. next_turn x (λ state. turns (turn_limit - (i + 1)) state g))) e
 
 lowered_runs : (r : Result Held Stop) (t : Turn) (s : Step) (shape : Shape) (f : Slots) (w : Words) (whole : Meaning) (left : ℕ) → whole ≡ settled t → Lowers s whole → shape_value shape 0 (shown w) ≡ shape_value shape 0 f → StepsRunOn r s shape w left → RunsOn r t shape f left
 lowered_runs r t s shape f w whole left e lowers state on g is =
@@ -144,7 +121,7 @@ two_put ss x y v h e =
 
 -- ---- the body
 
-room_two : (k : Shape) → room_of k ≤ 2
+pub room_two : (k : Shape) → room_of k ≤ 2
 room_two One = omega arith
 room_two Pair = omega arith
 

@@ -1,12 +1,13 @@
 -- What fills slots with the value of an expression.
 use Rattle.std.specs.Prelude.{◌≡◌, ℕ, suc, ◌+◌, ◌≤◌, List}
 use Rattle.weld_data.specs.Value.{Value}
+use Rattle.weld_data.specs.declared.op.BinOp.{BinOp}
 use Rattle.weld_built.specs.Pair.{pair}
 use Rattle.weld_tree.specs.ExprTree.{select}
 use Rattle.weld_builders.specs.Outcome.{Outcome, done, fault, stuck, map_out}
-use Rattle.weld_meaning.specs.Evaluation.{Env, selected, three_thing}
+use Rattle.weld_meaning.specs.Evaluation.{Env, operated, selected, three_thing}
 use Rattle.weld_meaning.specs.Thing.{Thing, plain}
-use Rattle.weld_turns.specs.CodeView.{Slots, filled, shape_value}
+use Rattle.weld_turns.specs.CodeView.{Slots, filled, shape_value, with_slot}
 use Rattle.weld_turns.specs.Scopes.{with_scope}
 use Rattle.weld_turns.specs.declared.code.Filling.{Filling}
 use Rattle.weld_turns.specs.declared.code.Place.{Place}
@@ -42,3 +43,7 @@ Picks t held first = (f : Slots) → IsFilled (map_out plain (selected (f held) 
 -- whatever the slots have, those from that one on are filled with the struct of two values
 abbrev pub Puts : Filling → Value → Value → ℕ → Type 0
 Puts t v w first = (f : Slots) → IsFilled (done (plain (pair v w))) (filled t f) Pair first f
+
+-- whatever the slots have, the first is filled with what an operator makes of the numbers of both
+abbrev pub IsWork : Filling → BinOp → ℕ → ℕ → Type 0
+IsWork t op first second = (f : Slots) → filled t f ≡ map_out (with_slot f first) (operated op (f first) (f second))

@@ -3,6 +3,7 @@ pub mod CodeSize
 pub mod CodeView
 pub mod Fillings
 pub mod Lowering
+pub mod OnRows
 pub mod Outside
 pub mod Scopes
 pub mod States

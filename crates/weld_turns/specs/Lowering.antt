@@ -8,7 +8,7 @@ use Rattle.weld_data.specs.Operation.{answer_kind}
 use Rattle.weld_data.specs.Value.{Value, number}
 use Rattle.weld_built.specs.Pair.{pair}
 use Rattle.weld_builders.specs.Outcome.{Outcome, done, fault, stuck, and_then}
-use Rattle.weld_meaning.specs.Evaluation.{operated, truth_of, truth_value}
+use Rattle.weld_meaning.specs.Evaluation.{negated, operated, truth_of, truth_value}
 use Rattle.weld_meaning.specs.Thing.{value_field}
 use Rattle.weld_turns.specs.CodeView.{Slots, either_of, filled, shape_value, turn_value, value, with_slot}
 use Rattle.weld_turns.specs.StepView.{Words, step_value, with_word, word_of_operand, worked}
@@ -167,6 +167,10 @@ pub record Forks (t x y : Step) (op : BinOp) (left : ℕ) (right : Operand) : Ty
 -- the instructions put the operator's answer into a place, and go on as the second ones do
 abbrev pub IsWorkPut : Step → Step → BinOp → Code → Code → ℕ → ℕ → Type 0
 IsWorkPut t k op x y to below = (f : Slots) (w : Words) → Agree f w → IsPut (between op x y f) t k w to below
+
+-- the instructions put the wrapped opposite into a place, and go on as the second ones do
+abbrev pub IsOppositePut : Step → Step → Code → ℕ → ℕ → Type 0
+IsOppositePut t k x to below = (f : Slots) (w : Words) → Agree f w → IsPut (and_then (value x f) negated) t k w to below
 
 -- whatever the two come to, the instructions come to the one or the other, as the code says
 abbrev pub IsFork : Step → Step → Step → Code → Type 0

@@ -3,11 +3,13 @@
 ghost use Rattle.std.specs.Prelude.{◌≡◌, ◌≢◌, ◌+◌, ◌≤◌, IfOk};
 ghost use Rattle.weld_eval.specs.ShortView.{view_short};
 ghost use Rattle.weld_turns.specs.declared.code.Shape.TheVariants as shapes;
-ghost use Rattle.weld_turns.specs.Fillings.{Copies, Picks, Puts};
+ghost use Rattle.weld_turns.specs.Fillings.{Copies, IsWork, Picks, Puts};
+ghost use Rattle.weld_turns.specs.declared.code.Code as codes;
 
 use crate::code::{Code, Filling, Shape, Unmade};
 use crate::slots::SLOTS;
 use std::alloc::Global;
+use weld_data::BinOp;
 use weld_eval::short::Short;
 
 /// A filling in a box.
@@ -83,6 +85,31 @@ pub fn picked(held: usize, first: usize, alloc: Global) -> Result<Box<Filling>, 
     match boxed_copy(Shape::Pair, held + 3, first, alloc) {
         Ok(y) => in_box(Filling::Either(Code::Slot(held), x, y), alloc),
         Err(unmade) => Err(unmade),
+    }
+}
+
+/// What an operator makes of the numbers of two slots, put into the first of them.
+#[tactic(auto, using(crate::proofs::Copying::work_filled))]
+pub fn worked(op: BinOp, first: usize, second: usize, alloc: Global) -> Result<Box<Filling>, Unmade>
+    ensures { IfOk result (λ t. IsWork t.value op first second) }
+{
+    let x = match boxed_slot(first, alloc) {
+        Ok(x) => x,
+        Err(unmade) => return Err(unmade),
+    };
+    match boxed_slot(second, alloc) {
+        Ok(y) => in_box(Filling::Put(first, Code::Work(op, x, y)), alloc),
+        Err(unmade) => Err(unmade),
+    }
+}
+
+/// The number of a slot, in a box.
+fn boxed_slot(i: usize, alloc: Global) -> Result<Box<Code>, Unmade>
+    ensures { IfOk result (λ c. c.value ≡ codes.Slot i) }
+{
+    match Box::new(alloc, Code::Slot(i)) {
+        Ok(code) => Ok(code),
+        Err(_) => Err(Unmade::Memory),
     }
 }
 

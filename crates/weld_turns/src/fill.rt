@@ -3,21 +3,22 @@
 ghost use Rattle.std.specs.Prelude.{◌+◌, ◌≤◌, ◌∷◌, IfOk};
 ghost use Rattle.weld_builders.specs.Outcome.{and_then};
 ghost use Rattle.weld_eval.specs.FrameView.{env_of};
-ghost use Rattle.weld_meaning.specs.Evaluation.{chosen, eval, eval_all, many_thing, three_thing};
-ghost use Rattle.weld_tree.specs.ExprTree.{make_struct, pack_exprs, select};
+ghost use Rattle.weld_meaning.specs.Evaluation.{chosen, eval, eval_all, many_thing, three_thing, two_thing};
+ghost use Rattle.weld_tree.specs.ExprTree.{binary, make_struct, pack_exprs, select};
 ghost use Rattle.weld_turns.specs.declared.code.Shape.TheVariants as shapes;
 ghost use Rattle.weld_turns.specs.Fillings.{Fills, Selects};
 ghost use Rattle.weld_turns.specs.Scopes.{room_of, view_scope, AreBelow, IsNamedAt};
 
 use crate::code::{Filling, Place, Shape, Unmade, room};
-use crate::copies::{boxed_copy, copied, in_box, picked, put_pair};
+use crate::copies::{boxed_copy, copied, in_box, picked, put_pair, worked};
 use crate::make::make;
 use crate::outer::outer_pair;
 use crate::scope::{Scope, named_place, outer_name, shape_of, state_place, with_name};
 use crate::slots::SLOTS;
 use std::alloc::Global;
+use weld_data::BinOp;
 use weld_eval::frame::Frame;
-use weld_tree::{Expr, Exprs, Form, ManyForm, Sym, ThreeForm};
+use weld_tree::{Expr, Exprs, Form, ManyForm, Sym, ThreeForm, TwoForm};
 
 /// What fills a place with the value of an expression: what it takes for itself are slots from the next one on.
 #[cycle(fill)]
@@ -42,7 +43,7 @@ pub fn fill(
             fill_fork(test, x, y, place, scope, next, frame, alloc)
         }
         _ => match place.shape {
-            Shape::One => fill_number(e, place.first, scope, frame, alloc),
+            Shape::One => fill_one(e, place.first, scope, next, frame, alloc),
             Shape::Pair => fill_pair(e, place.first, scope, next, frame, alloc),
         },
     }
@@ -67,6 +68,92 @@ fn boxed_fill(
         Ok(filling) => match Box::new(alloc, filling) {
             Ok(filling) => Ok(filling),
             Err(_) => Err(Unmade::Memory),
+        },
+        Err(unmade) => Err(unmade),
+    }
+}
+
+/// A number: where a `let` or an `if` stands below operators, their sides are put into slots one after the other, if there are enough.
+#[cycle(fill)]
+fn fill_one(
+    e: &Expr,
+    first: usize,
+    scope: &Scope,
+    next: usize,
+    frame: &Frame,
+    alloc: Global,
+) -> Result<Filling, Unmade>
+    requires below { AreBelow (view_scope scope.now) first }
+    requires room { first + 1 ≤ next }
+    ensures { IfOk result (λ t. Fills t shapes.One first (view_scope scope.now) (env_of frame.now)
+        (eval e.now)) }
+{
+    match &e.form {
+        Form::Two(TwoForm::Binary(op), x, y) => {
+            if is_whole(x) && is_whole(y) {
+                return fill_number(e, first, scope, frame, alloc);
+            }
+            match fill_work(*op, x, y, first, scope, next, frame, alloc) {
+                Err(Unmade::Other) => fill_number(e, first, scope, frame, alloc),
+                made => made,
+            }
+        }
+        _ => fill_number(e, first, scope, frame, alloc),
+    }
+}
+
+/// Whether neither it nor a side of an operator in it, at any depth, is a `let` or an `if`; other forms aren't looked into.
+fn is_whole(e: &Expr) -> bool {
+    match &e.form {
+        Form::Let(_, _, _) => false,
+        Form::Three(ThreeForm::If, _, _, _) => false,
+        Form::Two(TwoForm::Binary(_), x, y) => is_whole(x) && is_whole(y),
+        _ => true,
+    }
+}
+
+/// An operator between two numbers: the first is put into the place itself, the second into a slot of its own, and then what the
+/// operator makes of them into the place.
+#[cycle(fill)]
+#[tactic(auto, using(crate::proofs::Scoping::below_more))]
+fn fill_work(
+    op: BinOp,
+    x: &Expr,
+    y: &Expr,
+    first: usize,
+    scope: &Scope,
+    next: usize,
+    frame: &Frame,
+    alloc: Global,
+) -> Result<Filling, Unmade>
+    requires below { AreBelow (view_scope scope.now) first }
+    requires room { first + 1 ≤ next }
+    ensures { IfOk result (λ t. Fills t shapes.One first (view_scope scope.now) (env_of frame.now)
+        (λ env. and_then (eval x.now env) (λ u. two_thing (binary op) u (eval y.now env)))) }
+{
+    if next >= SLOTS {
+        return Err(Unmade::Other);
+    }
+    let place = Place {
+        shape: Shape::One,
+        first,
+    };
+    let x = match boxed_fill(x, place, scope, next, frame, alloc) {
+        Ok(x) => x,
+        Err(unmade) => return Err(unmade),
+    };
+    let place = Place {
+        shape: Shape::One,
+        first: next,
+    };
+    let y = match boxed_fill(y, place, scope, next + 1, frame, alloc) {
+        Ok(y) => y,
+        Err(unmade) => return Err(unmade),
+    };
+    match worked(op, first, next, alloc) {
+        Ok(work) => match in_box(Filling::Then(y, work), alloc) {
+            Ok(rest) => Ok(Filling::Then(x, rest)),
+            Err(unmade) => Err(unmade),
         },
         Err(unmade) => Err(unmade),
     }

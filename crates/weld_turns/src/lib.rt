@@ -8,6 +8,7 @@ mod lower;
 mod lower_code;
 mod make;
 mod make_turn;
+mod on_rows;
 mod outer;
 mod rest;
 mod run;
@@ -18,4 +19,6 @@ mod step;
 mod turns;
 mod words;
 
+pub use on_rows::{end_of_turns, made_turn};
+pub use step::Step;
 pub use turns::turns_in_slots;

@@ -43,13 +43,14 @@ fn spend(code: &Code, left: &mut usize) -> bool
     true
 }
 
-/// How many nodes code has, where all of them are operators between slots and literals; else there is no end to it, as nothing
-/// else is lowered.
+/// How many nodes code has, where all are slots, literals, operators between such and opposites of such; else there is no end to it,
+/// as nothing else is lowered.
 #[cycle(size_of)]
 fn size_of(code: &Code) -> usize {
     match code {
         Code::Slot(_) | Code::Literal(_) => 1,
         Code::Work(_, x, y) => size_of(x).saturating_add(size_of(y)).saturating_add(1),
+        Code::Opposite(x) => size_of(x).saturating_add(1),
         _ => usize::MAX,
     }
 }

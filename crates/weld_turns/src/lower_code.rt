@@ -1,13 +1,14 @@
 //! Numbers of kind i64 and their comparisons lowered to instructions on words, before what follows them.
 
-ghost use Rattle.std.specs.Prelude.{◌≡◌, ◌≤◌, FitsSigned, IfOk, IfSome};
+ghost use Rattle.std.specs.Prelude.{◌≡◌, ◌≤◌, pos, neg_ℤ, FitsSigned, IfOk, IfSome};
+ghost use Rattle.weld_data.specs.declared.op.BinOp.TheVariants as ops;
 ghost use Rattle.std.specs.Int.{w64};
 ghost use Rattle.weld_data.specs.declared.kind.Kind.TheVariants as kinds;
 ghost use Rattle.weld_data.specs.Value.{number};
 ghost use Rattle.weld_eval.specs.ShortView.{view_short};
 ghost use Rattle.weld_turns.specs.declared.code.Code as codes;
 ghost use Rattle.weld_turns.specs.declared.step.Operand.TheVariants as operands;
-ghost use Rattle.weld_turns.specs.Lowering.{operand_or, shared, slot_or, Brings, Forks, IsFork, IsForkOf, IsWordPut, IsWorkPut, MayBeAtHand, MayHaveSlot, Puts, Works};
+ghost use Rattle.weld_turns.specs.Lowering.{operand_or, shared, slot_or, Brings, Forks, IsFork, IsForkOf, IsOppositePut, IsWordPut, IsWorkPut, MayBeAtHand, MayHaveSlot, Puts, Works};
 
 use crate::code::{Code, Unmade};
 use crate::run_steps::WORDS;
@@ -81,7 +82,41 @@ pub fn put_code(
         Code::Slot(i) => put_slot(*i, to, below, rest, alloc),
         Code::Literal(n) => put_literal(*n, to, below, rest, alloc),
         Code::Work(op, x, y) => put_work(*op, x, y, to, below, rest, alloc),
+        Code::Opposite(x) => put_opposite(x, to, below, rest, alloc),
         _ => Err(Unmade::Other),
+    }
+}
+
+/// The same of a wrapped opposite, which is the product with -1.
+#[cycle(put)]
+fn put_opposite(
+    x: &Code,
+    to: usize,
+    below: usize,
+    rest: Step,
+    alloc: Global,
+) -> Result<Step, Unmade>
+    requires { shared ≤ below }
+    ensures { IfOk result (λ t. IsOppositePut t rest x.now to below) }
+{
+    if below >= WORDS {
+        return Err(Unmade::Other);
+    }
+    let slot = slot_of(x);
+    let last = match times_minus_one(to, place_or(slot, below), rest, alloc) {
+        Ok(last) => last,
+        Err(unmade) => return Err(unmade),
+    };
+    bring_place(x, slot, below, last, alloc)
+}
+
+/// The product with -1, and what follows it.
+fn times_minus_one(to: usize, left: usize, rest: Step, alloc: Global) -> Result<Step, Unmade>
+    ensures { IfOk result (λ t. Works t rest ops.Mul to left (operands.Word (neg_ℤ (pos 1)))) }
+{
+    match in_box(rest, alloc) {
+        Ok(rest) => work_word(BinOp::Mul, to, left, -1, rest),
+        Err(unmade) => Err(unmade),
     }
 }
 
@@ -213,7 +248,8 @@ fn bring_place(
 ) -> Result<Step, Unmade>
     requires place { shared ≤ place }
     requires slot { MayHaveSlot code.now slot }
-    ensures { IfOk result (λ t. Brings t rest code.now (operands.Place (slot_or slot place)) place) }
+    ensures { IfOk result (λ t. Brings t rest code.now (operands.Place (slot_or slot place))
+        place) }
 {
     if place >= WORDS {
         return Err(Unmade::Other);

@@ -39,7 +39,7 @@ fn answer_with(op: BinOp, x: i64, y: i64) -> Option<i64>
 
 /// The word of a place, where the place is there.
 #[inline(always)]
-fn word_in(words: &[i64], i: usize) -> Option<i64>
+pub(crate) fn word_in(words: &[i64], i: usize) -> Option<i64>
     ensures { IfSome result (λ x. words_of words.now i ≡ x) }
 {
     if i < words.len() {
@@ -51,7 +51,7 @@ fn word_in(words: &[i64], i: usize) -> Option<i64>
 
 /// Puts a word into a place, where the place is there.
 #[inline(always)]
-fn put(to: usize, x: i64, words: &mut [i64]) -> Result<(), Halt>
+pub(crate) fn put(to: usize, x: i64, words: &mut [i64]) -> Result<(), Halt>
     ensures { AreWords result (words_of words.new) (done (with_word (words_of words.old) to x)) }
 {
     if to < words.len() {

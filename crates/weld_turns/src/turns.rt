@@ -1,5 +1,5 @@
-//! The turns of an `iterate` whose state is a number or a struct of two and whose body is numbers. Its code is made once,
-//! before the first turn; no turn takes memory.
+//! The turns of an `iterate` whose state is a number or a struct of two and whose body is numbers. Its code is made once, before the
+//! first turn; behind the eighth it goes by instructions on words, where it can be lowered to such. No turn takes memory.
 
 ghost use Rattle.std.specs.Prelude.{◌≡◌, ◌-◌, [], ◌∷◌, true, IfOk, IfSome};
 ghost use Rattle.weld_data.specs.declared.kind.Kind.TheVariants as kinds;
@@ -22,9 +22,10 @@ ghost use Rattle.weld_turns.specs.States.{comes_from, Follows, IsState, RunsOn, 
 use crate::code::{Halt, Place, Shape, Turn, Unmade};
 use crate::lower::lower;
 use crate::make_turn::make_turn;
+use crate::on_rows::run_all;
 use crate::rest::of_turn;
 use crate::run::run_turn;
-use crate::run_steps::{WORDS, run_steps};
+use crate::run_steps::WORDS;
 use crate::scope::{no_names, with_name};
 use crate::slots::SLOTS;
 use crate::step::Step;
@@ -37,13 +38,13 @@ use weld_eval::thing::{Held, Owned};
 use weld_tree::{Expr, Form, Sym};
 
 /// How many turns an `iterate` may take.
-const TURN_LIMIT: u32 = 1_000_000;
+pub(crate) const TURN_LIMIT: u32 = 1_000_000;
 
 /// How many of them are run by the code before it is lowered to instructions, which pays where more follow.
 const FIRST_TURNS: u32 = 8;
 
 /// How much of a turn is lowered at most, with the nodes of its code: what follows a choice counts once for each of its arms.
-const MOST_STEPS: usize = 400;
+pub(crate) const MOST_STEPS: usize = 400;
 
 /// What an `iterate` comes to from a state on, where its state and its body are of that form; none where they aren't: then
 /// nothing is done. The millionth turn may be the last, and one more is a fault.
@@ -190,7 +191,6 @@ fn run_code<'a>(
 }
 
 /// The same by instructions.
-#[tactic(auto, using(crate::proofs::States::steps_go_on, crate::proofs::States::steps_end, crate::proofs::States::steps_fault, crate::proofs::States::exceeds))]
 fn run_lowered<'a>(
     step: &Step,
     shape: Shape,
@@ -200,15 +200,11 @@ fn run_lowered<'a>(
     ensures { IfSome result (λ r. StepsRunOn r step.now shape (words_of words.old)
         (turn_limit - 8)) }
 {
-    for _turn in FIRST_TURNS..TURN_LIMIT {
-        match run_steps(step, shape, words) {
-            Ok(true) => {}
-            Ok(false) => return last_words(shape, words, alloc),
-            Err(Halt::Fault) => return Some(Err(Stop::Fault)),
-            Err(Halt::Other) => return None,
-        }
+    match run_all(step, shape, &[], FIRST_TURNS, words) {
+        Ok(()) => last_words(shape, words, alloc),
+        Err(Halt::Fault) => Some(Err(Stop::Fault)),
+        Err(Halt::Other) => None,
     }
-    Some(Err(Stop::Fault))
 }
 
 /// Puts a state that stands in the first slots into the first words, where its numbers are of kind i64; it tells whether they are.
@@ -254,7 +250,7 @@ fn put_one(x: i64, words: &mut [i64]) -> bool
 }
 
 /// Puts two words into the first places; it tells whether the places are there.
-fn put_two(x: i64, y: i64, words: &mut [i64]) -> bool
+pub(crate) fn put_two(x: i64, y: i64, words: &mut [i64]) -> bool
     ensures first { result ≡ true → words_of words.new 0 ≡ x }
     ensures second { result ≡ true → words_of words.new 1 ≡ y }
 {

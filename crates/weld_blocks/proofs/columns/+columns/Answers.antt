@@ -1,11 +1,12 @@
 use Rattle.std.proofs.Common.{◌≡◌, ◌<◌, [], List, length, get_or, sym, ap, ◌∙◌, subst, arith}
-use Rattle.weld_tree.specs.ExprTree.{ExprTree, At, three, many, pack_exprs}
+use Rattle.weld_tree.specs.ExprTree.{ExprTree, At, three, many, iterate, pack_exprs}
 use Rattle.weld_tree.specs.ExprView.{view_form, view_three, view_many}
 use Rattle.weld_tree.specs.declared.expr.Form.{Form}
-use Rattle.weld_blocks.specs.Scope.{scope_env, AreFieldsOf}
+use Rattle.weld_blocks.specs.Scope.{bound_at, scope_env, AreFieldsOf}
 use Rattle.weld_blocks.specs.declared.numbers.Numbers.{Numbers}
 use Rattle.weld_blocks.proofs.ColumnLemmas.{choice_numbers, struct_columns, next_field, all_fields}
 use Rattle.weld_blocks.proofs.PickLemmas.{if_where}
+use Rattle.weld_blocks.proofs.TurnLemmas.{iterate_ends}
 use Rattle.weld_blocks.proofs.columns.+columns.Goals as goal
 
 pub arms::of_choice-returns : goal.arms::of_choice-returns
@@ -46,3 +47,11 @@ fields_of-returns t c =
     let all : c.loop-place.place ≡ length c.in-Many.parts = omega arith in
     struct_columns at (view_many c.in-Many.field-0) c.in-Many.parts (scope_env c.args.scope.now) c.args.e.now c.loop-place.columns.items c.args.count is c.requires
     (all_fields c.in-Many.parts c.loop-place.place (scope_env c.args.scope.now) c.loop-place.columns.items c.args.count all c.loop-place.invariant)
+
+pub ends-returns-in-Some-ends_of : goal.ends-returns-in-Some-ends_of
+ends-returns-in-Some-ends_of t c =
+    let at : At = record { place = c.e.inside.place; ty = c.e.inside.ty } in
+    let is : c.args.e.now ≡ iterate at c.deref.result.now c.in-Iterate.binder c.deref-in-Iterate.result.now =
+    sym c.e.view_is ∙ ap (λ (f : Form). view_form f at) c.in-Iterate.is ∙ (λ i. iterate at (sym c.deref.ensures i) c.in-Iterate.binder (sym c.deref-in-Iterate.ensures i)) in
+    iterate_ends c.args.e.now at c.deref.result.now c.deref-in-Iterate.result.now c.in-Iterate.binder (scope_env c.args.scope.now) (bound_at c.in-Some.start) c.in-Some-ends_of.states.shape c.in-Some-ends_of.states.items.items c.args.count
+    is c.in-Some.ensures c.in-Some-ends_of.ensures

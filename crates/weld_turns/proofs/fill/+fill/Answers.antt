@@ -6,7 +6,7 @@ use Rattle.weld_turns.specs.CodeView.{filled}
 use Rattle.weld_turns.specs.Fillings.{Selects}
 use Rattle.weld_turns.specs.Scopes.{view_scope}
 use Rattle.weld_turns.specs.declared.code.Filling.{Filling}
-use Rattle.weld_turns.proofs.Fillings.{after_fills, alias_fills, both_fill, fields_fill, select_fills}
+use Rattle.weld_turns.proofs.Fillings.{after_fills, alias_fills, both_fill, fields_fill, select_fills, work_fills}
 use Rattle.weld_turns.proofs.Scoping.{alias_below, below_more}
 use Rattle.weld_turns.proofs.fill.+fill.Goals as goal
 
@@ -39,3 +39,8 @@ pub fill_both-returns-in-Ok-in_box : goal.fill_both-returns-in-Ok-in_box
 fill_both-returns-in-Ok-in_box t c =
     both_fill c.in-Ok.x.value c.in-Ok-boxed_pair.y.value c.in-Ok-picked.pick.value c.in-Ok-in_box.rest.value c.args.held c.args.first (view_scope c.args.scope.now) (env_of c.args.frame.now) c.args.x.now c.args.y.now
     (λ f. ap (λ (z : Filling). filled z f) c.in-Ok-in_box.ensures) c.requires.room (below_more (view_scope c.args.scope.now) c.args.first c.args.held (omega (arith, c.requires.room)) c.requires.below) c.in-Ok.ensures c.in-Ok-boxed_pair.ensures c.in-Ok-picked.ensures
+
+pub fill_work-returns-in-Ok-in_box : goal.fill_work-returns-in-Ok-in_box
+fill_work-returns-in-Ok-in_box t c =
+    work_fills c.in-Ok.x.value c.in-Ok-boxed_fill.y.value c.in-Ok-worked.work.value c.in-Ok-in_box.rest.value c.args.op c.args.first c.args.next (view_scope c.args.scope.now) (env_of c.args.frame.now) c.args.x.now c.args.y.now
+    (λ f. ap (λ (z : Filling). filled z f) c.in-Ok-in_box.ensures) c.requires.room c.requires.below c.in-Ok.ensures c.in-Ok-boxed_fill.ensures c.in-Ok-worked.ensures

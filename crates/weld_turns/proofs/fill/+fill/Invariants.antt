@@ -38,3 +38,9 @@ decreases-fill_both l = 8 * (expr_nodes l.x.now + expr_nodes l.y.now) + 4
 
 abbrev pub decreases-boxed_pair : goal.decreases-boxed_pair
 decreases-boxed_pair l = 8 * expr_nodes l.e.now + 3
+
+abbrev pub decreases-fill_one : goal.decreases-fill_one
+decreases-fill_one l = 8 * expr_nodes l.e.now
+
+abbrev pub decreases-fill_work : goal.decreases-fill_work
+decreases-fill_work l = 8 * (expr_nodes l.x.now + expr_nodes l.y.now) + 3

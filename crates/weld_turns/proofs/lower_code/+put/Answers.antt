@@ -1,7 +1,9 @@
 use Rattle.std.proofs.Common.{ap, sym, ◌∙◌}
+use Rattle.weld_builders.specs.Outcome.{and_then}
+use Rattle.weld_meaning.specs.Evaluation.{negated}
 use Rattle.weld_turns.specs.CodeView.{value}
 use Rattle.weld_turns.specs.Lowering.{between}
-use Rattle.weld_turns.proofs.LowerLemmas.{slot_rests, work_is, work_ok}
+use Rattle.weld_turns.proofs.LowerLemmas.{opposite_code, opposite_ok, slot_rests, work_is, work_ok}
 use Rattle.weld_turns.proofs.lower_code.+put.Goals as goal
 
 pub bring_place-returns-in-Some : goal.bring_place-returns-in-Some
@@ -16,3 +18,11 @@ pub put_work-returns : goal.put_work-returns
 put_work-returns t c =
     work_ok c.bring_place.result c.in-Ok-bring.next c.in-Ok.last c.args.rest c.args.op c.args.x.now c.args.y.now c.args.to c.args.below c.place_or.result c.operand_for.result c.slot_of-first.result c.at_hand-second.result
     c.requires c.slot_of-first.ensures c.place_or.ensures c.operand_for.ensures c.in-Ok.ensures c.in-Ok-bring.ensures c.bring_place.ensures
+
+pub put_opposite-returns : goal.put_opposite-returns
+put_opposite-returns t c = opposite_ok c.bring_place.result c.in-Ok.last c.args.rest c.args.x.now c.args.to c.args.below c.place_or.result c.slot_of-slot.result c.place_or.ensures c.in-Ok.ensures c.bring_place.ensures
+
+pub put_code-returns-in-Opposite : goal.put_code-returns-in-Opposite
+put_code-returns-in-Opposite t c =
+    opposite_code c.put_opposite.result c.args.rest c.args.code.now c.deref-in-Opposite.result.now c.args.to c.args.below
+    (λ f. ap (λ x. value x f) c.in-Opposite.is ∙ ap (λ x. and_then (value x f) negated) (sym c.deref-in-Opposite.ensures)) c.put_opposite.ensures

@@ -13,3 +13,6 @@ decreases-bring_place l = 4 * code_nodes l.code.now + 1
 
 abbrev pub decreases-put_work : goal.decreases-put_work
 decreases-put_work l = 4 * (code_nodes l.x.now + code_nodes l.y.now) + 2
+
+abbrev pub decreases-put_opposite : goal.decreases-put_opposite
+decreases-put_opposite l = 4 * code_nodes l.x.now + 2

@@ -1,0 +1,429 @@
+//! The states with which the turns of an `iterate` end on the rows of a block. The instructions of a turn are made once for all of
+//! them. It is done where the state is a number of kind i64 or a struct of two such, the names of a row that the body uses stand for
+//! such numbers, and the body can be lowered.
+
+ghost use Rattle.std.specs.Prelude.{◌≡◌, ◌<◌, ◌≤◌, ℕ, true, length, get_or, pos, IfSome};
+ghost use Rattle.weld_data.specs.declared.kind.Kind.TheVariants as kinds;
+ghost use Rattle.weld_data.specs.Value.{number};
+ghost use Rattle.weld_built.specs.Pair.{pair};
+ghost use Rattle.weld_eval.specs.FrameView.{env_of};
+ghost use Rattle.weld_turns.specs.OnRows.{state_of, EndsWith};
+ghost use Rattle.weld_blocks.specs.Numbers.{count_of, number_at, MayBeNumbers, MayGive};
+ghost use Rattle.weld_blocks.specs.Scope.{bound_at, row_env, scope_env};
+ghost use Rattle.weld_blocks.specs.Structs.{AreCounted, AreLonger};
+ghost use Rattle.weld_blocks.specs.Turned.{outer_env, part_at, state_at, word_in, words_in, AreEnds, AreLast, IsFieldOf, IsNoted, NamesGive, StandApart};
+
+use crate::gather::{Gives, gather};
+use crate::leaves::named;
+use crate::numbers::{Numbers, is_same, word_at};
+use crate::scope::{Bound, Rows, Scope};
+use std::alloc::Global;
+use weld_acts::uses;
+use weld_data::Kind;
+use weld_eval::frame::Frame;
+use weld_eval::short::Short;
+use weld_tree::{Expr, Sym};
+use weld_turns::code::Shape;
+use weld_turns::{Step, end_of_turns, made_turn};
+
+/// A state of one or two numbers of kind i64, in words; of a single number the second doesn't matter.
+#[derive(Clone, Copy)]
+pub(crate) struct State {
+    pub first: i64,
+    pub second: i64,
+}
+
+/// Which states are asked for: single numbers, structs of two, or any.
+#[derive(Clone, Copy, PartialEq, Eq)]
+pub(crate) enum Asked {
+    One,
+    Pair,
+    Any,
+}
+
+/// States of a shape, one for each row.
+#[derive(Drop)]
+pub(crate) struct States {
+    pub shape: Shape,
+    pub items: Vec<State>,
+}
+
+/// What stands outside of the rows. It takes no memory.
+fn outer_frame<'a>(scope: &'a Scope<'a>) -> &'a Frame<'a>
+    ensures { env_of result.now ≡ outer_env scope.now }
+{
+    match scope {
+        Scope::Let(_, _, rest) => outer_frame(rest),
+        Scope::Rows(rows) => rows.frame,
+        Scope::Picked(_, _, rest) => outer_frame(rest),
+    }
+}
+
+/// Notes a name of the rows, with its numbers, where the body uses it; tells whether it could, if it had to.
+#[tactic(auto, using(crate::proofs::TurnLemmas::unused_noted, crate::proofs::TurnLemmas::pushed_noted, crate::proofs::TurnLemmas::pushed_give))]
+fn note(
+    body: &Expr,
+    name: Sym,
+    scope: &Scope,
+    count: usize,
+    names: &mut Vec<Sym>,
+    columns: &mut Vec<Numbers>,
+    alloc: Global,
+) -> bool
+    requires { NamesGive names.old.items columns.old.items (scope_env scope.now) count }
+    ensures noted { result ≡ true → IsNoted body.now name.0 names.old.items names.new.items }
+    ensures give { result ≡ true → NamesGive names.new.items columns.new.items
+        (scope_env scope.now) count }
+{
+    if !uses(body, name) {
+        return true;
+    }
+    let numbers = match named(scope, name, count, alloc) {
+        Some(numbers) => numbers,
+        None => return false,
+    };
+    if !is_same(numbers.kind, Kind::I64) {
+        return false;
+    }
+    match names.push(name) {
+        Ok(()) => {}
+        Err(_) => return false,
+    }
+    match columns.push(numbers) {
+        Ok(()) => {}
+        Err(_) => return false,
+    }
+    true
+}
+
+/// Notes all names of the rows that the body uses. `all` are the rows with all their names, `scope` those that are looked at still.
+#[tactic(auto, using(crate::proofs::TurnLemmas::noted_let, crate::proofs::TurnLemmas::noted_picked, crate::proofs::TurnLemmas::noted_rows))]
+fn note_names<'a>(
+    body: &Expr,
+    scope: &'a Scope<'a>,
+    all: &'a Scope<'a>,
+    count: usize,
+    names: &mut Vec<Sym>,
+    columns: &mut Vec<Numbers>,
+    alloc: Global,
+) -> bool
+    requires { NamesGive names.old.items columns.old.items (scope_env all.now) count }
+    ensures apart { result ≡ true → StandApart body.now (scope_env scope.now) (outer_env scope.now)
+        names.old.items names.new.items }
+    ensures give { result ≡ true → NamesGive names.new.items columns.new.items (scope_env all.now)
+        count }
+{
+    match scope {
+        Scope::Let(name, _, rest) => {
+            if !note(body, *name, all, count, names, columns, alloc) {
+                return false;
+            }
+            note_names(body, rest, all, count, names, columns, alloc)
+        }
+        Scope::Picked(_, _, rest) => note_names(body, rest, all, count, names, columns, alloc),
+        Scope::Rows(rows) => note_rows(body, rows, all, count, names, columns, alloc),
+    }
+}
+
+/// The same of the names that each row has.
+#[tactic(auto, using(crate::proofs::TurnLemmas::three_noted))]
+fn note_rows(
+    body: &Expr,
+    rows: &Rows,
+    all: &Scope,
+    count: usize,
+    names: &mut Vec<Sym>,
+    columns: &mut Vec<Numbers>,
+    alloc: Global,
+) -> bool
+    requires { NamesGive names.old.items columns.old.items (scope_env all.now) count }
+    ensures apart { result ≡ true → StandApart body.now (row_env rows.now)
+        (env_of rows.now.frame.now) names.old.items names.new.items }
+    ensures give { result ≡ true → NamesGive names.new.items columns.new.items (scope_env all.now)
+        count }
+{
+    note(body, rows.own_name, all, count, names, columns, alloc)
+        && note(body, rows.count_name, all, count, names, columns, alloc)
+        && note(body, rows.row_name, all, count, names, columns, alloc)
+}
+
+/// The words of columns at a place. It takes no memory.
+fn put_row(columns: &[Numbers], place: usize, row: &mut [i64])
+    requires long { length row.old ≡ length columns.now }
+    requires there { AreLonger columns.now place }
+    ensures { row.new ≡ words_in columns.now place }
+{
+    for k in 0..columns.len() {
+        let column = &columns[k];
+        row[k] = word_at(&column.items, place);
+    }
+}
+
+/// The state with which the turns of the row of a place end, where they end. The row's words are written into the room for them.
+fn end_at(
+    step: &Step,
+    shape: Shape,
+    first: &Numbers,
+    second: &Numbers,
+    columns: &[Numbers],
+    place: usize,
+    row: &mut [i64],
+) -> Option<State>
+    requires first { place < count_of first.now }
+    requires second { place < count_of second.now }
+    requires columns { AreLonger columns.now place }
+    requires row { length row.old ≡ length columns.now }
+    ensures { IfSome result (λ s. EndsWith step.now shape (words_in columns.now place)
+        (state_of shape (word_in first.now place) (word_in second.now place))
+        (state_of shape s.first s.second)) }
+{
+    put_row(columns, place, row);
+    let x = word_at(&first.items, place);
+    let y = word_at(&second.items, place);
+    match end_of_turns(step, shape, x, y, &*row) {
+        Some((first, second)) => Some(State { first, second }),
+        None => None,
+    }
+}
+
+/// Those of all rows, so many as there is room for; it tells whether all ended.
+#[tactic(auto, using(crate::proofs::StructLemmas::longer))]
+fn end_each(
+    step: &Step,
+    shape: Shape,
+    first: &Numbers,
+    second: &Numbers,
+    columns: &[Numbers],
+    states: &mut [State],
+    row: &mut [i64],
+) -> bool
+    requires first { length states.old ≤ count_of first.now }
+    requires second { length states.old ≤ count_of second.now }
+    requires columns { AreCounted columns.now (length states.old) }
+    requires row { length row.old ≡ length columns.now }
+    ensures { result ≡ true → (j : ℕ) → j < length states.old → EndsWith step.now shape
+        (words_in columns.now j) (state_of shape (word_in first.now j) (word_in second.now j))
+        (state_at shape states.new j) }
+{
+    for place in 0..states.len() {
+        match end_at(step, shape, first, second, columns, place, row) {
+            Some(state) => states[place] = state,
+            None => return false,
+        }
+    }
+    true
+}
+
+/// The states with which turns end on so many rows, where none faults and there is memory for them.
+fn end_all(
+    step: &Step,
+    shape: Shape,
+    first: &Numbers,
+    second: &Numbers,
+    columns: &[Numbers],
+    count: usize,
+    alloc: Global,
+) -> Option<Vec<State>>
+    requires first { count ≤ count_of first.now }
+    requires second { count ≤ count_of second.now }
+    requires columns { AreCounted columns.now count }
+    ensures { IfSome result (λ ss. (j : ℕ) → j < count → EndsWith step.now shape
+        (words_in columns.now j) (state_of shape (word_in first.now j) (word_in second.now j))
+        (state_at shape ss.items j)) }
+{
+    let none = State {
+        first: 0,
+        second: 0,
+    };
+    let mut states = match vec![in alloc; none; count] {
+        Ok(states) => states,
+        Err(_) => return None,
+    };
+    let mut row = match vec![in alloc; 0i64; columns.len()] {
+        Ok(row) => row,
+        Err(_) => return None,
+    };
+    if !end_each(step, shape, first, second, columns, &mut states, &mut row) {
+        return None;
+    }
+    Some(states)
+}
+
+/// The states with which the turns of a body end that begin with these, where all is of kind i64.
+fn ends_from<'a>(
+    name: Sym,
+    body: &Expr,
+    shape: Shape,
+    first: &Numbers,
+    second: &Numbers,
+    scope: &'a Scope<'a>,
+    count: usize,
+    alloc: Global,
+) -> Option<Vec<State>>
+    ensures { IfSome result (λ ss. AreLast name.0 body.now (scope_env scope.now)
+        (λ j. state_of shape (word_in first.now j) (word_in second.now j))
+        (state_at shape ss.items) count) }
+{
+    if first.len() < count || second.len() < count {
+        return None;
+    }
+    let mut names = Vec::new(alloc);
+    let mut columns = Vec::new(alloc);
+    if !note_names(body, scope, scope, count, &mut names, &mut columns, alloc) {
+        return None;
+    }
+    match made_turn(name, body, shape, &names, outer_frame(scope), alloc) {
+        Ok(step) => end_all(&step, shape, first, second, &columns, count, alloc),
+        Err(_) => None,
+    }
+}
+
+/// The same from what the turns start with, where a state of its shape is asked for.
+pub(crate) fn ends_of(
+    name: Sym,
+    body: &Expr,
+    start: &Bound,
+    asked: Asked,
+    scope: &Scope,
+    count: usize,
+    alloc: Global,
+) -> Option<States>
+    ensures { IfSome result (λ ss. AreLast name.0 body.now (scope_env scope.now)
+        (bound_at start.now) (state_at ss.shape ss.items.items) count) }
+{
+    match start {
+        Bound::Number(x) => {
+            if asked == Asked::Pair || !is_same(x.kind, Kind::I64) {
+                return None;
+            }
+            match ends_from(name, body, Shape::One, x, x, scope, count, alloc) {
+                Some(items) => Some(States {
+                    shape: Shape::One,
+                    items,
+                }),
+                None => None,
+            }
+        }
+        Bound::Fields(fields) => {
+            let fields = fields.as_slice();
+            if asked == Asked::One || fields.len() != 2 {
+                return None;
+            }
+            let x = &fields[0];
+            let y = &fields[1];
+            if !is_same(x.kind, Kind::I64) || !is_same(y.kind, Kind::I64) {
+                return None;
+            }
+            match ends_from(name, body, Shape::Pair, x, y, scope, count, alloc) {
+                Some(items) => Some(States {
+                    shape: Shape::Pair,
+                    items,
+                }),
+                None => None,
+            }
+        }
+    }
+}
+
+/// One of the numbers of each state.
+#[derive(Clone, Copy)]
+struct Part<'a> {
+    states: &'a [State],
+    is_second: bool,
+}
+
+impl<'a> Gives for Part<'a> {
+    ghost use Rattle.weld_blocks.specs.Turned.{part_at};
+
+    ghost gives = { λ p place v. v ≡ number kinds.I64 (part_at p.is_second p.states.now place) };
+
+    #[inline(always)]
+    fn at(&self, place: usize) -> Option<Short> {
+        if place < self.states.len() {
+            let state = self.states[place];
+            Some(Short::of_i64(if self.is_second {
+                state.second
+            } else {
+                state.first
+            }))
+        } else {
+            None
+        }
+    }
+}
+
+/// One of the numbers of each state, as a column.
+fn part_of(states: &[State], is_second: bool, count: usize, alloc: Global) -> Option<Numbers>
+    ensures { MayGive (λ place v. v ≡ number kinds.I64 (part_at is_second states.now place)) result
+        count }
+{
+    let part = Part { states, is_second };
+    gather(alloc, count, &part)
+}
+
+/// The numbers that an expression comes to, where these are the states that it comes to, and each is a single number.
+#[tactic(auto, using(crate::proofs::TurnLemmas::one_numbers))]
+pub(crate) fn single_numbers(
+    e: &Expr,
+    states: &States,
+    scope: &Scope,
+    count: usize,
+    alloc: Global,
+) -> Option<Numbers>
+    requires { AreEnds e.now (scope_env scope.now) states.now.shape states.now.items.items count }
+    ensures { MayBeNumbers e.now (scope_env scope.now) result count }
+{
+    let _node = e;
+    let _scope = scope;
+    match states.shape {
+        Shape::One => part_of(&states.items, false, count, alloc),
+        Shape::Pair => None,
+    }
+}
+
+/// Those of a field, from 0, where each is a struct of two.
+pub(crate) fn numbers_of_field(
+    field: u32,
+    states: &States,
+    count: usize,
+    alloc: Global,
+) -> Option<Numbers>
+    ensures { MayGive (λ place v. IsFieldOf field (state_at states.now.shape states.now.items.items
+        place) v) result count }
+{
+    match (states.shape, field) {
+        (Shape::Pair, 0) => part_of(&states.items, false, count, alloc),
+        (Shape::Pair, 1) => part_of(&states.items, true, count, alloc),
+        _ => None,
+    }
+}
+
+/// The states as what a `let` binds.
+pub(crate) fn bound_states(states: &States, count: usize, alloc: Global) -> Option<Bound>
+    ensures { IfSome result (λ b. (j : ℕ) → j < count → bound_at b j ≡ state_at states.now.shape
+        states.now.items.items j) }
+{
+    let first = match part_of(&states.items, false, count, alloc) {
+        Some(first) => first,
+        None => return None,
+    };
+    match states.shape {
+        Shape::One => Some(Bound::Number(first)),
+        Shape::Pair => match part_of(&states.items, true, count, alloc) {
+            Some(second) => two_columns(first, second, alloc),
+            None => None,
+        },
+    }
+}
+
+/// Two columns as the fields of structs.
+fn two_columns(first: Numbers, second: Numbers, alloc: Global) -> Option<Bound>
+    ensures { IfSome result (λ b. (j : ℕ) → bound_at b j ≡ pair (number_at first j)
+        (number_at second j)) }
+{
+    let mut columns = Vec::new(alloc);
+    match (columns.push(first), columns.push(second)) {
+        (Ok(()), Ok(())) => Some(Bound::Fields(columns)),
+        _ => None,
+    }
+}

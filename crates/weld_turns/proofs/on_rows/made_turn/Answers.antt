@@ -1,0 +1,6 @@
+use Rattle.weld_eval.specs.FrameView.{env_of}
+use Rattle.weld_turns.proofs.OnRows.{means_ok}
+use Rattle.weld_turns.proofs.on_rows.made_turn.Goals as goal
+
+pub returns-in-Ok : goal.returns-in-Ok
+returns-in-Ok c = means_ok c.lowered.result c.in-Ok.turn c.args.shape c.args.name.0 c.args.body.now c.args.names.now (env_of c.args.frame.now) c.in-Ok.ensures c.lowered.ensures
