@@ -1,28 +1,29 @@
 //! What a loop's body does on the rows of a block.
 
-ghost use Rattle.std.specs.Prelude.{◌≡◌, ℕ, true, IfSome};
+ghost use Rattle.std.specs.Prelude.{◌≡◌, ℕ, IfSome};
 ghost use Rattle.weld_eval.specs.FrameView.{env_of};
 ghost use Rattle.weld_blocks.specs.Structs.{IsStructTree};
 ghost use Rattle.weld_eval.specs.LegsView.{lists_of};
 ghost use Rattle.weld_eval.specs.ThingView.{thing_of};
 ghost use Rattle.weld_deeds.specs.Block.{MayBeBlock};
-ghost use Rattle.weld_deeds.specs.Deeds.{IsDeed, MayBeDeed, MayBeItem, MayBePair, IsBefore, IsMergeTree, IsQuiet, item_at};
+ghost use Rattle.weld_deeds.specs.Deeds.{IsDeed, MayBeDeed, MayBeItem, MayBePair, IsBefore, IsMergeTree, item_at};
 ghost use Rattle.weld_eval_plain.specs.Nodes.{IsIf};
 ghost use Rattle.weld_builders.specs.Outcome.{done};
 ghost use Rattle.weld_meaning.specs.Evaluation.{eval as eval_of};
 ghost use Rattle.weld_meaning.specs.Thing.{plain};
 ghost use Rattle.weld_deeds.specs.Named.{MayBeStructs};
-ghost use Rattle.weld_deeds.specs.Arms.{IsDeedWhere, MayBeDeedWhere, MayBeItemWhere};
+ghost use Rattle.weld_deeds.specs.Arms.{IsDeedWhere};
 ghost use Rattle.weld_blocks.specs.Numbers.{number_at, IsChosen};
 ghost use Rattle.weld_blocks.specs.Scope.{scope_env};
 
+use crate::arms::{careful_deed, is_quiet};
 use crate::deed::{Deed, Deeds};
 use crate::lists::lists_of;
 use crate::named::columns_named;
 use crate::pairs::{number_of_bound, pair_named, pair_of_bound};
 use crate::texts::same_text;
 use std::alloc::Global;
-use weld_blocks::columns::{bound_of, chosen, name_of, numbers, numbers_where};
+use weld_blocks::columns::{bound_of, chosen, name_of, numbers};
 use weld_blocks::numbers::Numbers;
 use weld_blocks::picking::may_fault;
 use weld_blocks::scope::{Rows, Scope, of_rows, with_bound};
@@ -95,17 +96,6 @@ fn of_merge(e: &Expr, scope: &Scope, count: usize, alloc: Global) -> Option<Deed
             }
         }
         _ => unreachable!(),
-    }
-}
-
-/// Whether nothing is done to the builder: it is a name or a field.
-fn is_quiet(e: &Expr) -> bool
-    ensures { result ≡ true → IsQuiet e.now }
-{
-    match &e.form {
-        Form::Leaf(_) => true,
-        Form::One(_, _) => true,
-        _ => false,
     }
 }
 
@@ -356,98 +346,6 @@ fn arm_of(
             Err(_) => None,
         },
         None => None,
-    }
-}
-
-/// The same of an arm that may fault, where it is a merge.
-fn careful_deed(
-    e: &Expr,
-    truths: &Numbers,
-    truth: bool,
-    scope: &Scope,
-    count: usize,
-    alloc: Global,
-) -> Option<Deed>
-    ensures { MayBeDeedWhere e.now (scope_env scope.now) truths.now truth result count }
-{
-    match &e.form {
-        Form::Two(TwoForm::Merge, _, _) => merge_where(e, truths, truth, scope, count, alloc),
-        _ => None,
-    }
-}
-
-/// A merge of a number or of a written struct of two, on the rows on which the truth value is this one.
-fn merge_where(
-    e: &Expr,
-    truths: &Numbers,
-    truth: bool,
-    scope: &Scope,
-    count: usize,
-    alloc: Global,
-) -> Option<Deed>
-    requires { IsMergeTree e.now }
-    ensures { MayBeDeedWhere e.now (scope_env scope.now) truths.now truth result count }
-{
-    match &e.form {
-        Form::Two(_, first, item) => {
-            if is_quiet(first) {
-                item_where(item, truths, truth, scope, count, alloc)
-            } else {
-                None
-            }
-        }
-        _ => unreachable!(),
-    }
-}
-
-/// What is merged on those rows.
-fn item_where(
-    item: &Expr,
-    truths: &Numbers,
-    truth: bool,
-    scope: &Scope,
-    count: usize,
-    alloc: Global,
-) -> Option<Deed>
-    ensures { MayBeItemWhere item.now (scope_env scope.now) truths.now truth result count }
-{
-    match &item.form {
-        Form::Many(ManyForm::Struct, _) => pair_where(item, truths, truth, scope, count, alloc),
-        _ => match numbers_where(item, truths, truth, scope, count, alloc) {
-            Some(numbers) => Some(Deed::Number(numbers)),
-            None => None,
-        },
-    }
-}
-
-/// A struct of two numbers that is written out, on those rows.
-#[tactic(auto, using(crate::proofs::ArmLemmas::written_pair_where))]
-fn pair_where(
-    item: &Expr,
-    truths: &Numbers,
-    truth: bool,
-    scope: &Scope,
-    count: usize,
-    alloc: Global,
-) -> Option<Deed>
-    ensures { MayBeItemWhere item.now (scope_env scope.now) truths.now truth result count }
-{
-    match &item.form {
-        Form::Many(ManyForm::Struct, parts) => {
-            let parts = parts.as_slice();
-            if parts.len() != 2 {
-                return None;
-            }
-            let keys = match numbers_where(&parts[0], truths, truth, scope, count, alloc) {
-                Some(keys) => keys,
-                None => return None,
-            };
-            match numbers_where(&parts[1], truths, truth, scope, count, alloc) {
-                Some(numbers) => Some(Deed::Pair(keys, numbers)),
-                None => None,
-            }
-        }
-        _ => None,
     }
 }
 

@@ -1,6 +1,7 @@
 //! What a loop's body does to its builder on the rows of a block: what it merges is worked out for many rows at once, and then merged.
 #![tactic(auto)]
 
+mod arms;
 pub mod body;
 mod chosen;
 pub mod deed;

@@ -4,7 +4,7 @@ use Rattle.weld_tree.specs.ExprView.{view_form, view_two}
 use Rattle.weld_tree.specs.declared.expr.Form.{Form}
 use Rattle.weld_blocks.specs.Scope.{scope_env}
 use Rattle.weld_deeds.proofs.ArmLemmas.{merge_where_of}
-use Rattle.weld_deeds.proofs.body.merge_where.Goals as goal
+use Rattle.weld_deeds.proofs.arms.merge_where.Goals as goal
 
 pub returns-then-is_quiet : goal.returns-then-is_quiet
 returns-then-is_quiet c =
