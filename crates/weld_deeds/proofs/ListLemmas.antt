@@ -1,5 +1,6 @@
 -- Vectors of numbers item by item.
-use Rattle.std.proofs.Common.{◌≡◌, ℕ, ◌<◌, ℤ, pos, List, [], ◌∷◌, ◌++◌, map, get_or, Option, Some, None, Vec, Global, refl, sym, ap, subst, ◌∙◌}
+use Rattle.std.proofs.Common.{◌≡◌, ℕ, ◌<◌, ◌≤◌, ℤ, pos, List, [], ◌∷◌, ◌++◌, length, map, take, get_or, Option, Some, None, Vec, Global, refl, sym, ap, subst, ◌∙◌}
+use Rattle.std.proofs.lemmas.List.{take_all}
 use Rattle.weld_data.specs.declared.kind.Kind.{Kind}
 use Rattle.weld_data.specs.declared.kind.Kind.TheVariants as kinds
 use Rattle.weld_data.specs.declared.value.Val.{Val}
@@ -77,9 +78,9 @@ wide_numbers (c ∷ cs) j alike =
     ap (λ (k : Kind). number k (of_word k (get_or c.items.items j (pos 0))) ∷ map (number kinds.I64) (words_at cs j)) (sym alike.0)
     ∙ ap (λ (vs : List Value). number_at c j ∷ vs) (wide_numbers cs j alike.1)
 
-pub wide_are : (v : Val) (column : Column) (cs : List Numbers) (j : ℕ) (xs ws : List ℤ) → xs ≡ [] → ws ≡ xs ++ words_at cs j → view_column column ≡ map (number kinds.I64) ws → v ≡ val.List column → AreAlike kinds.I64 cs → list_at cs j ≡ view_val v
-wide_are v column cs j xs ws none more is made alike =
-    sym (ap view_val made ∙ ap (λ us. list (values us)) (is ∙ ap (map (number kinds.I64)) (more ∙ ap (λ us. us ++ words_at cs j) none) ∙ wide_numbers cs j alike))
+pub wide_are : (v : Val) (column : Column) (cs : List Numbers) (i j : ℕ) (ws : List ℤ) → length cs ≤ i → ws ≡ words_at (take i cs) j → view_column column ≡ map (number kinds.I64) ws → v ≡ val.List column → AreAlike kinds.I64 cs → list_at cs j ≡ view_val v
+wide_are v column cs i j ws all words is made alike =
+    sym (ap view_val made ∙ ap (λ us. list (values us)) (is ∙ ap (map (number kinds.I64)) (words ∙ ap (λ ds. words_at ds j) (take_all i cs all)) ∙ wide_numbers cs j alike))
 
 -- a string that is written out
 pub text_is : (a : At) (bytes : List ℕ) (envs : ℕ → Env) (n : ExprTree) (u : Same) → n ≡ leaf a (chars bytes) → view_val u.value ≡ list (values (map byte_value bytes)) → (count : ℕ) → IsItem n envs (deed.Same u) count

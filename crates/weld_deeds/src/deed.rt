@@ -3,9 +3,9 @@
 ghost use Rattle.weld_acts.specs.Act.{Acts};
 ghost use Rattle.weld_eval.specs.ThingView.{thing_of, things_of};
 ghost use Rattle.weld_deeds.specs.Deeds.{DeedFits, DeedsFit, do_of, do_all, DoesAll};
-ghost use Rattle.weld_deeds.specs.Does.{number_done, NumberFits, pair_done, PairFits, guarded_done, GuardedFits};
+ghost use Rattle.weld_deeds.specs.Does.{number_done, NumberFits, pair_done, PairFits, guarded_done, GuardedFits, list_done, WideFits};
 
-use crate::lists::put_list;
+use crate::lists::{put_list, put_wide};
 use crate::puts::{put_number, put_struct, put_two};
 use crate::texts::{Same, put_same};
 use weld_blocks::numbers::Numbers;
@@ -180,5 +180,22 @@ impl<'a> Does for EachGuarded<'a> {
         } else {
             Ok(())
         }
+    }
+}
+
+/// A vector of numbers is merged, which all are of kind i64.
+#[derive(Clone, Copy)]
+pub struct EachWide<'a> {
+    pub columns: &'a Vec<Numbers>,
+}
+
+impl<'a> Does for EachWide<'a> {
+    ghost does = { λ d. list_done d.columns.now.items };
+
+    ghost fits = { λ d. WideFits d.columns.now.items };
+
+    #[inline(always)]
+    fn at(&self, place: usize, builder: &mut Owned) -> Result<(), Stop> {
+        put_wide(self.columns, place, builder)
     }
 }

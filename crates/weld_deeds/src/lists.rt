@@ -14,11 +14,11 @@ ghost use Rattle.weld_eval.specs.ThingView.{thing_of};
 ghost use Rattle.weld_blocks.specs.Numbers.{count_of, number_at};
 ghost use Rattle.weld_blocks.specs.Scope.{scope_env};
 ghost use Rattle.weld_blocks.specs.Structs.{AreLonger};
+ghost use Rattle.weld_deeds.specs.Does.{list_done, WideFits};
 ghost use Rattle.weld_deeds.specs.Lists.{list_at, AreAlike, MayBeFields, MayBeLists};
 ghost use Rattle.weld_deeds.specs.Puts.{IsPut};
 
 use crate::puts::{empty_with_room, put_value, value_at};
-use crate::rows::push_words;
 use std::alloc::{AllocError, Global};
 use weld_blocks::columns::numbers;
 use weld_blocks::numbers::{Numbers, word_at};
@@ -63,7 +63,7 @@ fn items_of(parts: &Exprs, scope: &Scope, count: usize, alloc: Global) -> Option
 }
 
 /// Whether all columns are of a kind.
-fn are_alike(kind: Kind, columns: &[Numbers]) -> bool
+pub(crate) fn are_alike(kind: Kind, columns: &[Numbers]) -> bool
     ensures { result ≡ true → AreAlike kind columns.now }
 {
     match columns.split_first() {
@@ -110,14 +110,36 @@ fn list_of_row(columns: &[Numbers], place: usize, alloc: Global) -> Result<Val, 
     }
 }
 
+/// Merges the vector of the numbers at a place, from 0, which all are of kind i64.
+#[tactic(auto, using(crate::proofs::PutLemmas::same_put, crate::proofs::PutLemmas::same_acts))]
+#[inline(always)]
+pub(crate) fn put_wide(
+    columns: &Vec<Numbers>,
+    place: usize,
+    builder: &mut Owned,
+) -> Result<(), Stop>
+    requires { WideFits columns.now.items place (thing_of builder.old) }
+    ensures { Acts result (list_done columns.now.items place (thing_of builder.old))
+        (thing_of builder.new) }
+{
+    match wide_row(columns, place, *columns.allocator()) {
+        Ok(item) => put_value(builder, item),
+        Err(_) => Err(Stop::Memory),
+    }
+}
+
 /// The vector of numbers of kind i64, with room for these alone.
+#[tactic(auto, using(weld_blocks::proofs::StructLemmas::longer_at))]
+#[inline(always)]
 fn wide_row(columns: &[Numbers], place: usize, alloc: Global) -> Result<Val, AllocError>
     requires alike { AreAlike kinds.I64 columns.now }
     requires long { AreLonger columns.now place }
     ensures { IfOk result (λ v. list_at columns.now place ≡ view_val v) }
 {
     let mut words = Vec::with_capacity(alloc, columns.len())?;
-    push_words(columns, place, &mut words)?;
+    'columns: for i in 0..columns.len() {
+        words.push_reserved(word_at(&columns[i].items, place));
+    }
     Ok(Val::List(Column::I64(Items::from_vec(words))))
 }
 

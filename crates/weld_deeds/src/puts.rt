@@ -221,6 +221,7 @@ pub(crate) fn value_at(column: &Numbers, place: usize) -> Val
 
 /// Merges a value.
 #[tactic(auto, using(crate::proofs::PutLemmas::put_acts))]
+#[inline(always)]
 pub fn put_value(builder: &mut Owned, item: Val) -> Result<(), Stop>
     requires { IsPut (thing_of builder.old) (view_val item) }
     ensures { Acts result (merged (thing_of builder.old) (done (plain (view_val item))))

@@ -186,11 +186,7 @@ fn words_of(columns: &[Numbers], count: usize, alloc: Global) -> Result<Vec<i64>
 }
 
 /// Appends the words at a place.
-pub(crate) fn push_words(
-    columns: &[Numbers],
-    place: usize,
-    words: &mut Vec<i64>,
-) -> Result<(), AllocError>
+fn push_words(columns: &[Numbers], place: usize, words: &mut Vec<i64>) -> Result<(), AllocError>
     requires { AreLonger columns.now place }
     ensures { OnOk result (words.new.items ≡ words.old.items ++ words_at columns.now place) }
 {

@@ -12,14 +12,15 @@ ghost use Rattle.weld_deeds.specs.Does.{DoesAs};
 ghost use Rattle.weld_blocks.specs.Numbers.{count_of};
 ghost use Rattle.weld_deeds.specs.Rows.{struct_guarded, StructGuardedFits};
 ghost use Rattle.weld_deeds.specs.Through.{FitsThrough, done_through};
-ghost use Rattle.weld_deeds.specs.declared.deed.Deed.TheVariants.{Nothing as DoesNothing, Number as OfNumber, Pair as OfPair, Fields as OfFields, Struct as OfStruct};
+ghost use Rattle.weld_deeds.specs.declared.deed.Deed.TheVariants.{Nothing as DoesNothing, Number as OfNumber, Pair as OfPair, Fields as OfFields, Struct as OfStruct, List as OfList};
 
 use crate::chosen::put_chosen;
-use crate::deed::{AnyDeed, Deed, Deeds, Does, EachGuarded, EachNumber, EachPair};
+use crate::deed::{AnyDeed, Deed, Deeds, Does, EachGuarded, EachNumber, EachPair, EachWide};
+use crate::lists::are_alike;
 use crate::puts::{put_numbers, put_pairs};
 use crate::rows::{put_chosen_rows, put_rows};
 use weld_blocks::numbers::Numbers;
-use weld_data::Stop;
+use weld_data::{Kind, Stop};
 use weld_eval::thing::{Fields, Owned};
 
 /// Does it on the first rows of the block, so many, one after another.
@@ -34,7 +35,8 @@ pub fn do_through(deed: &Deed, count: usize, builder: &mut Owned) -> Result<(), 
         Deed::Number(numbers) => do_number(deed, numbers, count, builder),
         Deed::Pair(keys, numbers) => do_pair(deed, keys, numbers, count, builder),
         Deed::Struct(columns) => do_rows(deed, columns, count, builder),
-        Deed::List(_) | Deed::Same(_) => do_each(deed, &AnyDeed { deed }, count, builder),
+        Deed::List(columns) => do_lists(deed, columns, count, builder),
+        Deed::Same(_) => do_each(deed, &AnyDeed { deed }, count, builder),
         Deed::Choice(truths, then, otherwise) => {
             do_choice(deed, truths, then, otherwise, count, builder)
         }
@@ -100,6 +102,27 @@ fn do_rows(
         Ok(true) => Ok(()),
         Ok(false) => do_each(deed, &AnyDeed { deed }, count, builder),
         Err(_) => Err(Stop::Memory),
+    }
+}
+
+/// The same of a vector of numbers on each row: a loop of its own where all are of kind i64.
+#[tactic(auto, using(crate::proofs::DeedForms::any_as, crate::proofs::DeedForms::wide_as))]
+fn do_lists(
+    deed: &Deed,
+    columns: &Vec<Numbers>,
+    count: usize,
+    builder: &mut Owned,
+) -> Result<(), Stop>
+    requires fits { FitsThrough (do_of deed.now) (DeedFits deed.now) 0 count
+        (thing_of builder.old) }
+    requires lists { deed.now ≡ OfList columns.now }
+    ensures { Acts result (done_through (do_of deed.now) 0 count (thing_of builder.old))
+        (thing_of builder.new) }
+{
+    if are_alike(Kind::I64, columns) {
+        do_each(deed, &EachWide { columns }, count, builder)
+    } else {
+        do_each(deed, &AnyDeed { deed }, count, builder)
     }
 }
 

@@ -1,4 +1,4 @@
-use Rattle.std.proofs.Common.{map, refl, ap}
+use Rattle.std.proofs.Common.{map, refl, ap, arith}
 use Rattle.weld_data.specs.declared.kind.Kind.TheVariants as kinds
 use Rattle.weld_data.specs.Value.{number}
 use Rattle.weld_data.specs.declared.value.Column.TheVariants as columns
@@ -7,4 +7,4 @@ use Rattle.weld_deeds.proofs.lists.wide_row.Goals as goal
 
 pub returns : goal.returns
 returns c =
-    wide_are _ (columns.I64 c.from_vec.result) c.args.columns.now c.args.place c.in_ok-words.words.items c.push_words.new.words.items c.in_ok-words.ensures.items c.in_ok-push_words.ensures (ap (map (number kinds.I64)) c.from_vec.ensures) refl c.requires.alike
+    wide_are _ (columns.I64 c.from_vec.result) c.args.columns.now c.columns.i c.args.place c.columns.words.items (omega arith) c.columns.invariant.words (ap (map (number kinds.I64)) c.from_vec.ensures) refl c.requires.alike
