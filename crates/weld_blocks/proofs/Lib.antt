@@ -3,6 +3,7 @@ mod Gathering
 mod KeyLemmas
 pub mod LeafLemmas
 mod LentLemmas
+mod NoteLemmas
 mod OuterLemmas
 mod PickLemmas
 mod Scalars

@@ -1,19 +1,22 @@
 -- The turns of an `iterate` on the rows of a block.
-use Rattle.std.specs.Prelude.{◌≡◌, ◌≢◌, ℕ, ◌<◌, Bool, true, false, if◌then◌else◌, List, [], ◌∷◌, map, get_or, ℤ, pos, Some}
+use Rattle.std.specs.Prelude.{◌≡◌, ◌≢◌, ℕ, suc, ◌<◌, ◌/◌, Bool, true, false, if◌then◌else◌, List, [], ◌∷◌, ◌++◌, length, map, get_or, ℤ, pos, Option, Some}
 use Rattle.weld_data.specs.declared.kind.Kind.TheVariants as kinds
 use Rattle.weld_data.specs.Value.{Value}
 use Rattle.weld_tree.specs.ExprTree.{ExprTree}
-use Rattle.weld_tree.specs.declared.sym.Sym.{Sym}
-use Rattle.weld_builders.specs.Outcome.{done}
+use Rattle.weld_builders.specs.Outcome.{done, and_then}
 use Rattle.weld_meaning.specs.Environment.{look_for}
-use Rattle.weld_meaning.specs.Evaluation.{Env, eval, turns, turn_limit}
-use Rattle.weld_meaning.specs.Thing.{plain, value_field}
+use Rattle.weld_meaning.specs.Evaluation.{Env, eval, found, turns, turn_limit}
+use Rattle.weld_meaning.specs.Thing.{Thing, plain, field_of, value_field}
 use Rattle.weld_acts.specs.Test.{uses}
 use Rattle.weld_eval.specs.FrameView.{env_of}
 use Rattle.weld_turns.specs.OnRows.{has_name, state_of}
 use Rattle.weld_turns.specs.States.{next_of}
+use Rattle.weld_turns.specs.Scopes.{is_odd}
+use Rattle.weld_turns.specs.declared.code.Named.{Named}
+use Rattle.weld_turns.specs.declared.code.Seen.{Seen}
+use Rattle.weld_turns.specs.declared.code.Seen.TheVariants.{Number, Fields}
 use Rattle.weld_turns.specs.declared.code.Shape.{Shape}
-use Rattle.weld_blocks.specs.Numbers.{count_of, number_at}
+use Rattle.weld_blocks.specs.Numbers.{count_of, number_at, AreGiven}
 use Rattle.weld_blocks.specs.declared.numbers.Numbers.{Numbers}
 use Rattle.weld_blocks.specs.declared.scope.Scope.{Scope, fold-Scope}
 use Rattle.weld_blocks.specs.declared.scope.Scope.TheOpen.{Scope-F}
@@ -31,22 +34,40 @@ abbrev pub outer_env : Scope → Env
 outer_env = fold-Scope Env outer_step
 
 -- each name that is used and isn't among the new ones is another one, and wasn't among the old ones
-abbrev pub IsNoted : ExprTree → ℕ → List Sym → List Sym → Type 0
+abbrev pub IsNoted : ExprTree → ℕ → List Named → List Named → Type 0
 IsNoted e s old new = (n : ℕ) → uses e n ≡ true → has_name n new ≡ false → (n ≢ s) × (has_name n old ≡ false)
 
 -- each name that is used and isn't among the new ones stands on every row for what it stands for outside, and wasn't among the old ones
-abbrev pub StandApart : ExprTree → (ℕ → Env) → Env → List Sym → List Sym → Type 0
+abbrev pub StandApart : ExprTree → (ℕ → Env) → Env → List Named → List Named → Type 0
 StandApart e envs out old new = (n : ℕ) → uses e n ≡ true → has_name n new ≡ false → ((j : ℕ) → look_for n (envs j) ≡ look_for n out) × (has_name n old ≡ false)
 
--- the numbers of a name are of kind i64, and it stands for them
-abbrev pub NameGives : Sym → Numbers → (ℕ → Env) → ℕ → Type 0
-NameGives s c envs count = (c.kind ≡ kinds.I64) × (count_of c ≡ count) × ((j : ℕ) → j < count → look_for s.0 (envs j) ≡ Some (plain (number_at c j)))
+-- what was found is a value
+abbrev pub IsValue : Option Thing → Type 0
+IsValue o = (v : Value) × (o ≡ Some (plain v))
 
-abbrev pub NamesGive : List Sym → List Numbers → (ℕ → Env) → ℕ → Type 0
-NamesGive [] [] envs count = Unit {0}
-NamesGive [] (c ∷ cs) envs count = ⊥
-NamesGive (s ∷ ss) [] envs count = ⊥
-NamesGive (s ∷ ss) (c ∷ cs) envs count = NameGives s c envs count × NamesGive ss cs envs count
+-- so many numbers: where it is taken, of kind i64, and the field of what the name stands for on each row
+abbrev pub IsFieldColumn : Bool → ℕ → ℕ → Numbers → (ℕ → Env) → ℕ → Type 0
+IsFieldColumn is_taken k s c envs count =
+    (count_of c ≡ count) × (is_taken ≡ true → (c.kind ≡ kinds.I64) × ((j : ℕ) → j < count → and_then (found (look_for s (envs j))) (field_of k) ≡ done (plain (number_at c j))))
+
+-- they are those of the fields from one on whose bits are set, and of those before the last of them
+abbrev pub AreTaken : ℕ → ℕ → ℕ → List Numbers → (ℕ → Env) → ℕ → Type 0
+AreTaken bits k s [] envs count = bits ≡ 0
+AreTaken bits k s (c ∷ cs) envs count = (bits ≡ 0 → ⊥) × IsFieldColumn (is_odd bits) k s c envs count × AreTaken (bits / 2) (suc k) s cs envs count
+
+-- such columns were appended
+abbrev pub TakesFields : ℕ → ℕ → ℕ → List Numbers → List Numbers → (ℕ → Env) → ℕ → Type 0
+TakesFields bits k s old new envs count = (cs : List Numbers) × (new ≡ old ++ cs) × AreTaken bits k s cs envs count
+
+-- the columns are those of what the name is seen as
+abbrev pub NameGives : ℕ → Seen → List Numbers → (ℕ → Env) → ℕ → Type 0
+NameGives s Number cs envs count = (c : Numbers) × (cs ≡ c ∷ []) × (c.kind ≡ kinds.I64) × AreGiven (λ j v. look_for s (envs j) ≡ Some (plain v)) c count
+NameGives s (Fields n bits) cs envs count = (n ≡ length cs) × (bits ≡ 0 → ⊥) × ((j : ℕ) → IsValue (look_for s (envs j))) × AreTaken bits 0 s cs envs count
+
+-- the columns are those of the names, one after another
+abbrev pub NamesGive : List Named → List Numbers → (ℕ → Env) → ℕ → Type 0
+NamesGive [] cs envs count = cs ≡ []
+NamesGive (s ∷ ss) cs envs count = (here rest : List Numbers) × (cs ≡ here ++ rest) × NameGives s.name.0 s.seen here envs count × NamesGive ss rest envs count
 
 -- ---- words
 

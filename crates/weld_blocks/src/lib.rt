@@ -9,6 +9,7 @@ mod gather;
 mod items;
 pub mod leaves;
 mod lent;
+mod noting;
 pub mod numbers;
 mod operations;
 mod outer;

@@ -1,6 +1,6 @@
 //! The states with which the turns of an `iterate` end on the rows of a block. The instructions of a turn are made once for all of
-//! them. It is done where the state is a number of kind i64 or a struct of two such, the names of a row that the body uses stand for
-//! such numbers, and the body can be lowered.
+//! them. It is done where the state is a number of kind i64 or a struct of two such, the names of a row that the body uses stand
+//! for such numbers or for structs of which it takes such fields, and the body can be lowered.
 
 ghost use Rattle.std.specs.Prelude.{◌≡◌, ◌<◌, ◌≤◌, ℕ, true, length, get_or, pos, IfSome};
 ghost use Rattle.weld_data.specs.declared.kind.Kind.TheVariants as kinds;
@@ -14,17 +14,15 @@ ghost use Rattle.weld_blocks.specs.Structs.{AreCounted, AreLonger};
 ghost use Rattle.weld_blocks.specs.Turned.{outer_env, part_at, state_at, word_in, words_in, AreEnds, AreLast, IsFieldOf, IsNoted, NamesGive, StandApart};
 
 use crate::gather::{Gives, gather};
-use crate::leaves::named;
+use crate::noting::{note_names, outer_frame};
 use crate::numbers::{Numbers, is_same, word_at};
-use crate::scope::{Bound, Rows, Scope};
+use crate::scope::{Bound, Scope};
 use std::alloc::Global;
-use weld_acts::uses;
 use weld_data::Kind;
-use weld_eval::frame::Frame;
 use weld_eval::short::Short;
-use weld_tree::{Expr, Sym};
+use weld_tree::{Expr, Exprs, Form, LeafForm, ManyForm, OneForm, Sym, ThreeForm, TwoForm};
 use weld_turns::code::Shape;
-use weld_turns::{Step, end_of_turns, made_turn};
+use weld_turns::{MOST_WORDS, Step, end_of_turns, made_turn};
 
 /// A state of one or two numbers of kind i64, in words; of a single number the second doesn't matter.
 #[derive(Clone, Copy)]
@@ -46,105 +44,6 @@ pub(crate) enum Asked {
 pub(crate) struct States {
     pub shape: Shape,
     pub items: Vec<State>,
-}
-
-/// What stands outside of the rows. It takes no memory.
-fn outer_frame<'a>(scope: &'a Scope<'a>) -> &'a Frame<'a>
-    ensures { env_of result.now ≡ outer_env scope.now }
-{
-    match scope {
-        Scope::Let(_, _, rest) => outer_frame(rest),
-        Scope::Rows(rows) => rows.frame,
-        Scope::Picked(_, _, rest) => outer_frame(rest),
-    }
-}
-
-/// Notes a name of the rows, with its numbers, where the body uses it; tells whether it could, if it had to.
-#[tactic(auto, using(crate::proofs::TurnLemmas::unused_noted, crate::proofs::TurnLemmas::pushed_noted, crate::proofs::TurnLemmas::pushed_give))]
-fn note(
-    body: &Expr,
-    name: Sym,
-    scope: &Scope,
-    count: usize,
-    names: &mut Vec<Sym>,
-    columns: &mut Vec<Numbers>,
-    alloc: Global,
-) -> bool
-    requires { NamesGive names.old.items columns.old.items (scope_env scope.now) count }
-    ensures noted { result ≡ true → IsNoted body.now name.0 names.old.items names.new.items }
-    ensures give { result ≡ true → NamesGive names.new.items columns.new.items
-        (scope_env scope.now) count }
-{
-    if !uses(body, name) {
-        return true;
-    }
-    let numbers = match named(scope, name, count, alloc) {
-        Some(numbers) => numbers,
-        None => return false,
-    };
-    if !is_same(numbers.kind, Kind::I64) {
-        return false;
-    }
-    match names.push(name) {
-        Ok(()) => {}
-        Err(_) => return false,
-    }
-    match columns.push(numbers) {
-        Ok(()) => {}
-        Err(_) => return false,
-    }
-    true
-}
-
-/// Notes all names of the rows that the body uses. `all` are the rows with all their names, `scope` those that are looked at still.
-#[tactic(auto, using(crate::proofs::TurnLemmas::noted_let, crate::proofs::TurnLemmas::noted_picked, crate::proofs::TurnLemmas::noted_rows))]
-fn note_names<'a>(
-    body: &Expr,
-    scope: &'a Scope<'a>,
-    all: &'a Scope<'a>,
-    count: usize,
-    names: &mut Vec<Sym>,
-    columns: &mut Vec<Numbers>,
-    alloc: Global,
-) -> bool
-    requires { NamesGive names.old.items columns.old.items (scope_env all.now) count }
-    ensures apart { result ≡ true → StandApart body.now (scope_env scope.now) (outer_env scope.now)
-        names.old.items names.new.items }
-    ensures give { result ≡ true → NamesGive names.new.items columns.new.items (scope_env all.now)
-        count }
-{
-    match scope {
-        Scope::Let(name, _, rest) => {
-            if !note(body, *name, all, count, names, columns, alloc) {
-                return false;
-            }
-            note_names(body, rest, all, count, names, columns, alloc)
-        }
-        Scope::Picked(_, _, rest) => note_names(body, rest, all, count, names, columns, alloc),
-        Scope::Rows(rows) => note_rows(body, rows, all, count, names, columns, alloc),
-    }
-}
-
-/// The same of the names that each row has.
-#[tactic(auto, using(crate::proofs::TurnLemmas::three_noted))]
-fn note_rows(
-    body: &Expr,
-    rows: &Rows,
-    all: &Scope,
-    count: usize,
-    names: &mut Vec<Sym>,
-    columns: &mut Vec<Numbers>,
-    alloc: Global,
-) -> bool
-    requires { NamesGive names.old.items columns.old.items (scope_env all.now) count }
-    ensures apart { result ≡ true → StandApart body.now (row_env rows.now)
-        (env_of rows.now.frame.now) names.old.items names.new.items }
-    ensures give { result ≡ true → NamesGive names.new.items columns.new.items (scope_env all.now)
-        count }
-{
-    note(body, rows.own_name, all, count, names, columns, alloc)
-        && note(body, rows.count_name, all, count, names, columns, alloc)
-        && note(body, rows.row_name, all, count, names, columns, alloc)
 }
 
 /// The words of columns at a place. It takes no memory.
@@ -249,6 +148,41 @@ fn end_all(
     Some(states)
 }
 
+/// Whether the expression has only forms of which instructions are made. Nothing rests on it: it spares a block what would be done
+/// in vain.
+#[cycle(words)]
+fn goes_by_words(e: &Expr) -> bool {
+    match &e.form {
+        Form::Leaf(LeafForm::Int(kind, _)) => is_same(*kind, Kind::I64),
+        Form::Leaf(LeafForm::Name(_)) | Form::Leaf(LeafForm::Truth(_)) => true,
+        Form::One(OneForm::Neg, part) | Form::One(OneForm::Not, part) => goes_by_words(part),
+        Form::One(OneForm::Field(_), part) => goes_by_words(part),
+        Form::Two(TwoForm::Binary(_), first, second) => {
+            goes_by_words(first) && goes_by_words(second)
+        }
+        Form::Two(TwoForm::And, first, second) | Form::Two(TwoForm::Or, first, second) => {
+            goes_by_words(first) && goes_by_words(second)
+        }
+        Form::Three(ThreeForm::If, test, first, second) => {
+            goes_by_words(test) && goes_by_words(first) && goes_by_words(second)
+        }
+        Form::Many(ManyForm::Struct, parts) => all_by_words(parts),
+        Form::Let(_, value, body) => goes_by_words(value) && goes_by_words(body),
+        _ => false,
+    }
+}
+
+/// The same of several.
+#[cycle(words)]
+fn all_by_words(parts: &Exprs) -> bool {
+    for part in parts.as_slice() {
+        if !goes_by_words(part) {
+            return false;
+        }
+    }
+    true
+}
+
 /// The states with which the turns of a body end that begin with these, where all is of kind i64.
 fn ends_from<'a>(
     name: Sym,
@@ -267,9 +201,15 @@ fn ends_from<'a>(
     if first.len() < count || second.len() < count {
         return None;
     }
+    if !goes_by_words(body) {
+        return None;
+    }
     let mut names = Vec::new(alloc);
     let mut columns = Vec::new(alloc);
     if !note_names(body, scope, scope, count, &mut names, &mut columns, alloc) {
+        return None;
+    }
+    if columns.as_slice().len() > MOST_WORDS {
         return None;
     }
     match made_turn(name, body, shape, &names, outer_frame(scope), alloc) {

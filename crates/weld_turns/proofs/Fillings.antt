@@ -1,5 +1,5 @@
 -- Slots that are filled with what an expression comes to.
-use Rattle.std.proofs.Common.{◌≡◌, ℕ, suc, ◌+◌, ◌≤◌, List, ◌∷◌, length, get_or, Some, Result, Ok, Err, IfOk, refl, ap, sym, subst, ◌∙◌, arith}
+use Rattle.std.proofs.Common.{◌≡◌, ℕ, suc, ◌+◌, ◌<◌, ◌≤◌, List, ◌∷◌, length, get_or, Some, Result, Ok, Err, IfOk, refl, ap, sym, subst, ◌∙◌, arith}
 use Rattle.weld_data.specs.Value.{Value}
 use Rattle.weld_data.specs.declared.op.BinOp.{BinOp}
 use Rattle.weld_built.specs.Pair.{pair}
@@ -8,26 +8,27 @@ use Rattle.weld_tree.specs.ExprTree.{ExprTree, ExprTrees, binary, pack_exprs, ma
 use Rattle.weld_meaning.specs.Environment.{look_for}
 use Rattle.weld_meaning.specs.Evaluation.{Env, eval, eval_all, many_thing, operated, three_thing, two_thing, chosen, selected, truth_of, value_out}
 use Rattle.weld_meaning.specs.Thing.{Thing, plain, as_value, more_things, no_things, struct_of}
-use Rattle.weld_turns.specs.CodeView.{Slots, with_slot, shape_value, value, filled, either_of}
+use Rattle.weld_turns.specs.CodeView.{Slots, slot_limit, with_slot, shape_value, value, filled, either_of}
 use Rattle.weld_turns.specs.Fillings.{AreKept, Copies, Fills, IsFilled, IsWork, Picks, Puts, Selects}
-use Rattle.weld_turns.specs.Scopes.{with_scope, ended, room_of, AreBelow, IsNamedAt, IsOutsideName, IsStateAt, Means}
+use Rattle.weld_turns.specs.Scopes.{with_scope, ended, room_of, AreBelow, IsNamedAt, IsOutsideName, IsStateAt, Means, Sites}
 use Rattle.weld_turns.specs.declared.code.Code.{Code}
 use Rattle.weld_turns.specs.declared.code.Filling.{Filling}
 use Rattle.weld_turns.specs.declared.code.Filling as filling
 use Rattle.weld_turns.specs.declared.code.Shape.{Shape}
 use Rattle.weld_turns.specs.declared.code.Shape.TheVariants.{One, Pair}
 use Rattle.weld_turns.specs.declared.code.Place.{Place}
+use Rattle.weld_turns.specs.declared.code.Site.TheVariants as sites
 use Rattle.weld_turns.specs.declared.code.Unmade.{Unmade}
 use Rattle.weld_turns.proofs.Copying.{put_fills, choose_filled}
 use Rattle.weld_turns.proofs.Making.{named_comes, outside_comes}
-use Rattle.weld_turns.proofs.Scoping.{scope_kept, held_scope, found_under}
+use Rattle.weld_turns.proofs.Scoping.{scope_kept, held_scope, found_under, kept_then, kept_under}
 use Rattle.weld_turns.proofs.Turning.{two_of}
 
 -- ---- one filling after another
 
 -- what is filled after slots that are kept
 kept_on : (o : Outcome Thing) (r : Outcome Slots) (shape : Shape) (first : ℕ) (f g : Slots) → AreKept first f g → IsFilled o r shape first g → IsFilled o r shape first f
-kept_on o (done h) shape first f g kept is = (is.0, λ i below. is.1 i below ∙ kept i below)
+kept_on o (done h) shape first f g kept is = (is.0, kept_then first f g h kept is.1)
 kept_on o fault shape first f g kept is = is
 kept_on o stuck shape first f g kept is = is
 
@@ -36,18 +37,18 @@ pub next_filled : (o : Outcome Thing) (make : Thing → Outcome Thing) (k shape 
     → ((g : Slots) → AreKept next f g → IsFilled (make (plain (shape_value k next g))) (y g) shape first g) → IsFilled (and_then o make) (and_then r y) shape first f
 next_filled o make k shape first' first f (done g) y less is h =
     subst (λ (p : Outcome Thing). IsFilled (and_then p make) (y g) shape first f) (sym is.0)
-    (kept_on (make (plain (shape_value k first' g))) (y g) shape first f g (λ i below. is.1 i (omega arith)) (h g is.1))
+    (kept_on (make (plain (shape_value k first' g))) (y g) shape first f g (kept_under first first' f g less is.1) (h g is.1))
 next_filled o make k shape first' first f fault y less is h = ap (λ (p : Outcome Thing). and_then p make) is
 next_filled o make k shape first' first f stuck y less is h = ap (λ (p : Outcome Thing). and_then p make) is
 
 -- ---- a number
 
-pub number_fills : (ns : List (ℕ × Place)) (env : Env) (e : ExprTree) (first : ℕ) (c : Code) → Means c ns env (eval e) → Fills (filling.Put first c) One first ns env (eval e)
-number_fills ns env e first c h f = subst (λ (o : Outcome Thing). IsFilled o (map_out (with_slot f first) (value c f)) One first f) (sym (h f)) (put_fills f first (value c f))
+pub number_fills : (ns : Sites) (env : Env) (e : ExprTree) (first : ℕ) (c : Code) → first < slot_limit → Means c ns env (eval e) → Fills (filling.Put first c) One first ns env (eval e)
+number_fills ns env e first c less h f = subst (λ (o : Outcome Thing). IsFilled o (map_out (with_slot f first) (value c f)) One first f) (sym (h f)) (put_fills f first (value c f) less)
 
 -- ---- a choice
 
-pub fork_fills : (shape : Shape) (first : ℕ) (ns : List (ℕ × Place)) (env : Env) (e g h : ExprTree) (c : Code) (x y t : Filling) → ((f : Slots) → filled t f ≡ and_then (value c f) (λ v. either_of v (filled x f) (filled y f)))
+pub fork_fills : (shape : Shape) (first : ℕ) (ns : Sites) (env : Env) (e g h : ExprTree) (c : Code) (x y t : Filling) → ((f : Slots) → filled t f ≡ and_then (value c f) (λ v. either_of v (filled x f) (filled y f)))
     → Means c ns env (eval e) → Fills x shape first ns env (eval g) → Fills y shape first ns env (eval h) → Fills t shape first ns env (λ inner. and_then (eval e inner) (λ u. chosen u (eval g inner) (eval h inner)))
 fork_fills shape first ns env e g h c x y t is i j k f =
     let inner : Env = with_scope ns f env in
@@ -73,13 +74,13 @@ beside_first : (o : Outcome Thing) (r : Outcome Slots) (first : ℕ) (g : Slots)
     → IsFilled (and_then o (λ u. done (struct_of (more_things (plain (g first)) (more_things u no_things))))) r Pair first g
 beside_first o (done h) first g is = (
   ap (λ (p : Outcome Thing). and_then p (λ u. done (struct_of (more_things (plain (g first)) (more_things u no_things))))) is.0
-      ∙ ap (λ (x : Value). done (plain (pair x (h (suc first))))) (sym (is.1 first (omega arith))),
-  λ i below. is.1 i (omega arith),
+      ∙ ap (λ (x : Value). done (plain (pair x (h (suc first))))) (sym (is.1.below first (omega arith))),
+  kept_under first (suc first) g h (omega arith) is.1,
 )
 beside_first o fault first g is = ap (λ (p : Outcome Thing). and_then p (λ u. done (struct_of (more_things (plain (g first)) (more_things u no_things))))) is
 beside_first o stuck first g is = ap (λ (p : Outcome Thing). and_then p (λ u. done (struct_of (more_things (plain (g first)) (more_things u no_things))))) is
 
-two_fill : (ns : List (ℕ × Place)) (env : Env) (e d : ExprTree) (first : ℕ) (x y : Filling) → Fills x One first ns env (eval e) → Fills y One (first + 1) ns env (eval d) → AreBelow ns first
+two_fill : (ns : Sites) (env : Env) (e d : ExprTree) (first : ℕ) (x y : Filling) → Fills x One first ns env (eval e) → Fills y One (first + 1) ns env (eval d) → AreBelow ns first
     → (f : Slots) → IsFilled (ended (eval e (with_scope ns f env)) (eval d (with_scope ns f env))) (and_then (filled x f) (filled y)) Pair first f
 two_fill ns env e d first x y i j below f =
     let inner : Env = with_scope ns f env in
@@ -90,7 +91,7 @@ two_fill ns env e d first x y i j below f =
     (subst (λ (m : ℕ). IsFilled (eval d inner) (filled y g) One m g) more
     (subst (λ (names : Env). IsFilled (eval d names) (filled y g) One (first + 1) g) (scope_kept ns f g env first below kept) (j g)))))
 
-pub fields_fill : (x y : Filling) (ns : List (ℕ × Place)) (env : Env) (es : List ExprTree) (e d : ExprTree) (first : ℕ) → length es ≡ 2 → e ≡ get_or es 0 e → d ≡ get_or es 1 d
+pub fields_fill : (x y : Filling) (ns : Sites) (env : Env) (es : List ExprTree) (e d : ExprTree) (first : ℕ) → length es ≡ 2 → e ≡ get_or es 0 e → d ≡ get_or es 1 d
     → AreBelow ns first → Fills x One first ns env (eval e) → Fills y One (first + 1) ns env (eval d)
     → (f : Slots) → IsFilled (and_then (eval_all (pack_exprs es) (with_scope ns f env)) (many_thing make_struct)) (and_then (filled x f) (filled y)) Pair first f
 fields_fill x y ns env es e d first n p q below i j f =
@@ -99,33 +100,33 @@ fields_fill x y ns env es e d first n p q below i j f =
 
 -- ---- what stands in slots already
 
-pub named_apart : (e : ExprTree) (ns : List (ℕ × Place)) (from first : ℕ) → IsStateAt e Pair ns from → AreBelow ns first → from + 1 ≡ first → ⊥
+pub named_apart : (e : ExprTree) (ns : Sites) (from first : ℕ) → IsStateAt e Pair ns from → AreBelow ns first → from + 1 ≡ first → ⊥
 named_apart e ns from first is below at =
     let room : room_of is.1.shape ≡ 2 = ap room_of is.4 in
-    let under : is.1.first + room_of is.1.shape ≤ first = found_under ns is.0 first is.1 is.3 below in
+    let under : is.1.first + room_of is.1.shape ≤ first = found_under ns is.0 first (sites.Whole is.1) is.3 below in
     let same : is.1.first ≡ from = is.5 in
     omega (arith, room, under, same)
 
-named_fills : (t : Filling) (shape : Shape) (ns : List (ℕ × Place)) (env : Env) (e : ExprTree) (from first : ℕ) → IsStateAt e shape ns from → Copies t shape from first → Fills t shape first ns env (eval e)
+named_fills : (t : Filling) (shape : Shape) (ns : Sites) (env : Env) (e : ExprTree) (from first : ℕ) → IsStateAt e shape ns from → Copies t shape from first → Fills t shape first ns env (eval e)
 named_fills t shape ns env e from first is h f =
     subst (λ (o : Outcome Thing). IsFilled o (filled t f) shape first f)
-    (sym (named_comes e is.0 ns f env is.1 is.2 is.3 ∙ ap (λ (k : Shape). done (plain (shape_value k is.1.first f))) is.4 ∙ ap (λ (i : ℕ). done (plain (shape_value shape i f))) is.5)) (h f)
+    (sym (named_comes e is.0 ns f env (sites.Whole is.1) is.2 is.3 ∙ ap (λ (k : Shape). done (plain (shape_value k is.1.first f))) is.4 ∙ ap (λ (i : ℕ). done (plain (shape_value shape i f))) is.5)) (h f)
 
-pub named_ok : (r : Result Filling Unmade) (shape : Shape) (ns : List (ℕ × Place)) (env : Env) (e : ExprTree) (from first : ℕ) → IsStateAt e shape ns from → IfOk r (λ t. Copies t shape from first) → IfOk r (λ t. Fills t shape first ns env (eval e))
+pub named_ok : (r : Result Filling Unmade) (shape : Shape) (ns : Sites) (env : Env) (e : ExprTree) (from first : ℕ) → IsStateAt e shape ns from → IfOk r (λ t. Copies t shape from first) → IfOk r (λ t. Fills t shape first ns env (eval e))
 named_ok (Ok t) shape ns env e from first is h = named_fills t shape ns env e from first is h
 named_ok (Err x) shape ns env e from first is h = h
 
-outer_fills : (t : Filling) (ns : List (ℕ × Place)) (env : Env) (e : ExprTree) (s first : ℕ) (v w : Value) → IsOutsideName e ns s → look_for s env ≡ Some (plain (pair v w)) → Puts t v w first → Fills t Pair first ns env (eval e)
+outer_fills : (t : Filling) (ns : Sites) (env : Env) (e : ExprTree) (s first : ℕ) (v w : Value) → IsOutsideName e ns s → look_for s env ≡ Some (plain (pair v w)) → Puts t v w first → Fills t Pair first ns env (eval e)
 outer_fills t ns env e s first v w is h k f = subst (λ (o : Outcome Thing). IsFilled o (filled t f) Pair first f) (sym (outside_comes e s ns f env (plain (pair v w)) is.0 is.1 h)) (k f)
 
-pub outer_ok : (r : Result Filling Unmade) (ns : List (ℕ × Place)) (env : Env) (e : ExprTree) (s first : ℕ) (v w : Value) → IsOutsideName e ns s → look_for s env ≡ Some (plain (pair v w)) → IfOk r (λ t. Puts t v w first)
+pub outer_ok : (r : Result Filling Unmade) (ns : Sites) (env : Env) (e : ExprTree) (s first : ℕ) (v w : Value) → IsOutsideName e ns s → look_for s env ≡ Some (plain (pair v w)) → IfOk r (λ t. Puts t v w first)
     → IfOk r (λ t. Fills t Pair first ns env (eval e))
 outer_ok (Ok t) ns env e s first v w is h k = outer_fills t ns env e s first v w is h k
 outer_ok (Err u) ns env e s first v w is h k = k
 
 -- ---- a let
 
-pub after_fills : (x y : Filling) (shape : Shape) (first next : ℕ) (ns all : List (ℕ × Place)) (env : Env) (e d : ExprTree) (s : ℕ) (p : Place) → p.first ≡ next → first ≤ next → AreBelow ns next → all ≡ (s, p) ∷ ns
+pub after_fills : (x y : Filling) (shape : Shape) (first next : ℕ) (ns all : Sites) (env : Env) (e d : ExprTree) (s : ℕ) (p : Place) → p.first ≡ next → first ≤ next → AreBelow ns next → all ≡ (s, sites.Whole p) ∷ ns
     → Fills x p.shape next ns env (eval e) → Fills y shape first all env (eval d)
     → (f : Slots) → IsFilled (and_then (eval e (with_scope ns f env)) (λ u. eval d ((s, u) ∷ with_scope ns f env))) (and_then (filled x f) (filled y)) shape first f
 after_fills x y shape first next ns all env e d s p at less below more i j f =
@@ -139,7 +140,7 @@ and_done fault = refl
 and_done stuck = refl
 
 -- filled above, and then copied
-pub above_fills : (t x y : Filling) (shape : Shape) (first next : ℕ) (ns : List (ℕ × Place)) (env : Env) (e : ExprTree) → ((f : Slots) → filled t f ≡ and_then (filled x f) (filled y))
+pub above_fills : (t x y : Filling) (shape : Shape) (first next : ℕ) (ns : Sites) (env : Env) (e : ExprTree) → ((f : Slots) → filled t f ≡ and_then (filled x f) (filled y))
     → first ≤ next → Fills x shape next ns env (eval e) → Copies y shape next first → Fills t shape first ns env (eval e)
 above_fills t x y shape first next ns env e is less i j f =
     let inner : Env = with_scope ns f env in
@@ -147,11 +148,11 @@ above_fills t x y shape first next ns env e is less i j f =
     (subst (λ (o : Outcome Thing). IsFilled o (and_then (filled x f) (filled y)) shape first f) (and_done (eval e inner))
     (next_filled (eval e inner) (λ t. done t) shape shape next first f (filled x f) (filled y) less (i f) (λ g kept. j g)))
 
-pub alias_fills : (r : Result Filling Unmade) (shape : Shape) (first : ℕ) (ns all : List (ℕ × Place)) (env : Env) (e d : ExprTree) (name : ℕ) (p : Place) → IsNamedAt e ns p → all ≡ (name, p) ∷ ns → IfOk r (λ t. Fills t shape first all env (eval d))
+pub alias_fills : (r : Result Filling Unmade) (shape : Shape) (first : ℕ) (ns all : Sites) (env : Env) (e d : ExprTree) (name : ℕ) (p : Place) → IsNamedAt e ns p → all ≡ (name, sites.Whole p) ∷ ns → IfOk r (λ t. Fills t shape first all env (eval d))
     → IfOk r (λ t. Fills t shape first ns env (λ inner. and_then (eval e inner) (λ x. eval d ((name, x) ∷ inner))))
 alias_fills (Ok t) shape first ns all env e d name p is more h =
     λ f. subst (λ (o : Outcome Thing). IsFilled o (filled t f) shape first f)
-    (sym (ap (λ (o : Outcome Thing). and_then o (λ x. eval d ((name, x) ∷ with_scope ns f env))) (named_comes e is.0 ns f env p is.1 is.2) ∙ ap (λ (ms : List (ℕ × Place)). eval d (with_scope ms f env)) (sym more))) (h f)
+    (sym (ap (λ (o : Outcome Thing). and_then o (λ x. eval d ((name, x) ∷ with_scope ns f env))) (named_comes e is.0 ns f env (sites.Whole p) is.1 is.2) ∙ ap (λ (ms : Sites). eval d (with_scope ms f env)) (sym more))) (h f)
 alias_fills (Err x) shape first ns all env e d name p is more h = h
 
 -- ---- a select
@@ -169,9 +170,9 @@ by_second q stuck = refl
 
 -- ---- an operator whose sides have slots of their own
 
-pub work_fills : (x y z rest : Filling) (op : BinOp) (first next : ℕ) (ns : List (ℕ × Place)) (env : Env) (e d : ExprTree) → ((f : Slots) → filled rest f ≡ and_then (filled y f) (filled z)) → first + 1 ≤ next → AreBelow ns first → Fills x One first ns env (eval e) → Fills y One next ns env (eval d)
+pub work_fills : (x y z rest : Filling) (op : BinOp) (first next : ℕ) (ns : Sites) (env : Env) (e d : ExprTree) → ((f : Slots) → filled rest f ≡ and_then (filled y f) (filled z)) → first + 1 ≤ next → first < slot_limit → AreBelow ns first → Fills x One first ns env (eval e) → Fills y One next ns env (eval d)
     → IsWork z op first next → (f : Slots) → IsFilled (and_then (eval e (with_scope ns f env)) (λ u. two_thing (binary op) u (eval d (with_scope ns f env)))) (and_then (filled x f) (filled rest)) One first f
-work_fills x y z rest op first next ns env e d is less below i j work f =
+work_fills x y z rest op first next ns env e d is less within below i j work f =
     let inner : Env = with_scope ns f env in
     next_filled (eval e inner) (λ u. two_thing (binary op) u (eval d inner)) One One first first f (filled x f) (filled rest) (omega arith) (i f)
     (λ g kept. subst (λ (r : Outcome Slots). IsFilled (two_thing (binary op) (plain (g first)) (eval d inner)) r One first g) (sym (is g))
@@ -179,12 +180,12 @@ work_fills x y z rest op first next ns env e d is less below i j work f =
     (next_filled (eval d inner) (λ t. map_out plain (and_then (as_value t) (operated op (g first)))) One One next first g (filled y g) (filled z) (omega (arith, less))
     (subst (λ (names : Env). IsFilled (eval d names) (filled y g) One next g) (scope_kept ns f g env first below kept) (j g))
     (λ l more. subst (λ (r : Outcome Slots). IsFilled (map_out plain (operated op (g first) (l next))) r One first l) (sym (work l))
-    (subst (λ (v : Value). IsFilled (map_out plain (operated op v (l next))) (map_out (with_slot l first) (operated op (l first) (l next))) One first l) (more first (omega (arith, less)))
-    (put_fills l first (operated op (l first) (l next))))))))
+    (subst (λ (v : Value). IsFilled (map_out plain (operated op v (l next))) (map_out (with_slot l first) (operated op (l first) (l next))) One first l) (more.below first (omega (arith, less)))
+    (put_fills l first (operated op (l first) (l next)) within))))))
 
 -- ---- a select, filled
 
-pub select_fills : (x y : Filling) (first next : ℕ) (ns : List (ℕ × Place)) (env : Env) (e g h : ExprTree) → first ≤ next → AreBelow ns next → Fills x One next ns env (eval e) → Selects y next first ns env (eval g) (eval h)
+pub select_fills : (x y : Filling) (first next : ℕ) (ns : Sites) (env : Env) (e g h : ExprTree) → first ≤ next → AreBelow ns next → Fills x One next ns env (eval e) → Selects y next first ns env (eval g) (eval h)
     → (f : Slots) → IsFilled (and_then (eval e (with_scope ns f env)) (λ u. three_thing select u (eval g (with_scope ns f env)) (eval h (with_scope ns f env)))) (and_then (filled x f) (filled y)) Pair first f
 select_fills x y first next ns env e g h less below i j f =
     let inner : Env = with_scope ns f env in
@@ -199,11 +200,11 @@ second_fills y z held first k p room i j =
     let w : Value = shape_value Pair (held + 1) k in
     subst (λ (o : Outcome Thing). IsFilled o (and_then (filled y k) (filled z)) Pair first k) (sym (by_second (selected v w) p))
     (next_filled p (λ t. map_out plain (and_then (as_value t) (selected v w))) Pair Pair (held + 3) first k (filled y k) (filled z) (omega arith) i
-    (λ l kept. subst (λ (u : Value). IsFilled (map_out plain (selected u w (shape_value Pair (held + 3) l))) (filled z l) Pair first l) (kept held (omega arith))
+    (λ l kept. subst (λ (u : Value). IsFilled (map_out plain (selected u w (shape_value Pair (held + 3) l))) (filled z l) Pair first l) (kept.below held (omega arith))
     (subst (λ (u : Value). IsFilled (map_out plain (selected (l held) u (shape_value Pair (held + 3) l))) (filled z l) Pair first l)
-    (ap (λ (a : Value). pair a (l (suc (held + 1)))) (kept (held + 1) (omega arith)) ∙ ap (pair (k (held + 1))) (kept (suc (held + 1)) (omega arith))) (j l))))
+    (ap (λ (a : Value). pair a (l (suc (held + 1)))) (kept.below (held + 1) (omega arith)) ∙ ap (pair (k (held + 1))) (kept.below (suc (held + 1)) (omega arith))) (j l))))
 
-pub both_fill : (x y z rest : Filling) (held first : ℕ) (ns : List (ℕ × Place)) (env : Env) (e d : ExprTree) → ((f : Slots) → filled rest f ≡ and_then (filled y f) (filled z)) → first + 2 ≤ held → AreBelow ns held
+pub both_fill : (x y z rest : Filling) (held first : ℕ) (ns : Sites) (env : Env) (e d : ExprTree) → ((f : Slots) → filled rest f ≡ and_then (filled y f) (filled z)) → first + 2 ≤ held → AreBelow ns held
     → Fills x Pair (held + 1) ns env (eval e) → Fills y Pair (held + 3) ns env (eval d) → Picks z held first
     → (f : Slots) → IsFilled (three_thing select (plain (f held)) (eval e (with_scope ns f env)) (eval d (with_scope ns f env))) (and_then (filled x f) (filled rest)) Pair first f
 both_fill x y z rest held first ns env e d is room below i j l f =
@@ -212,6 +213,6 @@ both_fill x y z rest held first ns env e d is room below i j l f =
     subst (λ (o : Outcome Thing). IsFilled o (and_then (filled x f) (filled rest)) Pair first f) (sym (by_first v (eval e inner) (eval d inner)))
     (next_filled (eval e inner) (λ t. map_out plain (and_then (as_value t) (λ w. and_then (value_out (eval d inner)) (selected v w)))) Pair Pair (held + 1) first f (filled x f) (filled rest) (omega arith) (i f)
     (λ g kept. subst (λ (r : Outcome Slots). IsFilled (map_out plain (and_then (value_out (eval d inner)) (selected v (shape_value Pair (held + 1) g)))) r Pair first g) (sym (is g))
-    (subst (λ (u : Value). IsFilled (map_out plain (and_then (value_out (eval d inner)) (selected u (shape_value Pair (held + 1) g)))) (and_then (filled y g) (filled z)) Pair first g) (kept held (omega arith))
+    (subst (λ (u : Value). IsFilled (map_out plain (and_then (value_out (eval d inner)) (selected u (shape_value Pair (held + 1) g)))) (and_then (filled y g) (filled z)) Pair first g) (kept.below held (omega arith))
     (second_fills y z held first g (eval d inner) room
-    (subst (λ (names : Env). IsFilled (eval d names) (filled y g) Pair (held + 3) g) (scope_kept ns f g env held below (λ a under. kept a (omega arith))) (j g)) l))))
+    (subst (λ (names : Env). IsFilled (eval d names) (filled y g) Pair (held + 3) g) (scope_kept ns f g env held below (kept_under held (held + 1) f g (omega arith) kept)) (j g)) l))))

@@ -1,14 +1,14 @@
 -- Turns on rows that see other names than the state's.
-use Rattle.std.proofs.Common.{◌≡◌, ◌≢◌, ℕ, zero, suc, ◌+◌, ◌-◌, ◌<◌, ◌≤◌, ◌==◌, ◌||◌, ◌⊎◌, inl, inr, Bool, true, false, if◌then◌else◌, List, [], ◌∷◌, length, drop, slice_get, ℤ, Option, Some, None, IfSome, Result, Ok, Err, IfOk, refl, ap, sym, subst, ◌∙◌, eqb-true, arith}
-use Rattle.std.proofs.lemmas.Bool.{cases_lt}
+use Rattle.std.proofs.Common.{◌≡◌, ◌≢◌, ℕ, zero, suc, ◌+◌, ◌-◌, ◌/◌, ◌<◌, ◌≤◌, ◌==◌, ◌||◌, ltb, get_or, ◌⊎◌, inl, inr, Bool, true, false, if◌then◌else◌, List, [], ◌∷◌, length, drop, ℤ, pos, Option, Some, None, IfSome, Result, Ok, Err, IfOk, refl, ap, sym, subst, ◌∙◌, eqb-true, arith}
+use Rattle.std.proofs.lemmas.Bool.{cases_lt, le-ltb, lt-ltb}
 use Rattle.weld_data.specs.declared.kind.Kind.TheVariants as kinds
-use Rattle.weld_data.specs.Value.{Value, number}
+use Rattle.weld_data.specs.Value.{Value, Values, number, struct, no_values, and_value}
 use Rattle.weld_built.specs.Pair.{pair}
 use Rattle.weld_builders.specs.Outcome.{Outcome, done, fault, and_then, map_out}
 use Rattle.weld_meaning.specs.Environment.{look_for}
 use Rattle.weld_meaning.specs.Evaluation.{Env, eval, next_turn, truth_of, turns, turn_limit, value_out}
 use Rattle.weld_meaning.specs.Names.{IsFree, AgreeOn}
-use Rattle.weld_meaning.specs.Thing.{Thing, plain}
+use Rattle.weld_meaning.specs.Thing.{Thing, plain, building, several}
 use Rattle.weld_meaning.proofs.Names.{agree_bind, eval_free}
 use Rattle.weld_tree.specs.ExprTree.{ExprTree}
 use Rattle.weld_tree.specs.declared.sym.Sym.{Sym}
@@ -17,10 +17,15 @@ use Rattle.weld_data.specs.declared.stop.Stop.{Stop}
 use Rattle.weld_eval.specs.Answers.{Answers}
 use Rattle.weld_eval.specs.ThingView.{held_of}
 use Rattle.weld_turns.specs.States.{IsState, StepsRunOn}
-use Rattle.weld_turns.specs.CodeView.{shape_value}
+use Rattle.weld_turns.specs.CodeView.{Slots, shape_value, slot_limit}
 use Rattle.weld_turns.specs.Lowering.{Lowers, Meaning, settle, settled}
-use Rattle.weld_turns.specs.OnRows.{has_name, placed, placed_behind, state_of, EndsWith, HasWords, IsFollowedWith, MeansBody, Stand}
-use Rattle.weld_turns.specs.Scopes.{with_scope, AreBelow, TurnMeans}
+use Rattle.weld_turns.specs.OnRows.{has_name, most_words, placed, site_from, state_of, state_site, words_for, EndsWith, HasNumbers, HasWords, IsFollowedWith, IsSeen, MeansBody, Stand}
+use Rattle.weld_turns.specs.declared.code.Named.{Named}
+use Rattle.weld_turns.specs.declared.code.Seen.{Seen}
+use Rattle.weld_turns.specs.declared.code.Seen.TheVariants.{Number, Fields}
+use Rattle.weld_turns.specs.declared.code.Site.{Site}
+use Rattle.weld_turns.specs.declared.code.Site.TheVariants as sites
+use Rattle.weld_turns.specs.Scopes.{with_scope, fields_in, is_odd, put_fields, site_value, whole_of, Sites, TurnMeans}
 use Rattle.weld_turns.specs.StepView.{Words, shown, step_value, with_word, words_of}
 use Rattle.weld_turns.specs.declared.code.Place.{Place}
 use Rattle.weld_turns.specs.declared.code.Shape.{Shape}
@@ -30,88 +35,134 @@ use Rattle.weld_turns.specs.declared.code.Unmade.{Unmade}
 use Rattle.weld_turns.specs.declared.step.Step.{Step}
 use Rattle.weld_turns.proofs.LowerLemmas.{with_other, with_same}
 use Rattle.weld_turns.proofs.Making.{out_in}
-use Rattle.weld_turns.proofs.States.{room_two, next_by, settled_next, unrolled}
+use Rattle.weld_turns.specs.States.{next_of}
+use Rattle.weld_turns.proofs.States.{next_by, settled_next, unrolled}
 
 -- ---- the names of a row
 
--- the numbers stand in the words from that one on
-abbrev pub HasFrom : List ℤ → ℕ → Words → Type 0
-HasFrom [] at w = Unit {0}
-HasFrom (x ∷ xs) at w = (w at ≡ x) × HasFrom xs (suc at) w
+-- the slots that have the words, and past them what the names stand for on a row
+abbrev thing_value : Option Thing → Value
+thing_value None = number kinds.Bool (pos 0)
+thing_value (Some (plain v)) = v
+thing_value (Some (building p)) = number kinds.Bool (pos 0)
+thing_value (Some (several ts)) = number kinds.Bool (pos 0)
 
-from_words : (xs : List ℤ) (at : ℕ) (w : Words) → ((k : ℕ) → k < length xs → w (at + k) ≡ words_of xs k) → HasFrom xs at w
-from_words [] at w h = tt
-from_words (x ∷ xs) at w h =
-    (ap w (omega arith) ∙ h 0 (omega arith), from_words xs (suc at) w (λ k less. ap w (omega arith) ∙ h (suc k) (omega arith)))
+abbrev shown_on : Words → Env → Slots
+shown_on w row i = if ltb i slot_limit then number kinds.I64 (w i) else thing_value (look_for (i - slot_limit) row)
 
-placed_found : (n : ℕ) (names : List Sym) (xs : List ℤ) (at : ℕ) (w : Words) (row env : Env) → Stand names xs row → HasFrom xs at w → (has_name n names ≡ false → look_for n row ≡ look_for n env)
-    → look_for n row ≡ look_for n (with_scope (placed names at) (shown w) env)
-placed_found n [] [] at w row env stand has other = other refl
-placed_found n [] (x ∷ xs) at w row env stand has other = absurd stand
-placed_found n (s ∷ ss) [] at w row env stand has other = absurd stand
-placed_found n (s ∷ ss) (x ∷ xs) at w row env stand has other = by (n == s.0) refl (placed_found n ss xs (suc at) w row env stand.1 has.1)
+shown_below : (w : Words) (row : Env) (i : ℕ) → i < slot_limit → shown_on w row i ≡ number kinds.I64 (w i)
+shown_below w row i h = ap (λ (b : Bool). if b then number kinds.I64 (w i) else thing_value (look_for (i - slot_limit) row)) (lt-ltb i slot_limit h)
+
+shown_past : (w : Words) (row : Env) (s : ℕ) (vs : Values) → look_for s row ≡ Some (plain (struct vs)) → whole_of (shown_on w row) s ≡ vs
+shown_past w row s vs is =
+    ap (λ (b : Bool). fields_in (if b then number kinds.I64 (w (slot_limit + s)) else thing_value (look_for ((slot_limit + s) - slot_limit) row))) (le-ltb (slot_limit + s) slot_limit (omega arith))
+    ∙ ap (λ (i : ℕ). fields_in (thing_value (look_for i row))) (omega arith) ∙ ap (λ (o : Option Thing). fields_in (thing_value o)) is
+
+-- each name stands on the row for what stands there
+abbrev AllStand : Sites → Slots → Env → Type 0
+AllStand [] f row = Unit {0}
+AllStand (n ∷ ns) f row = (look_for n.0 row ≡ Some (plain (site_value n.1 f))) × AllStand ns f row
+
+found_there : (n : ℕ) (ns : Sites) (f : Slots) (row env : Env) → AllStand ns f row → (look_for n ns ≡ None → look_for n row ≡ look_for n env) → look_for n row ≡ look_for n (with_scope ns f env)
+found_there n [] f row env all other = other refl
+found_there n (m ∷ ns) f row env all other = by (n == m.0) refl (found_there n ns f row env all.1)
   where
     later : Env
-    later = with_scope (placed ss (suc at)) (shown w) env
+    later = with_scope ns f env
 
-    by : (b : Bool) → (n == s.0) ≡ b → ((has_name n ss ≡ false → look_for n row ≡ look_for n env) → look_for n row ≡ look_for n later) → look_for n row ≡ (if b then Some (plain (number kinds.I64 (w at))) else look_for n later)
-    by true e rest = ap (λ (m : ℕ). look_for m row) (eqb-true n s.0 e) ∙ stand.0 ∙ ap (λ (z : ℤ). Some (plain (number kinds.I64 z))) (sym has.0)
-    by false e rest = rest (λ q. other (ap (λ (b : Bool). b || has_name n ss) e ∙ q))
+    by : (b : Bool) → (n == m.0) ≡ b → ((look_for n ns ≡ None → look_for n row ≡ look_for n env) → look_for n row ≡ look_for n later) → look_for n row ≡ (if b then Some (plain (site_value m.1 f)) else look_for n later)
+    by true e rest = ap (λ (i : ℕ). look_for i row) (eqb-true n m.0 e) ∙ all.0
+    by false e rest = rest (λ q. other (ap (λ (b : Bool). if b then Some m.1 else look_for n ns) e ∙ q))
 
-pub means_body : (t : Turn) (st : Step) (whole : Meaning) (shape : Shape) (s : ℕ) (e : ExprTree) (names : List Sym) (env : Env) → TurnMeans t shape (placed_behind s shape names) env (eval e) → whole ≡ settled t → Lowers st whole
+-- the values that have the numbers are those that stand in the slots
+fields_stand : (n bits at first : ℕ) (xs : List ℤ) (f : Slots) (vs : Values) → ((k : ℕ) → at ≤ k → k < at + n → f (first + k) ≡ number kinds.I64 (words_of xs k)) → HasNumbers n bits at xs vs → vs ≡ put_fields n bits (first + at) f vs
+fields_stand zero bits at first xs f vs h has = refl
+fields_stand (suc n) bits at first xs f no_values h has = absurd has
+fields_stand (suc n) bits at first xs f (and_value v vs) h has =
+    let next : first + suc at ≡ suc (first + at) = omega arith in
+    (λ i. and_value (here (is_odd bits) has.0 i) ((fields_stand n (bits / 2) (suc at) first xs f vs (λ k less more. h k (omega (arith, less)) (omega (arith, more))) has.1 ∙ ap (λ (j : ℕ). put_fields n (bits / 2) j f vs) next) i))
+  where
+    here : (b : Bool) → (b ≡ true → v ≡ number kinds.I64 (words_of xs at)) → v ≡ (if b then f (first + at) else v)
+    here true is = is refl ∙ sym (h at (omega arith) (omega arith))
+    here false is = refl
+
+stand_within : (names : List Named) (at : ℕ) (xs : List ℤ) (row : Env) → Stand names at xs row → at ≤ length xs
+stand_within [] at xs row is = omega (arith, is)
+stand_within (s ∷ ss) at xs row is = let rest : at + words_for s.seen ≤ length xs = stand_within ss (at + words_for s.seen) xs row is.1 in omega (arith, rest)
+
+seen_stands : (name : Sym) (seen : Seen) (at : ℕ) (xs : List ℤ) (w : Words) (row : Env) → at + words_for seen ≤ length xs → length xs ≤ most_words → HasWords xs w → IsSeen seen at xs (look_for name.0 row) → look_for name.0 row ≡ Some (plain (site_value (site_from name seen (2 + at)) (shown_on w row)))
+seen_stands name Number at xs w row room few has is =
+    is ∙ ap (λ (v : Value). Some (plain v)) (ap (number kinds.I64) (sym (has at (omega (arith, room)))) ∙ sym (shown_below w row (2 + at) (omega (arith, room, few))))
+seen_stands name (Fields n bits) at xs w row room few has is =
+    is.1 ∙ ap (λ (vs : Values). Some (plain (struct vs)))
+    (fields_stand n bits at 2 xs (shown_on w row) is.0 (λ k less more. shown_below w row (2 + k) (omega (arith, more, room, few)) ∙ ap (number kinds.I64) (has k (omega (arith, more, room)))) is.2
+    ∙ ap (put_fields n bits (2 + at) (shown_on w row)) (sym (shown_past w row name.0 is.0 is.1)))
+
+all_stand : (names : List Named) (at : ℕ) (xs : List ℤ) (w : Words) (row : Env) (ns : Sites) → length xs ≤ most_words → HasWords xs w → Stand names at xs row → AllStand ns (shown_on w row) row → AllStand (placed names (2 + at) ns) (shown_on w row) row
+all_stand [] at xs w row ns few has is all = all
+all_stand (s ∷ ss) at xs w row ns few has is all =
+    subst (λ (i : ℕ). AllStand (placed ss i ((s.name.0, site_from s.name s.seen (2 + at)) ∷ ns)) (shown_on w row) row) (omega arith)
+    (all_stand ss (at + words_for s.seen) xs w row ((s.name.0, site_from s.name s.seen (2 + at)) ∷ ns) few has is.1
+    (seen_stands s.name s.seen at xs w row (stand_within ss (at + words_for s.seen) xs row is.1) few has is.0, all))
+
+none_placed : (names : List Named) (at n : ℕ) (ns : Sites) → look_for n (placed names at ns) ≡ None → (has_name n names ≡ false) × (look_for n ns ≡ None)
+none_placed [] at n ns is = (refl, is)
+none_placed (s ∷ ss) at n ns is =
+    let rest : (has_name n ss ≡ false) × ((if n == s.name.0 then Some (site_from s.name s.seen at) else look_for n ns) ≡ None) = none_placed ss (at + words_for s.seen) n ((s.name.0, site_from s.name s.seen at) ∷ ns) is in
+    by (n == s.name.0) refl rest.0 rest.1
+  where
+    by : (b : Bool) → (n == s.name.0) ≡ b → has_name n ss ≡ false → (if b then Some (site_from s.name s.seen at) else look_for n ns) ≡ None → ((b || has_name n ss) ≡ false) × (look_for n ns ≡ None)
+    by true e has q = let none : ⊥ = cc in absurd none
+    by false e has q = (has, q)
+
+shown_state : (shape : Shape) (w : Words) (row : Env) → shape_value shape 0 (shown_on w row) ≡ shape_value shape 0 (shown w)
+shown_state One w row = shown_below w row 0 (omega arith)
+shown_state Pair w row = (λ i. pair (shown_below w row 0 (omega arith) i) (shown_below w row 1 (omega arith) i))
+
+pub means_body : (t : Turn) (st : Step) (whole : Meaning) (shape : Shape) (s : ℕ) (e : ExprTree) (names : List Named) (env : Env) → TurnMeans t shape ((s, state_site shape) ∷ placed names 2 []) env (eval e) → whole ≡ settled t → Lowers st whole
     → MeansBody st shape s e names env
-means_body t st whole shape s e names env means is lowers row xs stand others w has =
-    let behind : Env = with_scope (placed names 2) (shown w) env in
-    let state : Value = shape_value shape 0 (shown w) in
+means_body t st whole shape s e names env means is lowers row xs few stand others w has =
+    let f : Slots = shown_on w row in
+    let behind : Env = with_scope (placed names 2 []) f env in
+    let state : Value = shape_value shape 0 f in
+    let same_state : state ≡ shape_value shape 0 (shown w) = shown_state shape w row in
     let agree : AgreeOn (λ n. IsFree e n × (n ≢ s)) row behind =
-    record { agree = λ n f. placed_found n names xs 2 w row env stand (from_words xs 2 w has) (λ q. others.agree n (f.0, f.1, q)) } in
+    record { agree = λ n g. found_there n (placed names 2 []) f row env (all_stand names 0 xs w row [] few has stand tt) (λ q. others.agree n (g.0, g.1, (none_placed names 2 n [] q).0)) } in
     let same : eval e ((s, plain state) ∷ row) ≡ eval e ((s, plain state) ∷ behind) =
-    eval_free e ((s, plain state) ∷ row) ((s, plain state) ∷ behind) (agree_bind (λ n. IsFree e n × (n ≢ s)) (IsFree e) s (plain state) row behind (λ n f ne. (f, ne)) agree) in
-    ap (λ (o : Outcome Thing). and_then (value_out o) settle) (same ∙ means (shown w))
+    eval_free e ((s, plain state) ∷ row) ((s, plain state) ∷ behind) (agree_bind (λ n. IsFree e n × (n ≢ s)) (IsFree e) s (plain state) row behind (λ n g ne. (g, ne)) agree) in
+    ap (λ (v : Value). and_then (next_of s e row v) settle) (sym same_state)
+    ∙ ap (λ (o : Outcome Thing). and_then (value_out o) settle) (same ∙ means f)
     ∙ ap (λ (o : Outcome Value). and_then o settle) (out_in _)
-    ∙ ap (λ (m : Meaning). m shape (shown w)) (sym is) ∙ lowers shape (shown w) w (λ i h. refl)
+    ∙ ap (λ (m : Meaning). m shape f) (sym is) ∙ lowers shape f w (λ i h. shown_below w row i (omega (arith, h)))
 
 -- ---- the places of the names
 
-placed_below : (names : List Sym) (at next : ℕ) → at + length names ≤ next → AreBelow (placed names at) next
-placed_below [] at next h = tt
-placed_below (s ∷ ss) at next h = (omega (arith, h), placed_below ss (suc at) next (omega (arith, h)))
-
-pub behind_below : (names : List Sym) (s left : ℕ) (p : Place) (ns all : List (ℕ × Place)) → p.first ≡ 0 → left ≡ 0 → ns ≡ placed (drop left names) (2 + left) → all ≡ (s, p) ∷ ns → AreBelow all (2 + length names)
-behind_below names s left p ns all first none is more =
-    let room = room_two p.shape in
-    let rest : ns ≡ placed names 2 = is ∙ ap (λ (i : ℕ). placed (drop i names) (2 + i)) none in
-    subst (λ (ms : List (ℕ × Place)). AreBelow ms (2 + length names)) (sym (more ∙ ap (λ (ms : List (ℕ × Place)). (s, p) ∷ ms) rest))
-    (omega (arith, room, first), placed_below names 2 (2 + length names) (omega arith))
-
-pub all_placed : (t : Turn) (names : List Sym) (shape : Shape) (s left : ℕ) (p : Place) (ns all : List (ℕ × Place)) (e : ExprTree) (env : Env) → p.first ≡ 0 → p.shape ≡ shape → left ≡ 0 → ns ≡ placed (drop left names) (2 + left) → all ≡ (s, p) ∷ ns
-    → TurnMeans t shape all env (eval e) → TurnMeans t shape (placed_behind s shape names) env (eval e)
-all_placed t names shape s left p ns all e env first same none is more h =
-    let rest : ns ≡ placed names 2 = is ∙ ap (λ (i : ℕ). placed (drop i names) (2 + i)) none in
-    let at : p ≡ record { shape = shape; first = 0 } = (λ i. record { shape = same i; first = first i }) in
-    subst (λ (ms : List (ℕ × Place)). TurnMeans t shape ms env (eval e)) (more ∙ (λ i. (s, at i) ∷ rest i)) h
-
-drop_step : (names : List Sym) (i : ℕ) (s : Sym) → slice_get names i ≡ Some s → drop i names ≡ s ∷ drop (suc i) names
-drop_step [] i s e = let none : ⊥ = cc in absurd none
-drop_step (x ∷ xs) zero s e = let same : x ≡ s = cc in ap (λ (y : Sym). y ∷ xs) same
-drop_step (x ∷ xs) (suc i) s e = drop_step xs i s e
-
-pub one_placed : (names : List Sym) (left : ℕ) (s : Sym) (p : Place) (ns all : List (ℕ × Place)) → (left ≡ 0 → ⊥) → slice_get names (left - 1) ≡ Some s → p.first ≡ left + 1 → p.shape ≡ One → ns ≡ placed (drop left names) (2 + left) → all ≡ (s.0, p) ∷ ns
-    → all ≡ placed (drop (left - 1) names) (2 + (left - 1))
-one_placed names zero s p ns all some at first same is more = absurd (some refl)
-one_placed names (suc i) s p ns all some at first same is more =
-    let less : suc i - 1 ≡ i = omega arith in
-    let here : p ≡ record { shape = One; first = 2 + i } = (λ j. record { shape = same j; first = (first ∙ two) j }) in
-    let there : drop i names ≡ s ∷ drop (suc i) names = drop_step names i s (subst (λ (k : ℕ). slice_get names k ≡ Some s) less at) in
-    more ∙ (λ j. (s.0, here j) ∷ (is ∙ ap (placed (drop (suc i) names)) next) j)
-    ∙ ap (λ (ms : List Sym). placed ms (2 + i)) (sym there)
-    ∙ sym (ap (λ (k : ℕ). placed (drop k names) (2 + k)) less)
+pub all_placed : (t : Turn) (names : List Named) (shape : Shape) (s i at : ℕ) (p : Place) (ns all : Sites) (e : ExprTree) (env : Env) → p.first ≡ 0 → p.shape ≡ shape → length names ≤ i → all ≡ (s, sites.Whole p) ∷ ns
+    → TurnMeans t shape all env (eval e) → TurnMeans t shape ((s, state_site shape) ∷ placed (drop i names) at ns) env (eval e)
+all_placed t names shape s i at p ns all e env first same none more h =
+    let here : p ≡ record { shape = shape; first = 0 } = (λ j. record { shape = same j; first = first j }) in
+    subst (λ (ms : Sites). TurnMeans t shape ms env (eval e)) (more ∙ (λ j. (s, sites.Whole (here j)) ∷ placed (sym (drop_all i names none) j) at ns)) h
   where
-    two : suc i + 1 ≡ 2 + i
-    two = omega arith
+    drop_all : (k : ℕ) (ss : List Named) → length ss ≤ k → drop k ss ≡ []
+    drop_all zero [] less = refl
+    drop_all zero (x ∷ ss) less = absurd (omega (arith, less))
+    drop_all (suc k) [] less = refl
+    drop_all (suc k) (x ∷ ss) less = drop_all k ss (omega (arith, less))
 
-    next : 2 + suc i ≡ suc (2 + i)
-    next = omega arith
+drop_step : (names : List Named) (i : ℕ) (s : Named) → i < length names → s ≡ get_or names i s → drop i names ≡ s ∷ drop (suc i) names
+drop_step [] i s less e = absurd (omega (arith, less))
+drop_step (x ∷ xs) zero s less e = ap (λ (y : Named). y ∷ xs) (sym e)
+drop_step (x ∷ xs) (suc i) s less e = drop_step xs i s (omega (arith, less)) e
+
+pub one_placed : (t : Turn) (names : List Named) (shape : Shape) (s i at next : ℕ) (seen : Named) (site : Site) (ns all : Sites) (e : ExprTree) (env : Env) → i < length names → seen ≡ get_or names i seen → site ≡ site_from seen.name seen.seen at → next ≡ at + words_for seen.seen → all ≡ (seen.name.0, site) ∷ ns
+    → TurnMeans t shape ((s, state_site shape) ∷ placed (drop (i + 1) names) next all) env (eval e) → TurnMeans t shape ((s, state_site shape) ∷ placed (drop i names) at ns) env (eval e)
+one_placed t names shape s i at next seen site ns all e env less is there after more h =
+    let step : drop i names ≡ seen ∷ drop (suc i) names = drop_step names i seen less is in
+    let one_more : i + 1 ≡ suc i = omega arith in
+    subst (λ (ms : Sites). TurnMeans t shape ((s, state_site shape) ∷ ms) env (eval e))
+    (ap (λ (k : ℕ). placed (drop k names) next all) one_more
+    ∙ (λ j. placed (drop (suc i) names) (after j) ((more ∙ ap (λ (q : Site). (seen.name.0, q) ∷ ns) there) j))
+    ∙ ap (λ (ms : List Named). placed ms at ns) (sym step)) h
 
 -- ---- the turns
 
@@ -157,7 +208,7 @@ fault_with t shape xs w u g i h is has a c e =
     ∙ unrolled i (shape_value shape 0 (shown u)) g h ∙ settled_next (g (shape_value shape 0 (shown u))) go
     ∙ ap (λ (o : Outcome Value). and_then o (λ x. next_turn x go)) (is u has ∙ e)
 
-pub means_ok : (r : Result Step Unmade) (t : Turn) (shape : Shape) (s : ℕ) (e : ExprTree) (names : List Sym) (env : Env) → TurnMeans t shape (placed_behind s shape names) env (eval e) → IfOk r (λ st. Lowers st (settled t)) → IfOk r (λ st. MeansBody st shape s e names env)
+pub means_ok : (r : Result Step Unmade) (t : Turn) (shape : Shape) (s : ℕ) (e : ExprTree) (names : List Named) (env : Env) → TurnMeans t shape ((s, state_site shape) ∷ placed names 2 []) env (eval e) → IfOk r (λ st. Lowers st (settled t)) → IfOk r (λ st. MeansBody st shape s e names env)
 means_ok (Ok st) t shape s e names env means h = means_body t st (settled t) shape s e names env means refl h
 means_ok (Err u) t shape s e names env means h = tt
 

@@ -8,7 +8,7 @@ use Rattle.weld_meaning.specs.Evaluation.{Env, eval, next_turn, truth_of, truth_
 use Rattle.weld_eval.specs.ShortView.{view_short}
 use Rattle.weld_eval.specs.declared.short.Short.{Short}
 use Rattle.weld_turns.specs.CodeView.{Slots, shape_value, slots_of, turn_value}
-use Rattle.weld_turns.specs.Scopes.{AreBelow, TurnMeans, room_of, with_scope}
+use Rattle.weld_turns.specs.Scopes.{AreBelow, TurnMeans, room_of, with_scope, Sites}
 use Rattle.weld_turns.specs.States.{next_of, Follows, IsFollowed, RunsOn, StepsRunOn}
 use Rattle.weld_turns.specs.Lowering.{Lowers, Meaning, settle, settled}
 use Rattle.weld_turns.specs.StepView.{Words, shown}
@@ -19,6 +19,7 @@ use Rattle.weld_eval.specs.declared.thing.Held.{Held}
 use Rattle.weld_data.specs.declared.stop.Stop.{Stop}
 use Rattle.weld_meaning.specs.Thing.{plain, value_field}
 use Rattle.weld_turns.specs.declared.code.Place.{Place}
+use Rattle.weld_turns.specs.declared.code.Site.TheVariants as sites
 use Rattle.weld_turns.specs.declared.code.Shape.{Shape}
 use Rattle.weld_turns.specs.declared.code.Shape.TheVariants.{One, Pair}
 use Rattle.weld_turns.specs.declared.code.Turn.{Turn}
@@ -125,13 +126,13 @@ pub room_two : (k : Shape) → room_of k ≤ 2
 room_two One = omega arith
 room_two Pair = omega arith
 
-pub first_scope : (ns none : List (ℕ × Place)) (s : ℕ) (p : Place) → p.first ≡ 0 → none ≡ [] → ns ≡ (s, p) ∷ none → AreBelow ns 2
+pub first_scope : (ns none : Sites) (s : ℕ) (p : Place) → p.first ≡ 0 → none ≡ [] → ns ≡ (s, sites.Whole p) ∷ none → AreBelow ns 2
 first_scope ns none s p e empty is =
     let room = room_two p.shape in
-    subst (λ (ms : List (ℕ × Place)). AreBelow ms 2) (sym (is ∙ ap (λ (rest : List (ℕ × Place)). (s, p) ∷ rest) empty)) (omega (arith, room, e), tt)
+    subst (λ (ms : Sites). AreBelow ms 2) (sym (is ∙ ap (λ (rest : Sites). (s, sites.Whole p) ∷ rest) empty)) (omega (arith, room, e), tt)
 
-pub body_follows : (t : Turn) (ns none : List (ℕ × Place)) (s : ℕ) (p : Place) (e : ExprTree) (env : Env) → p.first ≡ 0 → none ≡ [] → ns ≡ (s, p) ∷ none → TurnMeans t p.shape ns env (eval e) → Follows t p.shape s e env
+pub body_follows : (t : Turn) (ns none : Sites) (s : ℕ) (p : Place) (e : ExprTree) (env : Env) → p.first ≡ 0 → none ≡ [] → ns ≡ (s, sites.Whole p) ∷ none → TurnMeans t p.shape ns env (eval e) → Follows t p.shape s e env
 body_follows t ns none s p e env at empty is h f =
     ap (λ (i : ℕ). next_of s e env (shape_value p.shape i f)) (sym at)
-    ∙ ap (λ (ms : List (ℕ × Place)). value_out (eval e (with_scope ms f env))) (sym (is ∙ ap (λ (rest : List (ℕ × Place)). (s, p) ∷ rest) empty))
+    ∙ ap (λ (ms : Sites). value_out (eval e (with_scope ms f env))) (sym (is ∙ ap (λ (rest : Sites). (s, sites.Whole p) ∷ rest) empty))
     ∙ ap value_out (h f) ∙ out_in (turn_value t p.shape f)

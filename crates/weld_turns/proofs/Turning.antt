@@ -8,20 +8,21 @@ use Rattle.weld_meaning.specs.Evaluation.{Env, eval, eval_all, many_thing, chose
 use Rattle.weld_meaning.specs.Thing.{Thing, plain, more_things, no_things}
 use Rattle.weld_turns.specs.CodeView.{Slots, shape_value, value, filled, turn_value, either_of}
 use Rattle.weld_turns.specs.Fillings.{Fills, IsFilled}
-use Rattle.weld_turns.specs.Scopes.{with_scope, ended, AreBelow, IsEndAt, IsNamedAt, IsStateAt, Means, TurnMeans}
+use Rattle.weld_turns.specs.Scopes.{with_scope, ended, AreBelow, IsEndAt, IsNamedAt, IsStateAt, Means, TurnMeans, Sites}
 use Rattle.weld_turns.specs.declared.code.Code.{Code}
 use Rattle.weld_turns.specs.declared.code.Filling.{Filling}
 use Rattle.weld_turns.specs.declared.code.Turn.{Turn}
 use Rattle.weld_turns.specs.declared.code.Turn as turns
 use Rattle.weld_turns.specs.declared.code.Shape.{Shape}
 use Rattle.weld_turns.specs.declared.code.Place.{Place}
+use Rattle.weld_turns.specs.declared.code.Site.TheVariants as sites
 use Rattle.weld_turns.specs.declared.code.Unmade.{Unmade}
 use Rattle.weld_turns.proofs.Making.{named_comes, if_chooses}
 use Rattle.weld_turns.proofs.Scoping.{held_scope, scope_kept}
 
 -- ---- choices and lets
 
-pub fork_means : (shape : Shape) (ns : List (ℕ × Place)) (env : Env) (e g h : ExprTree) (c : Code) (x y t : Turn) → ((f : Slots) → turn_value t shape f ≡ and_then (value c f) (λ v. either_of v (turn_value x shape f) (turn_value y shape f)))
+pub fork_means : (shape : Shape) (ns : Sites) (env : Env) (e g h : ExprTree) (c : Code) (x y t : Turn) → ((f : Slots) → turn_value t shape f ≡ and_then (value c f) (λ v. either_of v (turn_value x shape f) (turn_value y shape f)))
     → Means c ns env (eval e) → TurnMeans x shape ns env (eval g) → TurnMeans y shape ns env (eval h) → TurnMeans t shape ns env (λ inner. and_then (eval e inner) (λ u. chosen u (eval g inner) (eval h inner)))
 fork_means shape ns env e g h c x y t is i j k f =
     ap (λ (o : Outcome Thing). and_then o (λ u. chosen u (eval g (with_scope ns f env)) (eval h (with_scope ns f env)))) (i f)
@@ -29,7 +30,7 @@ fork_means shape ns env e g h c x y t is i j k f =
     ∙ ap (λ (o : Outcome Thing). and_then (map_out plain (value c f)) (λ u. chosen u (map_out plain (turn_value x shape f)) o)) (k f)
     ∙ if_chooses (value c f) (turn_value x shape f) (turn_value y shape f) ∙ ap (map_out plain) (sym (is f))
 
-pub let_means : (shape : Shape) (ns all : List (ℕ × Place)) (env : Env) (e d : ExprTree) (s next : ℕ) (p : Place) (x : Filling) (rest : Turn) → p.first ≡ next → AreBelow ns next → all ≡ (s, p) ∷ ns → Fills x p.shape next ns env (eval e) → TurnMeans rest shape all env (eval d)
+pub let_means : (shape : Shape) (ns all : Sites) (env : Env) (e d : ExprTree) (s next : ℕ) (p : Place) (x : Filling) (rest : Turn) → p.first ≡ next → AreBelow ns next → all ≡ (s, sites.Whole p) ∷ ns → Fills x p.shape next ns env (eval e) → TurnMeans rest shape all env (eval d)
     → (f : Slots) → and_then (eval e (with_scope ns f env)) (λ u. eval d ((s, u) ∷ with_scope ns f env)) ≡ map_out plain (and_then (filled x f) (λ g. turn_value rest shape g))
 let_means shape ns all env e d s next p x rest at below is i j f = by (filled x f) (i f)
   where
@@ -53,15 +54,15 @@ struct_of_two (done v) p = struct_by v p
 struct_of_two fault p = refl
 struct_of_two stuck p = refl
 
-pub end_named_means : (shape : Shape) (ns : List (ℕ × Place)) (env : Env) (e g : ExprTree) (first : ℕ) (c : Code) → IsStateAt e shape ns first → Means c ns env (eval g) → TurnMeans (turns.End first c) shape ns env (λ inner. and_then (eval_all (more_exprs e (more_exprs g no_exprs)) inner) (many_thing make_struct))
+pub end_named_means : (shape : Shape) (ns : Sites) (env : Env) (e g : ExprTree) (first : ℕ) (c : Code) → IsStateAt e shape ns first → Means c ns env (eval g) → TurnMeans (turns.End first c) shape ns env (λ inner. and_then (eval_all (more_exprs e (more_exprs g no_exprs)) inner) (many_thing make_struct))
 end_named_means shape ns env e g first c is h f =
-    ap (λ (o : Outcome Thing). ended o (eval g (with_scope ns f env))) (named_comes e is.0 ns f env is.1 is.2 is.3)
+    ap (λ (o : Outcome Thing). ended o (eval g (with_scope ns f env))) (named_comes e is.0 ns f env (sites.Whole is.1) is.2 is.3)
     ∙ ap (λ (o : Outcome Thing). ended (done (plain (shape_value is.1.shape is.1.first f))) o) (h f)
     ∙ struct_of_two (done (shape_value is.1.shape is.1.first f)) (value c f)
     ∙ ap (λ (k : Shape). map_out plain (and_then (value c f) (λ w. done (pair (shape_value k is.1.first f) w)))) is.4
     ∙ ap (λ (i : ℕ). map_out plain (and_then (value c f) (λ w. done (pair (shape_value shape i f) w)))) is.5
 
-pub end_filled_means : (shape : Shape) (ns : List (ℕ × Place)) (env : Env) (e d : ExprTree) (next : ℕ) (x : Filling) (end : Turn) → AreBelow ns next → Fills x shape next ns env (eval e) → IsEndAt end next ns env (eval d)
+pub end_filled_means : (shape : Shape) (ns : Sites) (env : Env) (e d : ExprTree) (next : ℕ) (x : Filling) (end : Turn) → AreBelow ns next → Fills x shape next ns env (eval e) → IsEndAt end next ns env (eval d)
     → (f : Slots) → ended (eval e (with_scope ns f env)) (eval d (with_scope ns f env)) ≡ map_out plain (and_then (filled x f) (λ g. turn_value end shape g))
 end_filled_means shape ns env e d next x end below i k f = by (filled x f) (i f)
   where
@@ -82,18 +83,18 @@ two_of (a ∷ []) e g n p q = let no : ⊥ = cc in absurd no
 two_of (a ∷ b ∷ []) e g n p q = ap (λ x. more_exprs x (more_exprs b no_exprs)) (sym p) ∙ ap (λ y. more_exprs e (more_exprs y no_exprs)) (sym q)
 two_of (a ∷ b ∷ d ∷ es) e g n p q = let no : ⊥ = cc in absurd no
 
-pub two_parts : (t : Turn) (shape : Shape) (ns : List (ℕ × Place)) (env : Env) (es : List ExprTree) (e g : ExprTree) → length es ≡ 2 → e ≡ get_or es 0 e → g ≡ get_or es 1 g
+pub two_parts : (t : Turn) (shape : Shape) (ns : Sites) (env : Env) (es : List ExprTree) (e g : ExprTree) → length es ≡ 2 → e ≡ get_or es 0 e → g ≡ get_or es 1 g
     → TurnMeans t shape ns env (λ inner. and_then (eval_all (more_exprs e (more_exprs g no_exprs)) inner) (many_thing make_struct)) → TurnMeans t shape ns env (λ inner. and_then (eval_all (pack_exprs es) inner) (many_thing make_struct))
 two_parts t shape ns env es e g n p q h f = ap (λ (xs : ExprTrees). and_then (eval_all xs (with_scope ns f env)) (many_thing make_struct)) (two_of es e g n p q) ∙ h f
 
 -- ---- lets that take no slot
 
-pub alias_means : (t : Turn) (shape : Shape) (ns all : List (ℕ × Place)) (env : Env) (e g : ExprTree) (name : ℕ) (p : Place) → IsNamedAt e ns p → all ≡ (name, p) ∷ ns → TurnMeans t shape all env (eval g) → TurnMeans t shape ns env (λ inner. and_then (eval e inner) (λ x. eval g ((name, x) ∷ inner)))
+pub alias_means : (t : Turn) (shape : Shape) (ns all : Sites) (env : Env) (e g : ExprTree) (name : ℕ) (p : Place) → IsNamedAt e ns p → all ≡ (name, sites.Whole p) ∷ ns → TurnMeans t shape all env (eval g) → TurnMeans t shape ns env (λ inner. and_then (eval e inner) (λ x. eval g ((name, x) ∷ inner)))
 alias_means t shape ns all env e g name p is more h f =
-    ap (λ (o : Outcome Thing). and_then o (λ x. eval g ((name, x) ∷ with_scope ns f env))) (named_comes e is.0 ns f env p is.1 is.2)
-    ∙ ap (λ (ms : List (ℕ × Place)). eval g (with_scope ms f env)) (sym more) ∙ h f
+    ap (λ (o : Outcome Thing). and_then o (λ x. eval g ((name, x) ∷ with_scope ns f env))) (named_comes e is.0 ns f env (sites.Whole p) is.1 is.2)
+    ∙ ap (λ (ms : Sites). eval g (with_scope ms f env)) (sym more) ∙ h f
 
-pub alias_ok : (r : Result Turn Unmade) (shape : Shape) (ns all : List (ℕ × Place)) (env : Env) (e g : ExprTree) (name : ℕ) (p : Place) → IsNamedAt e ns p → all ≡ (name, p) ∷ ns → IfOk r (λ t. TurnMeans t shape all env (eval g))
+pub alias_ok : (r : Result Turn Unmade) (shape : Shape) (ns all : Sites) (env : Env) (e g : ExprTree) (name : ℕ) (p : Place) → IsNamedAt e ns p → all ≡ (name, sites.Whole p) ∷ ns → IfOk r (λ t. TurnMeans t shape all env (eval g))
     → IfOk r (λ t. TurnMeans t shape ns env (λ inner. and_then (eval e inner) (λ x. eval g ((name, x) ∷ inner))))
 alias_ok (Ok t) shape ns all env e g name p is more h = alias_means t shape ns all env e g name p is more h
 alias_ok (Err x) shape ns all env e g name p is more h = h

@@ -22,6 +22,10 @@ use Rattle.weld_turns.specs.declared.code.Shape.TheVariants.{One, Pair}
 abbrev pub Slots : Type 0
 Slots = ℕ → Value
 
+-- code reads and writes slots below that number alone; past them stand values that are none of its own
+abbrev pub slot_limit : ℕ
+slot_limit = 18446744073709551616
+
 -- the slots with another value in one
 abbrev pub with_slot : Slots → ℕ → Value → Slots
 with_slot f to v = λ i. if i == to then v else f i

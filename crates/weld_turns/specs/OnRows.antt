@@ -1,13 +1,13 @@
 -- Turns on rows that see other names than the state's.
-use Rattle.std.specs.Prelude.{◌≡◌, ◌≢◌, ℕ, suc, ◌+◌, ◌-◌, ◌<◌, ◌==◌, ◌||◌, Bool, false, List, [], ◌∷◌, length, ℤ, Some, Result, Ok, Err}
+use Rattle.std.specs.Prelude.{◌≡◌, ◌≢◌, ℕ, zero, suc, ◌+◌, ◌-◌, ◌/◌, ◌<◌, ◌≤◌, ◌==◌, ◌||◌, Bool, true, false, List, [], ◌∷◌, length, ℤ, Option, Some, Result, Ok, Err}
 use Rattle.weld_data.specs.declared.kind.Kind.TheVariants as kinds
-use Rattle.weld_data.specs.Value.{Value, number}
+use Rattle.weld_data.specs.Value.{Value, Values, number, struct, no_values, and_value}
 use Rattle.weld_built.specs.Pair.{pair}
 use Rattle.weld_builders.specs.Outcome.{Outcome, done, fault, and_then}
 use Rattle.weld_meaning.specs.Environment.{look_for}
 use Rattle.weld_meaning.specs.Evaluation.{Env, turns, turn_limit}
 use Rattle.weld_meaning.specs.Names.{IsFree, AgreeOn}
-use Rattle.weld_meaning.specs.Thing.{plain}
+use Rattle.weld_meaning.specs.Thing.{Thing, plain}
 use Rattle.weld_tree.specs.ExprTree.{ExprTree}
 use Rattle.weld_tree.specs.declared.sym.Sym.{Sym}
 use Rattle.weld_turns.specs.CodeView.{shape_value}
@@ -16,7 +16,12 @@ use Rattle.weld_turns.specs.States.{next_of}
 use Rattle.weld_turns.specs.StepView.{Words, shown, step_value, words_of}
 use Rattle.weld_turns.specs.declared.code.Halt.{Halt}
 use Rattle.weld_turns.specs.declared.code.Halt.TheVariants.{Fault, Other}
-use Rattle.weld_turns.specs.declared.code.Place.{Place}
+use Rattle.weld_turns.specs.Scopes.{Sites, is_odd}
+use Rattle.weld_turns.specs.declared.code.Named.{Named}
+use Rattle.weld_turns.specs.declared.code.Seen.{Seen}
+use Rattle.weld_turns.specs.declared.code.Seen.TheVariants.{Number, Fields}
+use Rattle.weld_turns.specs.declared.code.Site.{Site}
+use Rattle.weld_turns.specs.declared.code.Site.TheVariants as sites
 use Rattle.weld_turns.specs.declared.code.Shape.{Shape}
 use Rattle.weld_turns.specs.declared.code.Shape.TheVariants.{One, Pair}
 use Rattle.weld_turns.specs.declared.step.Step.{Step}
@@ -24,29 +29,48 @@ use Rattle.weld_turns.specs.declared.step.Step.{Step}
 -- ---- the names
 
 -- whether it is one of the names
-abbrev pub has_name : ℕ → List Sym → Bool
+abbrev pub has_name : ℕ → List Named → Bool
 has_name n [] = false
-has_name n (s ∷ ss) = (n == s.0) || has_name n ss
+has_name n (s ∷ ss) = (n == s.name.0) || has_name n ss
 
--- each name stands for the number of kind i64 that stands at its place
-abbrev pub Stand : List Sym → List ℤ → Env → Type 0
-Stand [] [] env = Unit {0}
-Stand [] (x ∷ xs) env = ⊥
-Stand (s ∷ ss) [] env = ⊥
-Stand (s ∷ ss) (x ∷ xs) env = (look_for s.0 env ≡ Some (plain (number kinds.I64 x))) × Stand ss xs env
+-- how many words it has
+abbrev pub words_for : Seen → ℕ
+words_for Number = 1
+words_for (Fields n bits) = n
+
+-- so many of the first values, where their bits are set, are the numbers of kind i64 that stand from that place on
+abbrev pub HasNumbers : ℕ → ℕ → ℕ → List ℤ → Values → Type 0
+HasNumbers zero bits at xs vs = Unit {0}
+HasNumbers (suc n) bits at xs no_values = ⊥
+HasNumbers (suc n) bits at xs (and_value v vs) = (is_odd bits ≡ true → v ≡ number kinds.I64 (words_of xs at)) × HasNumbers n (bits / 2) (suc at) xs vs
+
+-- what it stands for is the number of that place, or a struct that has those from that place on
+abbrev pub IsSeen : Seen → ℕ → List ℤ → Option Thing → Type 0
+IsSeen Number at xs o = o ≡ Some (plain (number kinds.I64 (words_of xs at)))
+IsSeen (Fields n bits) at xs o = (vs : Values) × (o ≡ Some (plain (struct vs))) × HasNumbers n bits at xs vs
+
+-- each name stands for what it is seen as, by the numbers from that place on; and there are no others
+abbrev pub Stand : List Named → ℕ → List ℤ → Env → Type 0
+Stand [] at xs env = at ≡ length xs
+Stand (s ∷ ss) at xs env = IsSeen s.seen at xs (look_for s.name.0 env) × Stand ss (at + words_for s.seen) xs env
 
 -- the name is free in the body, and neither the state's nor one of those
-abbrev pub IsOther : ExprTree → ℕ → List Sym → ℕ → Type 0
+abbrev pub IsOther : ExprTree → ℕ → List Named → ℕ → Type 0
 IsOther e s names n = IsFree e n × (n ≢ s) × (has_name n names ≡ false)
 
--- the names with their places, one behind the other from that one on
-abbrev pub placed : List Sym → ℕ → List (ℕ × Place)
-placed [] at = []
-placed (s ∷ ss) at = (s.0, record { shape = One; first = at }) ∷ placed ss (suc at)
+-- where the name's words stand, from that slot on
+abbrev pub site_from : Sym → Seen → ℕ → Site
+site_from s Number at = sites.Whole (record { shape = One; first = at })
+site_from s (Fields n bits) at = sites.Parts (record { name = s; first = at; fields = n; taken = bits })
 
--- the state's name first
-abbrev pub placed_behind : ℕ → Shape → List Sym → List (ℕ × Place)
-placed_behind s shape names = (s, record { shape = shape; first = 0 }) ∷ placed names 2
+-- the state's words come first
+abbrev pub state_site : Shape → Site
+state_site shape = sites.Whole (record { shape = shape; first = 0 })
+
+-- those with where they stand, one behind the other from that slot on, upon others
+abbrev pub placed : List Named → ℕ → Sites → Sites
+placed [] at ns = ns
+placed (s ∷ ss) at ns = placed ss (at + words_for s.seen) ((s.name.0, site_from s.name s.seen at) ∷ ns)
 
 -- ---- the turns
 
@@ -63,10 +87,14 @@ HasWords xs w = (k : ℕ) → k < length xs → w (2 + k) ≡ words_of xs k
 abbrev pub IsFollowedWith : Step → Shape → List ℤ → (Value → Outcome Value) → Type 0
 IsFollowedWith t shape xs g = (w : Words) → HasWords xs w → and_then (g (shape_value shape 0 (shown w))) settle ≡ step_value t shape w
 
--- on each row on which the names stand for these numbers, and each other name of the body for what it stands for outside, the
+-- so many words of names at most are looked at
+abbrev pub most_words : ℕ
+most_words = 32
+
+-- on each row on which the names stand for what they are seen as by these numbers, and each other name of the body for what it stands for outside, the
 -- instructions make of a state what the body makes of it
-abbrev pub MeansBody : Step → Shape → ℕ → ExprTree → List Sym → Env → Type 0
-MeansBody t shape s e names env = (row : Env) (xs : List ℤ) → Stand names xs row → AgreeOn (IsOther e s names) row env → IsFollowedWith t shape xs (λ v. next_of s e row v)
+abbrev pub MeansBody : Step → Shape → ℕ → ExprTree → List Named → Env → Type 0
+MeansBody t shape s e names env = (row : Env) (xs : List ℤ) → length xs ≤ most_words → Stand names 0 xs row → AgreeOn (IsOther e s names) row env → IsFollowedWith t shape xs (λ v. next_of s e row v)
 
 -- the turns of what the instructions make end with that state
 abbrev pub EndsWith : Step → Shape → List ℤ → Value → Value → Type 0

@@ -5,6 +5,7 @@ ghost use Rattle.weld_turns.specs.Scopes.{room_of};
 
 use weld_data::{BinOp, Kind};
 use weld_eval::short::Short;
+use weld_tree::Sym;
 
 /// A number that is worked out from the numbers of slots.
 #[cycle(code)]
@@ -75,6 +76,37 @@ pub fn room(shape: Shape) -> usize
 pub struct Place {
     pub shape: Shape,
     pub first: usize,
+}
+
+/// The struct that a name stands for, of whose first fields, so many, some are numbers in slots: field k in the k-th slot from the
+/// first one on, where bit k is set. The name is the one that stood for the whole outside of the slots.
+#[derive(Clone, Copy)]
+pub struct Spread {
+    pub name: Sym,
+    pub first: usize,
+    pub fields: usize,
+    pub taken: u64,
+}
+
+/// Where the value of a name stands: whole in slots, or fields of it alone.
+#[derive(Clone, Copy)]
+pub enum Site {
+    Whole(Place),
+    Parts(Spread),
+}
+
+/// What a name of a row is seen as: a number of kind i64, or a struct of whose first fields, so many, those with a bit set are such.
+#[derive(Clone, Copy)]
+pub enum Seen {
+    Number,
+    Fields(usize, u64),
+}
+
+/// A name of a row, and what it is seen as.
+#[derive(Clone, Copy)]
+pub struct Named {
+    pub name: Sym,
+    pub seen: Seen,
 }
 
 /// Why nothing came of it: a fault, or something that isn't numbers, of which nothing is said.

@@ -19,6 +19,6 @@ mod step;
 mod turns;
 mod words;
 
-pub use on_rows::{end_of_turns, made_turn};
+pub use on_rows::{MOST_WORDS, end_of_turns, made_turn};
 pub use step::Step;
 pub use turns::turns_in_slots;

@@ -6,11 +6,11 @@ ghost use Rattle.weld_eval.specs.FrameView.{env_of};
 ghost use Rattle.weld_meaning.specs.Evaluation.{eval, leaf_thing, one_thing, two_thing, three_thing};
 ghost use Rattle.weld_tree.specs.ExprTree.{int, name as name_leaf, neg, not as not_of, cast, field as field_form, binary, and as and_form, or as or_form, if_else, select};
 ghost use Rattle.weld_tree.specs.ExprView.{view_leaf, view_one, view_two, view_three};
-ghost use Rattle.weld_turns.specs.Scopes.{view_scope, IsFieldSlot, IsTruth, Means};
+ghost use Rattle.weld_turns.specs.Scopes.{view_scope, takes, IsFieldSlot, IsPartSlot, IsTruth, Means};
 
-use crate::code::{Code, Place, Shape, Unmade};
+use crate::code::{Code, Place, Shape, Site, Spread, Unmade};
 use crate::outer::{literal, outer_field, outer_number};
-use crate::scope::{Scope, name_of, place_of};
+use crate::scope::{Scope, name_of, site_of};
 use crate::slots::SLOTS;
 use std::alloc::Global;
 use weld_data::{BinOp, Kind};
@@ -80,11 +80,12 @@ fn make_name(name: Sym, scope: &Scope, frame: &Frame) -> Result<Code, Unmade>
     ensures { IfOk result (λ c. Means c (view_scope scope.now) (env_of frame.now)
         (leaf_thing (name_leaf name.0))) }
 {
-    match place_of(scope, name) {
-        Some(place) => match place.shape {
+    match site_of(scope, name) {
+        Some(Site::Whole(place)) => match place.shape {
             Shape::One => Ok(Code::Slot(place.first)),
             Shape::Pair => Err(Unmade::Other),
         },
+        Some(Site::Parts(_)) => Err(Unmade::Other),
         None => match outer_number(frame, name) {
             Some(n) => Ok(Code::Literal(n)),
             None => Err(Unmade::Other),
@@ -124,7 +125,7 @@ fn make_one(
 }
 
 /// The code of a field of a name.
-#[tactic(auto, using(crate::proofs::Making::field_means, crate::proofs::Making::outer_field_means))]
+#[tactic(auto, using(crate::proofs::Making::field_means, crate::proofs::Making::part_means, crate::proofs::Making::outer_field_means))]
 fn make_field(number: u32, part: &Expr, scope: &Scope, frame: &Frame) -> Result<Code, Unmade>
     ensures { IfOk result (λ c. Means c (view_scope scope.now) (env_of frame.now)
         (λ env. and_then (eval part.now env) (one_thing (field_form number)))) }
@@ -133,8 +134,9 @@ fn make_field(number: u32, part: &Expr, scope: &Scope, frame: &Frame) -> Result<
         Some(name) => name,
         None => return Err(Unmade::Other),
     };
-    match place_of(scope, name) {
-        Some(place) => slot_of_field(number, place),
+    match site_of(scope, name) {
+        Some(Site::Whole(place)) => slot_of_field(number, place),
+        Some(Site::Parts(spread)) => slot_of_part(number, spread),
         None => match outer_field(frame, name, number) {
             Some(n) => Ok(Code::Literal(n)),
             None => Err(Unmade::Other),
@@ -295,4 +297,29 @@ fn slot_of_field(number: u32, place: Place) -> Result<Code, Unmade>
         Shape::Pair if number == 1 && place.first < SLOTS => Ok(Code::Slot(place.first + 1)),
         _ => Err(Unmade::Other),
     }
+}
+
+/// The slot of a field, from 0, of a struct whose fields stand in slots, where this one does.
+#[tactic(auto, using(crate::proofs::Making::part_slot))]
+fn slot_of_part(number: u32, spread: Spread) -> Result<Code, Unmade>
+    ensures { IfOk result (λ c. IsPartSlot c number spread) }
+{
+    let place = number as usize;
+    if place >= spread.fields || place >= SLOTS || spread.first >= SLOTS {
+        return Err(Unmade::Other);
+    }
+    if !has_bit(spread.taken, place) {
+        return Err(Unmade::Other);
+    }
+    Ok(Code::Slot(spread.first + place))
+}
+
+/// Whether the bit of that place is set. It takes no memory.
+fn has_bit(bits: u64, place: usize) -> bool
+    ensures { result ≡ takes bits place }
+{
+    if place == 0 {
+        return bits % 2 == 1;
+    }
+    has_bit(bits / 2, place - 1)
 }

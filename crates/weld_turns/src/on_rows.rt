@@ -1,49 +1,47 @@
 //! The turns of an `iterate` in the body of a loop: its instructions are made once, and run for each row. The body sees the state
-//! and, of the row, names of numbers of kind i64; what else it names stands outside of the loop.
+//! and, of the row, names of numbers of kind i64 and of structs of which it takes such fields; what else it names stands outside of
+//! the loop.
 
-ghost use Rattle.std.specs.Prelude.{◌≡◌, ◌+◌, ◌<◌, ◌≤◌, true, length, drop, slice_get, Some, IfOk, IfSome};
+ghost use Rattle.std.specs.Prelude.{◌≡◌, ◌∷◌, [], ◌+◌, ◌<◌, ◌≤◌, true, length, drop, slice_get, Some, IfOk, IfSome};
 ghost use Rattle.weld_eval.specs.FrameView.{env_of};
 ghost use Rattle.weld_meaning.specs.Evaluation.{eval};
-ghost use Rattle.weld_turns.specs.OnRows.{placed, placed_behind, state_of, EndsWith, HasWords, MeansBody, RunsAll};
-ghost use Rattle.weld_turns.specs.Scopes.{view_scope, TurnMeans};
+ghost use Rattle.weld_turns.specs.OnRows.{placed, state_of, state_site, EndsWith, HasWords, MeansBody, RunsAll};
+ghost use Rattle.weld_turns.specs.Scopes.{view_scope, AreBelow, TurnMeans};
 ghost use Rattle.weld_turns.specs.CodeView.{shape_value};
 ghost use Rattle.weld_turns.specs.Lowering.{settled, Lowers};
 ghost use Rattle.weld_turns.specs.StepView.{shown, with_word, words_of, AreWords};
 ghost use Rattle.weld_builders.specs.Outcome.{done};
 
-use crate::code::{Halt, Place, Shape, Turn, Unmade};
+use crate::code::{Halt, Named, Place, Seen, Shape, Spread, Turn, Unmade};
 use crate::lower::lower;
 use crate::make_turn::make_turn;
 use crate::rest::of_turn;
 use crate::run_steps::{WORDS, put, run_steps, word_in};
-use crate::scope::{Scope, no_names, with_name};
+use crate::scope::{Scope, no_names, with_name, with_spread};
 use crate::step::Step;
 use crate::turns::{MOST_STEPS, TURN_LIMIT, put_two};
 use std::alloc::Global;
 use weld_eval::frame::Frame;
 use weld_tree::{Expr, Sym};
 
-/// How many names of a row a body sees at most.
-const MOST_NAMES: usize = 32;
+/// How many words the names of a row have at most.
+pub const MOST_WORDS: usize = 32;
 
-/// The instructions of a turn, by the body, the name of the state and its shape. The names of the row stand for numbers of kind
-/// i64; all others are looked for outside. There are none for more than 32 names, for a body that isn't lowered, or where memory is
-/// wanting.
+/// The instructions of a turn, by the body, the name of the state and its shape. The names of the row are numbers of kind i64, or
+/// structs of which fields are such, whose words stand one behind the other; all others are looked for outside. There are none for
+/// more than 32 words, for a body that isn't lowered (or uses another field), or where memory is wanting.
 pub fn made_turn(
     name: Sym,
     body: &Expr,
     shape: Shape,
-    names: &[Sym],
+    names: &[Named],
     frame: &Frame,
     alloc: Global,
 ) -> Result<Step, Unmade>
     ensures { IfOk result (λ t. MeansBody t shape name.0 body.now names.now (env_of frame.now)) }
 {
-    if names.len() > MOST_NAMES {
-        return Err(Unmade::Other);
-    }
     let none = no_names();
-    match make_behind(name, body, shape, names, names.len(), &none, frame, alloc) {
+    match make_behind(name, body, shape, names, 0, 2, &none, frame, alloc) {
         Ok(turn) => lowered(&turn, alloc),
         Err(unmade) => Err(unmade),
     }
@@ -58,42 +56,75 @@ fn lowered(turn: &Turn, alloc: Global) -> Result<Step, Unmade>
     lower(&whole, &mut left, alloc)
 }
 
-/// The code of the turn, where the names from a number on have their places.
-#[tactic(auto, using(crate::proofs::OnRows::all_placed, crate::proofs::OnRows::one_placed, crate::proofs::OnRows::behind_below))]
+/// The code of the turn, where the names before a number have their sites, and the slots from that one on are free.
+#[tactic(auto, using(crate::proofs::OnRows::all_placed, crate::proofs::OnRows::one_placed))]
 fn make_behind(
     name: Sym,
     body: &Expr,
     shape: Shape,
-    names: &[Sym],
-    left: usize,
+    names: &[Named],
+    i: usize,
+    at: usize,
     scope: &Scope,
     frame: &Frame,
     alloc: Global,
 ) -> Result<Turn, Unmade>
-    requires few { length names.now ≤ 32 }
-    requires left { left ≤ length names.now }
-    requires placed { view_scope scope.now ≡ placed (drop left names.now) (2 + left) }
-    ensures { IfOk result (λ t. TurnMeans t shape (placed_behind name.0 shape names.now)
+    requires below { AreBelow (view_scope scope.now) at }
+    requires state { 2 ≤ at }
+    ensures { IfOk result (λ t. TurnMeans t shape
+        ((name.0, state_site shape) ∷ placed (drop i names.now) at (view_scope scope.now))
         (env_of frame.now) (eval body.now)) }
 {
-    if left == 0 {
-        let inner = with_name(name, Place { shape, first: 0 }, &*scope);
-        return make_turn(body, shape, &inner, 2 + names.len(), frame, alloc);
+    if at > 2 + MOST_WORDS {
+        return Err(Unmade::Other);
     }
-    let place = Place {
-        shape: Shape::One,
-        first: left + 1,
-    };
-    let inner = with_name(name_at(names, left - 1), place, &*scope);
-    make_behind(name, body, shape, names, left - 1, &inner, frame, alloc)
-}
-
-/// The name at a place. It takes no memory.
-fn name_at(names: &[Sym], i: usize) -> Sym
-    requires { i < length names.now }
-    ensures { slice_get names.now i ≡ Some result }
-{
-    names[i]
+    if i >= names.len() {
+        let inner = with_name(name, Place { shape, first: 0 }, &*scope);
+        return make_turn(body, shape, &inner, at, frame, alloc);
+    }
+    match names[i].seen {
+        Seen::Number => {
+            let place = Place {
+                shape: Shape::One,
+                first: at,
+            };
+            let inner = with_name(names[i].name, place, &*scope);
+            make_behind(
+                name,
+                body,
+                shape,
+                names,
+                i + 1,
+                at + 1,
+                &inner,
+                frame,
+                alloc,
+            )
+        }
+        Seen::Fields(fields, taken) => {
+            if fields > MOST_WORDS {
+                return Err(Unmade::Other);
+            }
+            let spread = Spread {
+                name: names[i].name,
+                first: at,
+                fields,
+                taken,
+            };
+            let inner = with_spread(names[i].name, spread, &*scope);
+            make_behind(
+                name,
+                body,
+                shape,
+                names,
+                i + 1,
+                at + fields,
+                &inner,
+                frame,
+                alloc,
+            )
+        }
+    }
 }
 
 /// The last state of the turns from a state of two words (of a single number the second doesn't matter), while the row's names have

@@ -2,29 +2,30 @@
 
 ghost use Rattle.std.specs.Prelude.{◌≡◌, [], ◌∷◌, IfSome};
 ghost use Rattle.weld_meaning.specs.Environment.{look_for};
+ghost use Rattle.weld_turns.specs.declared.code.Site.TheVariants as sites;
 ghost use Rattle.weld_turns.specs.Scopes.{view_scope, IsNamedAt, IsNameOf, IsOutsideName, IsStateAt};
 
-use crate::code::{Place, Shape};
+use crate::code::{Place, Shape, Site, Spread};
 use weld_tree::{Expr, Form, LeafForm, ManyForm, Sym};
 
 /// The names whose values stand in slots, the newest first.
 #[derive(Clone, Copy)]
 pub enum Scope<'a> {
     End,
-    And(Sym, Place, &'a Scope<'a>),
+    And(Sym, Site, &'a Scope<'a>),
 }
 
 /// Where the value of the name stands, if it stands in slots.
-pub fn place_of(scope: &Scope, name: Sym) -> Option<Place>
+pub fn site_of(scope: &Scope, name: Sym) -> Option<Site>
     ensures { result ≡ look_for name.0 (view_scope scope.now) }
 {
     match scope {
         Scope::End => None,
-        Scope::And(first, place, rest) => {
+        Scope::And(first, site, rest) => {
             if name.0 == first.0 {
-                Some(*place)
+                Some(*site)
             } else {
-                place_of(rest, name)
+                site_of(rest, name)
             }
         }
     }
@@ -39,9 +40,16 @@ pub fn no_names<'a>() -> Scope<'a>
 
 /// The names with one more.
 pub fn with_name<'a>(name: Sym, place: Place, rest: &'a Scope<'a>) -> Scope<'a>
-    ensures { view_scope result ≡ (name.0, place) ∷ view_scope rest.now }
+    ensures { view_scope result ≡ (name.0, sites.Whole place) ∷ view_scope rest.now }
 {
-    Scope::And(name, place, rest)
+    Scope::And(name, Site::Whole(place), rest)
+}
+
+/// The names with one more, of which fields stand in slots.
+pub fn with_spread<'a>(name: Sym, spread: Spread, rest: &'a Scope<'a>) -> Scope<'a>
+    ensures { view_scope result ≡ (name.0, sites.Parts spread) ∷ view_scope rest.now }
+{
+    Scope::And(name, Site::Parts(spread), rest)
 }
 
 /// The name that an expression is.
@@ -54,12 +62,15 @@ pub fn name_of(e: &Expr) -> Option<Sym>
     }
 }
 
-/// Where what the expression names stands, if it is a name of what stands in slots.
+/// Where what the expression names stands, if it is a name of what stands whole in slots.
 pub fn named_place(e: &Expr, scope: &Scope) -> Option<Place>
     ensures { IfSome result (λ place. IsNamedAt e.now (view_scope scope.now) place) }
 {
     match name_of(e) {
-        Some(name) => place_of(scope, name),
+        Some(name) => match site_of(scope, name) {
+            Some(Site::Whole(place)) => Some(place),
+            _ => None,
+        },
         None => None,
     }
 }
@@ -69,8 +80,8 @@ pub fn state_place(e: &Expr, shape: Shape, scope: &Scope) -> Option<usize>
     ensures { IfSome result (λ first. IsStateAt e.now shape (view_scope scope.now) first) }
 {
     match name_of(e) {
-        Some(name) => match place_of(scope, name) {
-            Some(place) if place.shape == shape => Some(place.first),
+        Some(name) => match site_of(scope, name) {
+            Some(Site::Whole(place)) if place.shape == shape => Some(place.first),
             _ => None,
         },
         None => None,
@@ -82,7 +93,7 @@ pub fn outer_name(e: &Expr, scope: &Scope) -> Option<Sym>
     ensures { IfSome result (λ name. IsOutsideName e.now (view_scope scope.now) name.0) }
 {
     match name_of(e) {
-        Some(name) => match place_of(scope, name) {
+        Some(name) => match site_of(scope, name) {
             Some(_) => None,
             None => Some(name),
         },

@@ -10,12 +10,6 @@ use Rattle.weld_turns.proofs.Fillings.{after_fills, alias_fills, both_fill, fiel
 use Rattle.weld_turns.proofs.Scoping.{alias_below, below_more}
 use Rattle.weld_turns.proofs.fill.+fill.Goals as goal
 
-pub fill_fields-returns-in-Ok-boxed_fill : goal.fill_fields-returns-in-Ok-boxed_fill
-fill_fields-returns-in-Ok-boxed_fill t c =
-    fields_fill c.in-Ok.x.value c.in-Ok-boxed_fill.y.value (view_scope c.args.scope.now) (env_of c.args.frame.now) c.args.parts.now c.index-items-0.result c.index-items-1.result c.args.first
-    (ap length (sym c.as_slice-items.ensures.value) ∙ c.if-items-ne2.false) (c.index-items-0.is ∙ ap (λ (es : List ExprTree). get_or es 0 c.index-items-0.result) c.as_slice-items.ensures.value)
-    (c.index-items-1.is ∙ ap (λ (es : List ExprTree). get_or es 1 c.index-items-1.result) c.as_slice-items.ensures.value) c.requires.below c.in-Ok.ensures c.in-Ok-boxed_fill.ensures
-
 pub fill_alias-fill-requires : goal.fill_alias-fill-requires
 fill_alias-fill-requires t c =
     (omega arith, (alias_below c.args.value.now (view_scope c.args.scope.now) (view_scope c.with_name-inner.result) c.args.name.0 c.args.place.first c.args.held c.requires.named c.requires.below c.with_name-inner.ensures, c.requires.room))
@@ -29,18 +23,24 @@ fill_after-returns-in-Ok-fill_above t c =
     after_fills c.in-Ok.value.value c.in-Ok-fill_above.body.value c.args.place.shape c.args.place.first c.args.next (view_scope c.args.scope.now) (view_scope c.with_name-inner.result) (env_of c.args.frame.now) c.args.value.now c.args.body.now c.args.name.0 _
     refl (omega (arith, c.requires.room)) (below_more (view_scope c.args.scope.now) c.args.place.first c.args.next (omega (arith, c.requires.room)) c.requires.below) c.with_name-inner.ensures c.in-Ok.ensures c.in-Ok-fill_above.ensures
 
-pub fill_select-returns-in-Ok-in_box : goal.fill_select-returns-in-Ok-in_box
-fill_select-returns-in-Ok-in_box t c =
+pub fill_work-returns-in-Ok-in_box : goal.fill_work-returns-in-Ok-in_box
+fill_work-returns-in-Ok-in_box t c =
+    work_fills c.in-Ok.x.value c.in-Ok-boxed_fill.y.value c.in-Ok-worked.work.value c.in-Ok-in_box.rest.value c.args.op c.args.first c.args.next (view_scope c.args.scope.now) (env_of c.args.frame.now) c.args.x.now c.args.y.now
+    (λ f. ap (λ (z : Filling). filled z f) c.in-Ok-in_box.ensures) c.requires.room (omega (arith, c.ranges.first)) c.requires.below c.in-Ok.ensures c.in-Ok-boxed_fill.ensures c.in-Ok-worked.ensures
+
+pub pairs::fill_fields-returns-in-Ok-boxed_fill : goal.pairs::fill_fields-returns-in-Ok-boxed_fill
+pairs::fill_fields-returns-in-Ok-boxed_fill t c =
+    fields_fill c.in-Ok.x.value c.in-Ok-boxed_fill.y.value (view_scope c.args.scope.now) (env_of c.args.frame.now) c.args.parts.now c.index-items-0.result c.index-items-1.result c.args.first
+    (ap length (sym c.as_slice-items.ensures.value) ∙ c.if-items-ne2.false) (c.index-items-0.is ∙ ap (λ (es : List ExprTree). get_or es 0 c.index-items-0.result) c.as_slice-items.ensures.value)
+    (c.index-items-1.is ∙ ap (λ (es : List ExprTree). get_or es 1 c.index-items-1.result) c.as_slice-items.ensures.value) c.requires.below c.in-Ok.ensures c.in-Ok-boxed_fill.ensures
+
+pub pairs::fill_select-returns-in-Ok-in_box : goal.pairs::fill_select-returns-in-Ok-in_box
+pairs::fill_select-returns-in-Ok-in_box t c =
     select_fills c.in-Ok.test.value c.in-Ok-in_box.rest.value c.args.first c.args.next (view_scope c.args.scope.now) (env_of c.args.frame.now) c.args.test.now c.args.x.now c.args.y.now (omega (arith, c.requires.room))
     (below_more (view_scope c.args.scope.now) c.args.first c.args.next (omega (arith, c.requires.room)) c.requires.below) c.in-Ok.ensures
     (subst (λ (z : Filling). Selects z c.args.next c.args.first (view_scope c.args.scope.now) (env_of c.args.frame.now) (eval c.args.x.now) (eval c.args.y.now)) (sym c.in-Ok-in_box.ensures) c.in-Ok-fill_both.ensures)
 
-pub fill_both-returns-in-Ok-in_box : goal.fill_both-returns-in-Ok-in_box
-fill_both-returns-in-Ok-in_box t c =
+pub pairs::fill_both-returns-in-Ok-in_box : goal.pairs::fill_both-returns-in-Ok-in_box
+pairs::fill_both-returns-in-Ok-in_box t c =
     both_fill c.in-Ok.x.value c.in-Ok-boxed_pair.y.value c.in-Ok-picked.pick.value c.in-Ok-in_box.rest.value c.args.held c.args.first (view_scope c.args.scope.now) (env_of c.args.frame.now) c.args.x.now c.args.y.now
     (λ f. ap (λ (z : Filling). filled z f) c.in-Ok-in_box.ensures) c.requires.room (below_more (view_scope c.args.scope.now) c.args.first c.args.held (omega (arith, c.requires.room)) c.requires.below) c.in-Ok.ensures c.in-Ok-boxed_pair.ensures c.in-Ok-picked.ensures
-
-pub fill_work-returns-in-Ok-in_box : goal.fill_work-returns-in-Ok-in_box
-fill_work-returns-in-Ok-in_box t c =
-    work_fills c.in-Ok.x.value c.in-Ok-boxed_fill.y.value c.in-Ok-worked.work.value c.in-Ok-in_box.rest.value c.args.op c.args.first c.args.next (view_scope c.args.scope.now) (env_of c.args.frame.now) c.args.x.now c.args.y.now
-    (λ f. ap (λ (z : Filling). filled z f) c.in-Ok-in_box.ensures) c.requires.room c.requires.below c.in-Ok.ensures c.in-Ok-boxed_fill.ensures c.in-Ok-worked.ensures

@@ -9,12 +9,6 @@ decreases-fill l = 8 * expr_nodes l.e.now + 1
 abbrev pub decreases-boxed_fill : goal.decreases-boxed_fill
 decreases-boxed_fill l = 8 * expr_nodes l.e.now + 2
 
-abbrev pub decreases-fill_pair : goal.decreases-fill_pair
-decreases-fill_pair l = 8 * expr_nodes l.e.now
-
-abbrev pub decreases-fill_fields : goal.decreases-fill_fields
-decreases-fill_fields l = 8 * exprs_nodes (pack_exprs l.parts.now) + 3
-
 abbrev pub decreases-fill_fork : goal.decreases-fill_fork
 decreases-fill_fork l = 8 * (expr_nodes l.x.now + expr_nodes l.y.now) + 3
 
@@ -30,17 +24,23 @@ decreases-fill_after l = 8 * (expr_nodes l.value.now + expr_nodes l.body.now) + 
 abbrev pub decreases-fill_above : goal.decreases-fill_above
 decreases-fill_above l = 8 * expr_nodes l.e.now + 3
 
-abbrev pub decreases-fill_select : goal.decreases-fill_select
-decreases-fill_select l = 8 * (expr_nodes l.test.now + expr_nodes l.x.now + expr_nodes l.y.now) + 5
-
-abbrev pub decreases-fill_both : goal.decreases-fill_both
-decreases-fill_both l = 8 * (expr_nodes l.x.now + expr_nodes l.y.now) + 4
-
-abbrev pub decreases-boxed_pair : goal.decreases-boxed_pair
-decreases-boxed_pair l = 8 * expr_nodes l.e.now + 3
-
 abbrev pub decreases-fill_one : goal.decreases-fill_one
 decreases-fill_one l = 8 * expr_nodes l.e.now
 
 abbrev pub decreases-fill_work : goal.decreases-fill_work
 decreases-fill_work l = 8 * (expr_nodes l.x.now + expr_nodes l.y.now) + 3
+
+abbrev pub decreases-pairs::fill_pair : goal.decreases-pairs::fill_pair
+decreases-pairs::fill_pair l = 8 * expr_nodes l.e.now
+
+abbrev pub decreases-pairs::fill_fields : goal.decreases-pairs::fill_fields
+decreases-pairs::fill_fields l = 8 * exprs_nodes (pack_exprs l.parts.now) + 3
+
+abbrev pub decreases-pairs::fill_select : goal.decreases-pairs::fill_select
+decreases-pairs::fill_select l = 8 * (expr_nodes l.test.now + expr_nodes l.x.now + expr_nodes l.y.now) + 5
+
+abbrev pub decreases-pairs::fill_both : goal.decreases-pairs::fill_both
+decreases-pairs::fill_both l = 8 * (expr_nodes l.x.now + expr_nodes l.y.now) + 4
+
+abbrev pub decreases-pairs::boxed_pair : goal.decreases-pairs::boxed_pair
+decreases-pairs::boxed_pair l = 8 * expr_nodes l.e.now + 3

@@ -1,20 +1,22 @@
-use Rattle.std.proofs.Common.{refl, arith}
+use Rattle.std.proofs.Common.{◌+◌, arith}
 use Rattle.weld_turns.specs.Scopes.{view_scope}
-use Rattle.weld_turns.proofs.OnRows.{behind_below, one_placed}
+use Rattle.weld_turns.proofs.Scoping.{site_below}
 use Rattle.weld_turns.proofs.on_rows.+make_behind.Goals as goal
-
-pub make_turn-requires : goal.make_turn-requires
-make_turn-requires t c =
-    behind_below c.args.names.now c.args.name.0 c.args.left _ (view_scope c.args.scope.now) (view_scope c.with_name-inner.result) refl c.if-left-eq0.true c.requires.placed c.with_name-inner.ensures
 
 pub make_behind-requires : goal.make_behind-requires
 make_behind-requires t c = (
-  omega (arith, c.decreases, c.if-left-eq0.false),
+  omega (arith, c.decreases, c.if-i-names.false),
   (
-    c.requires.few,
-    (
-      omega (arith, c.requires.left),
-      one_placed c.args.names.now c.args.left c.name_at.result _ (view_scope c.args.scope.now) (view_scope c.with_name-inner-2.result) c.if-left-eq0.false c.name_at.ensures refl refl c.requires.placed c.with_name-inner-2.ensures,
-    ),
+    site_below (view_scope c.args.scope.now) (view_scope c.with_name-inner-in-Number.result) _ c.args.at (c.args.at + 1) _ (omega arith) (omega arith) c.requires.below c.with_name-inner-in-Number.ensures,
+    omega (arith, c.requires.state),
+  ),
+)
+
+pub make_behind-requires-in-Fields : goal.make_behind-requires-in-Fields
+make_behind-requires-in-Fields t c = (
+  omega (arith, c.decreases, c.if-i-names.false),
+  (
+    site_below (view_scope c.args.scope.now) (view_scope c.with_spread-inner.result) _ c.args.at (c.args.at + c.in-Fields.fields) _ (omega arith) (omega arith) c.requires.below c.with_spread-inner.ensures,
+    omega (arith, c.requires.state),
   ),
 )

@@ -2,7 +2,7 @@ use Rattle.weld_eval.specs.FrameView.{env_of}
 use Rattle.weld_turns.specs.Scopes.{view_scope}
 use Rattle.weld_turns.specs.declared.code.Shape.TheVariants.{Pair}
 use Rattle.weld_turns.proofs.Fillings.{named_apart, named_ok}
-use Rattle.weld_turns.proofs.fill.fill_named.Goals as goal
+use Rattle.weld_turns.proofs.fill.pairs.fill_named.Goals as goal
 
 pub copied-requires : goal.copied-requires
 copied-requires c = named_apart c.args.e.now (view_scope c.args.scope.now) c.in-Some.from c.args.first c.in-Some.ensures c.requires

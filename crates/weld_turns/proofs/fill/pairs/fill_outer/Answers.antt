@@ -2,7 +2,7 @@ use Rattle.weld_eval.specs.FrameView.{env_of}
 use Rattle.weld_eval.specs.ShortView.{view_short}
 use Rattle.weld_turns.specs.Scopes.{view_scope}
 use Rattle.weld_turns.proofs.Fillings.{outer_ok}
-use Rattle.weld_turns.proofs.fill.fill_outer.Goals as goal
+use Rattle.weld_turns.proofs.fill.pairs.fill_outer.Goals as goal
 
 pub returns-in-Some-outer_pair : goal.returns-in-Some-outer_pair
 returns-in-Some-outer_pair c =
