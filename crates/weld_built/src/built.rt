@@ -163,6 +163,7 @@ impl Built {
 
     /// Merges an item of the builder. It faults exactly where the item is a number at an index
     /// outside of the cells.
+    #[inline(always)]
     pub fn merge(&mut self, item: Val) -> Result<(), Stop>
         requires { IsItemOf self.old (view_val item) }
         ensures { MergeAnswer result (merge_part self.old (view_val item)) self.new }
@@ -405,8 +406,27 @@ fn numbers_into(state: &mut State, kind: Kind, items: &[i64]) -> Result<(), Stop
     }
 }
 
-/// Merges an item.
+/// Merges an item. A list's next one needs no call.
+#[inline(always)]
 fn merge_into(state: &mut State, item: Val) -> Result<(), Stop>
+    requires state { IsState state.old }
+    requires item { IsItemOf (part_of_state state.old) (view_val item) }
+    ensures answer { MergeAnswer result (merge_part (part_of_state state.old) (view_val item))
+        (part_of_state state.new) }
+    ensures state { IsState state.new }
+{
+    if let State::List(alloc, items) = state {
+        match list::push_item(*alloc, items, item) {
+            Ok(()) => return Ok(()),
+            Err(_) => return Err(Stop::Memory),
+        }
+    }
+    merge_other(state, item)
+}
+
+/// Merges an item of any builder.
+#[inline(never)]
+fn merge_other(state: &mut State, item: Val) -> Result<(), Stop>
     requires state { IsState state.old }
     requires item { IsItemOf (part_of_state state.old) (view_val item) }
     ensures answer { MergeAnswer result (merge_part (part_of_state state.old) (view_val item))

@@ -78,8 +78,23 @@ fn push_each(
     Ok(())
 }
 
-/// Appends an item.
+/// Appends an item. Behind items that are kept as values it is only put there.
+#[inline(always)]
 pub(crate) fn push_item(alloc: Global, list: &mut ListPart, item: Val) -> Result<(), AllocError>
+    ensures { OnOk result (items_of_list list.new ≡ items_of_list list.old ++ view_val item ∷ []) }
+{
+    if let ListPart::Nest(items) = list {
+        if !items.is_empty() {
+            items.push(item)?;
+            return Ok(());
+        }
+    }
+    push_ready(alloc, list, item)
+}
+
+/// Appends an item to items of any keeping, which is chosen anew where it must be.
+#[inline(never)]
+fn push_ready(alloc: Global, list: &mut ListPart, item: Val) -> Result<(), AllocError>
     ensures { OnOk result (items_of_list list.new ≡ items_of_list list.old ++ view_val item ∷ []) }
 {
     match make_ready(alloc, list, &item) {
