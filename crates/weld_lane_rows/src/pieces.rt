@@ -8,6 +8,7 @@ ghost use Rattle.weld_eval.specs.FrameView.{env_of};
 ghost use Rattle.weld_eval.specs.LegsView.{lists_of};
 ghost use Rattle.weld_eval.specs.ThingView.{thing_of};
 ghost use Rattle.weld_lanes.specs.Answers.{room_of};
+ghost use Rattle.weld_lanes.specs.Blocks.{AreConstants};
 ghost use Rattle.weld_lane_rows.specs.Rows.{answer_at, AreFrom, MergesRows};
 
 use crate::words::{Word, merge_numbers};
@@ -16,7 +17,7 @@ use weld_data::Stop;
 use weld_eval::frame::Frame;
 use weld_eval::legs::Legs;
 use weld_eval::thing::Owned;
-use weld_lanes::{BLOCK, LaneProgram, answer_block, room_for};
+use weld_lanes::{BLOCK, LaneProgram, answer_block, constants_for, room_for};
 use weld_tree::Expr;
 
 /// A loop's steps, the numbers that are the same on all its rows, and the columns of the rows.
@@ -51,14 +52,15 @@ pub(crate) fn run_pieces<L: Word>(
     ensures { OnOk result (range_over node.now (env_of frame.now) (lists_of legs.now) from to
         (thing_of builder.old) ≡ done (thing_of builder.new)) }
 {
+    let constants = constants_for::<L>(lanes.program, lanes.uniforms, alloc)?;
     let mut room = room_for::<L>(lanes.program, alloc)?;
     let mut words = vec![in alloc; 0i64; BLOCK]?;
     run_in_room(
-        node, frame, legs, lanes, &mut room, &mut words, from, to, builder,
+        node, frame, legs, lanes, &constants, &mut room, &mut words, from, to, builder,
     )
 }
 
-/// The same with room for the answers of the steps on a piece, and for those of the last one in words. A piece is a block of the
+/// The same with the constants of the steps, room for their answers on a piece, and for those of the last one in words. A piece is a block of the
 /// steps, so that what they answer is merged from where they have put it.
 #[tactic(auto, using(weld_acts::proofs::RangeSteps::range_start, weld_acts::proofs::RangeSteps::range_ends, crate::proofs::PieceLemmas::part_merges))]
 fn run_in_room<L: Word>(
@@ -66,6 +68,7 @@ fn run_in_room<L: Word>(
     frame: &Frame,
     legs: &Legs,
     lanes: &Lanes<L>,
+    constants: &[L],
     room: &mut [L],
     words: &mut [i64],
     from: usize,
@@ -80,6 +83,10 @@ fn run_in_room<L: Word>(
     requires merges { MergesRows node.now (env_of frame.now) (lists_of legs.now) L.kind
         (answer_at L.number L.kind lanes.now.program.now lanes.now.uniforms.now lanes.now.first.now
         lanes.now.second.now) to }
+    requires constants { AreConstants lanes.now.program.now.steps.items
+        (map L.number lanes.now.uniforms.now) (map L.number constants.now)
+        (length lanes.now.program.now.steps.items) }
+    requires wide { room_of (length lanes.now.program.now.steps.items) ≤ length constants.now }
     requires room { room_of (length lanes.now.program.now.steps.items) ≤ length room.old }
     requires words { 512 ≤ length words.old }
     ensures { OnOk result (range_over node.now (env_of frame.now) (lists_of legs.now) from to
@@ -88,7 +95,7 @@ fn run_in_room<L: Word>(
     let mut reached = from;
     'pieces: while reached < to {
         let end = piece_end(reached, to);
-        let numbers = piece_numbers(&*lanes, room, reached, end);
+        let numbers = piece_numbers(&*lanes, constants, room, reached, end);
         let own = &mut words[..end - reached];
         merge_piece(
             node, frame, legs, lanes, numbers, own, reached, end, builder,
@@ -111,6 +118,7 @@ fn piece_end(from: usize, to: usize) -> usize
 /// What the steps answer on the rows of a piece, in the width of their kind.
 fn piece_numbers<'a, L: Word>(
     lanes: &'a Lanes<'a, L>,
+    constants: &'a [L],
     room: &'a mut [L],
     from: usize,
     to: usize,
@@ -120,6 +128,10 @@ fn piece_numbers<'a, L: Word>(
     requires kind { lanes.now.program.now.kind ≡ L.kind }
     requires first { to ≤ length lanes.now.first.now }
     requires second { to ≤ length lanes.now.second.now }
+    requires constants { AreConstants lanes.now.program.now.steps.items
+        (map L.number lanes.now.uniforms.now) (map L.number constants.now)
+        (length lanes.now.program.now.steps.items) }
+    requires wide { room_of (length lanes.now.program.now.steps.items) ≤ length constants.now }
     requires room { room_of (length lanes.now.program.now.steps.items) ≤ length room.old }
     ensures long { length result.now ≡ to - from }
     ensures are { AreFrom (answer_at L.number L.kind lanes.now.program.now lanes.now.uniforms.now
@@ -127,7 +139,14 @@ fn piece_numbers<'a, L: Word>(
 {
     let first = &lanes.first[from..to];
     let second = &lanes.second[from..to];
-    answer_block(lanes.program, room, first, second, lanes.uniforms)
+    answer_block(
+        lanes.program,
+        room,
+        first,
+        second,
+        lanes.uniforms,
+        constants,
+    )
 }
 
 /// Merges the numbers of a piece.

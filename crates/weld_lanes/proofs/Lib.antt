@@ -1,3 +1,4 @@
+pub mod ConstantLemmas
 pub mod Meaning
 pub mod Parts
 mod Places

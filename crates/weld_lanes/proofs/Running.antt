@@ -95,7 +95,7 @@ formed_at k ss i h less = let e : 0 + i ≡ i = omega arith in subst (λ (m : �
 -- ---- what is made of answers
 
 pub two_answers : (g : ℤ → ℤ → ℤ) (k : Kind) (ss : List LaneStep) (us cs ds room xs ys zs : List ℤ) (n count i j : ℕ) → AreAnswered k ss us cs ds room n count → i < n → j < n
-    → ArePart (block_at ss cs ds room i) xs count → ArePart (block_at ss cs ds room j) ys count → AreTwo g xs ys zs count
+    → ArePart (block_at ss us cs ds room i) xs count → ArePart (block_at ss us cs ds room j) ys count → AreTwo g xs ys zs count
     → ArePart (λ r. g (at (answers_at k ss us cs ds r) i) (at (answers_at k ss us cs ds r) j)) zs count
 two_answers g k ss us cs ds room xs ys zs n count i j h p q x y z = record {
   each = λ r less.
@@ -105,13 +105,13 @@ two_answers g k ss us cs ds room xs ys zs n count i j h p q x y z = record {
 }
 
 pub not_answers : (k : Kind) (ss : List LaneStep) (us cs ds room xs zs : List ℤ) (n count i : ℕ) → AreAnswered k ss us cs ds room n count → i < n
-    → ArePart (block_at ss cs ds room i) xs count → AreOne (λ x. truth (not (is_true x))) xs zs count → IsAnswered k ss us cs ds (steps.Not i) zs count
+    → ArePart (block_at ss us cs ds room i) xs count → AreOne (λ x. truth (not (is_true x))) xs zs count → IsAnswered k ss us cs ds (steps.Not i) zs count
 not_answers k ss us cs ds room xs zs n count i h p x z = record {
   each = λ r less. z.each r less ∙ ap (λ (u : ℤ). truth (not (is_true u))) (x.each r less ∙ h.each i p r less);
 }
 
 pub chosen_answers : (k : Kind) (ss : List LaneStep) (us cs ds room ts xs ys zs : List ℤ) (n count t i j : ℕ) → AreAnswered k ss us cs ds room n count → t < n → i < n → j < n
-    → ArePart (block_at ss cs ds room t) ts count → ArePart (block_at ss cs ds room i) xs count → ArePart (block_at ss cs ds room j) ys count → AreThree ts xs ys zs count → IsAnswered k ss us cs ds (steps.Select t i j) zs count
+    → ArePart (block_at ss us cs ds room t) ts count → ArePart (block_at ss us cs ds room i) xs count → ArePart (block_at ss us cs ds room j) ys count → AreThree ts xs ys zs count → IsAnswered k ss us cs ds (steps.Select t i j) zs count
 chosen_answers k ss us cs ds room ts xs ys zs n count t i j h o p q c x y z = record {
   each = λ r less.
       z.each r less
@@ -138,19 +138,19 @@ pub one_more : {T : Type 0} (f : T → ℤ) (k : Kind) (ss : List LaneStep) (us 
     → AreAnswered k ss us cs ds (map f after) (n + 1) count
 one_more {T} f k ss us cs ds flat before rest new after n count formed there small long wide was is h z = record { each = each }
   where
-    each : (i : ℕ) → i < n + 1 → (j : ℕ) → j < count → block_at ss cs ds (map f after) i j ≡ at (answers_at k ss us cs ds j) i
+    each : (i : ℕ) → i < n + 1 → (j : ℕ) → j < count → block_at ss us cs ds (map f after) i j ≡ at (answers_at k ss us cs ds j) i
     each i less j lower = by (cases_lt i n)
       where
-        by : (i < n) ⊎ (n ≤ i) → block_at ss cs ds (map f after) i j ≡ at (answers_at k ss us cs ds j) i
+        by : (i < n) ⊎ (n ≤ i) → block_at ss us cs ds (map f after) i j ≡ at (answers_at k ss us cs ds j) i
         by (inl low) =
             let within : i * 512 + j < length before = omega arith in
-            ap (kept_at (step_at ss i) (at cs j) (at ds j))
+            ap (kept_at us (step_at ss i) (at cs j) (at ds j))
             (ap (λ (zs : List T). at (map f zs) (i * 512 + j)) is ∙ front f before new (i * 512 + j) within ∙ sym (front f before rest (i * 512 + j) within) ∙ ap (λ (zs : List T). at (map f zs) (i * 512 + j)) (sym was))
             ∙ h.each i low j lower
         by (inr high) =
             let same : i ≡ n = omega arith in
-            ap (λ (m : ℕ). block_at ss cs ds (map f after) m j) same
-            ∙ ap (kept_at (step_at ss n) (at cs j) (at ds j)) (ap (λ (zs : List T). at (map f zs) (n * 512 + j)) is ∙ back f before new (n * 512) j long)
+            ap (λ (m : ℕ). block_at ss us cs ds (map f after) m j) same
+            ∙ ap (kept_at us (step_at ss n) (at cs j) (at ds j)) (ap (λ (zs : List T). at (map f zs) (n * 512 + j)) is ∙ back f before new (n * 512) j long)
             ∙ z.each j lower
             ∙ sym (answers_is k ss us (at cs j) (at ds j) n formed there)
             ∙ ap (at (answers_at k ss us cs ds j)) (sym same)
@@ -158,5 +158,5 @@ one_more {T} f k ss us cs ds flat before rest new after n count formed there sma
 -- what is written before others is still answered
 pub answered_front : {T : Type 0} (f : T → ℤ) (k : Kind) (ss : List LaneStep) (us cs ds : List ℤ) (s : LaneStep) (xs ys : List T) (n : ℕ) → length xs ≡ n → IsAnswered k ss us cs ds s (map f xs) n → IsAnswered k ss us cs ds s (map f (xs ++ ys)) n
 answered_front f k ss us cs ds s xs ys n long h = record {
-  each = λ j less. ap (kept_at s (at cs j) (at ds j)) (front f xs ys j (omega (arith, long))) ∙ h.each j less;
+  each = λ j less. ap (kept_at us s (at cs j) (at ds j)) (front f xs ys j (omega (arith, long))) ∙ h.each j less;
 }

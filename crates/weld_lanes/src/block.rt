@@ -2,7 +2,7 @@
 
 ghost use Rattle.std.specs.Prelude.{◌≡◌, ◌+◌, ◌<◌, ◌≤◌, IsTrue, length, map};
 ghost use Rattle.weld_lanes.specs.Answers.{at, room_of};
-ghost use Rattle.weld_lanes.specs.Blocks.{ArePart, AreAnswered, IsAnswered, answers_at, block_at};
+ghost use Rattle.weld_lanes.specs.Blocks.{ArePart, AreAnswered, AreConstants, IsAnswered, answers_at, block_at, is_constant, step_at};
 ghost use Rattle.weld_lanes.specs.Formed.{is_formed, is_arithmetic, is_comparison};
 ghost use Rattle.weld_lanes.specs.declared.steps.LaneStep.TheVariants as step_names;
 
@@ -11,7 +11,7 @@ use crate::room::BLOCK;
 use crate::steps::LaneStep;
 use crate::works::{
     AtMost, Both, Difference, Either, Equal, Less, Product, Sum, Unequal, Work, each_choice,
-    each_not, each_same, each_two,
+    each_not, each_two,
 };
 use weld_data::BinOp;
 
@@ -26,13 +26,14 @@ pub(crate) fn part<'a, L: Lane>(column: &'a [L], from: usize, count: usize) -> &
     &column[from..from + count]
 }
 
-/// The rows of a block: the steps and how many of them are answered, the numbers that are the same for all rows, those of the
-/// two columns, and the answers.
+/// The rows of a block: the steps and how many of them are answered, the numbers that are the same for all rows, the constants
+/// of steps, the numbers of the two columns, and the answers.
 #[derive(Drop)]
 pub(crate) struct Rows<'a, L> {
     pub steps: &'a [LaneStep],
     pub answered: usize,
     pub uniforms: &'a [L],
+    pub constants: &'a [L],
     pub first: &'a [L],
     pub second: &'a [L],
     pub room: &'a [L],
@@ -40,21 +41,42 @@ pub(crate) struct Rows<'a, L> {
     ghost small: { length first.now ≤ 512 },
     ghost there: { answered ≤ length steps.now },
     ghost long: { room_of answered ≤ length room.now },
+    ghost wide: { room_of (length steps.now) ≤ length constants.now },
 }
 
-/// The answers of a step that is answered: of a column's step the column itself.
+/// The answers of a step that is answered: of a column's step the column itself, of a constant those that were made once.
 pub(crate) fn operand<'a, L: Lane>(rows: &Rows<'a, L>, step: usize) -> &'a [L]
-    requires { step < rows.now.answered }
+    requires there { step < rows.now.answered }
+    requires constants { AreConstants rows.now.steps.now (map L.number rows.now.uniforms.now)
+        (map L.number rows.now.constants.now) (length rows.now.steps.now) }
     ensures long { length result.now ≡ length rows.now.first.now }
-    ensures each { ArePart (block_at rows.now.steps.now (map L.number rows.now.first.now)
-        (map L.number rows.now.second.now) (map L.number rows.now.room.now) step)
-        (map L.number result.now) (length rows.now.first.now) }
+    ensures each { ArePart (block_at rows.now.steps.now (map L.number rows.now.uniforms.now)
+        (map L.number rows.now.first.now) (map L.number rows.now.second.now)
+        (map L.number rows.now.room.now) step) (map L.number result.now)
+        (length rows.now.first.now) }
 {
     match rows.steps[step] {
         LaneStep::A => rows.first,
         LaneStep::B => rows.second,
+        LaneStep::Lit(_) | LaneStep::Uniform(_) | LaneStep::Truth(_) => { constants(rows, step) }
         _ => part(rows.room, step * BLOCK, rows.first.len()),
     }
+}
+
+/// The answers of a step that answers the same on every row.
+#[tactic(auto, using(crate::proofs::ConstantLemmas::constants_are))]
+fn constants<'a, L: Lane>(rows: &Rows<'a, L>, step: usize) -> &'a [L]
+    requires there { step < rows.now.answered }
+    requires constant { IsTrue (is_constant (step_at rows.now.steps.now step)) }
+    requires constants { AreConstants rows.now.steps.now (map L.number rows.now.uniforms.now)
+        (map L.number rows.now.constants.now) (length rows.now.steps.now) }
+    ensures long { length result.now ≡ length rows.now.first.now }
+    ensures each { ArePart (block_at rows.now.steps.now (map L.number rows.now.uniforms.now)
+        (map L.number rows.now.first.now) (map L.number rows.now.second.now)
+        (map L.number rows.now.room.now) step) (map L.number result.now)
+        (length rows.now.first.now) }
+{
+    part(rows.constants, step * BLOCK, rows.first.len())
 }
 
 /// What an operator makes of the answers of two steps.
@@ -62,6 +84,8 @@ pub(crate) fn operand<'a, L: Lane>(rows: &Rows<'a, L>, step: usize) -> &'a [L]
 fn binary<L: Lane, W: Work<L>>(rows: &Rows<L>, work: &W, i: u32, j: u32, out: &mut [L])
     requires first { i < rows.now.answered }
     requires second { j < rows.now.answered }
+    requires constants { AreConstants rows.now.steps.now (map L.number rows.now.uniforms.now)
+        (map L.number rows.now.constants.now) (length rows.now.steps.now) }
     requires answered { AreAnswered L.kind rows.now.steps.now (map L.number rows.now.uniforms.now)
         (map L.number rows.now.first.now) (map L.number rows.now.second.now)
         (map L.number rows.now.room.now) rows.now.answered (length rows.now.first.now) }
@@ -84,6 +108,8 @@ fn arithmetic<L: Lane>(rows: &Rows<L>, op: BinOp, i: u32, j: u32, out: &mut [L])
     requires op { IsTrue (is_arithmetic op) }
     requires first { i < rows.now.answered }
     requires second { j < rows.now.answered }
+    requires constants { AreConstants rows.now.steps.now (map L.number rows.now.uniforms.now)
+        (map L.number rows.now.constants.now) (length rows.now.steps.now) }
     requires answered { AreAnswered L.kind rows.now.steps.now (map L.number rows.now.uniforms.now)
         (map L.number rows.now.first.now) (map L.number rows.now.second.now)
         (map L.number rows.now.room.now) rows.now.answered (length rows.now.first.now) }
@@ -105,6 +131,8 @@ fn compared<L: Lane>(rows: &Rows<L>, op: BinOp, i: u32, j: u32, out: &mut [L])
     requires op { IsTrue (is_comparison op) }
     requires first { i < rows.now.answered }
     requires second { j < rows.now.answered }
+    requires constants { AreConstants rows.now.steps.now (map L.number rows.now.uniforms.now)
+        (map L.number rows.now.constants.now) (length rows.now.steps.now) }
     requires answered { AreAnswered L.kind rows.now.steps.now (map L.number rows.now.uniforms.now)
         (map L.number rows.now.first.now) (map L.number rows.now.second.now)
         (map L.number rows.now.room.now) rows.now.answered (length rows.now.first.now) }
@@ -128,6 +156,8 @@ fn compared<L: Lane>(rows: &Rows<L>, op: BinOp, i: u32, j: u32, out: &mut [L])
 #[tactic(auto, using(crate::proofs::Running::not_answers))]
 fn negated<L: Lane>(rows: &Rows<L>, i: u32, out: &mut [L])
     requires first { i < rows.now.answered }
+    requires constants { AreConstants rows.now.steps.now (map L.number rows.now.uniforms.now)
+        (map L.number rows.now.constants.now) (length rows.now.steps.now) }
     requires answered { AreAnswered L.kind rows.now.steps.now (map L.number rows.now.uniforms.now)
         (map L.number rows.now.first.now) (map L.number rows.now.second.now)
         (map L.number rows.now.room.now) rows.now.answered (length rows.now.first.now) }
@@ -145,6 +175,8 @@ fn selected<L: Lane>(rows: &Rows<L>, truths: u32, i: u32, j: u32, out: &mut [L])
     requires truths { truths < rows.now.answered }
     requires first { i < rows.now.answered }
     requires second { j < rows.now.answered }
+    requires constants { AreConstants rows.now.steps.now (map L.number rows.now.uniforms.now)
+        (map L.number rows.now.constants.now) (length rows.now.steps.now) }
     requires answered { AreAnswered L.kind rows.now.steps.now (map L.number rows.now.uniforms.now)
         (map L.number rows.now.first.now) (map L.number rows.now.second.now)
         (map L.number rows.now.room.now) rows.now.answered (length rows.now.first.now) }
@@ -161,22 +193,12 @@ fn selected<L: Lane>(rows: &Rows<L>, truths: u32, i: u32, j: u32, out: &mut [L])
     );
 }
 
-/// The number at a place of those that are the same for all rows.
-fn uniform<L: Lane>(uniforms: &[L], place: u32) -> L
-    ensures { L.number result ≡ at (map L.number uniforms.now) place }
-{
-    let place = place as usize;
-    if place < uniforms.len() {
-        uniforms[place]
-    } else {
-        L::of_truth(false)
-    }
-}
-
-/// The answers of the next step; of a column's step nothing is written.
+/// The answers of the next step; of a column's step and of a constant nothing is written.
 #[inline(never)]
 pub(crate) fn answer_step<L: Lane>(rows: &Rows<L>, step: LaneStep, out: &mut [L])
     requires formed { IsTrue (is_formed L.kind rows.now.answered step) }
+    requires constants { AreConstants rows.now.steps.now (map L.number rows.now.uniforms.now)
+        (map L.number rows.now.constants.now) (length rows.now.steps.now) }
     requires answered { AreAnswered L.kind rows.now.steps.now (map L.number rows.now.uniforms.now)
         (map L.number rows.now.first.now) (map L.number rows.now.second.now)
         (map L.number rows.now.room.now) rows.now.answered (length rows.now.first.now) }
@@ -187,11 +209,9 @@ pub(crate) fn answer_step<L: Lane>(rows: &Rows<L>, step: LaneStep, out: &mut [L]
 {
     match step {
         LaneStep::A | LaneStep::B => {}
-        LaneStep::Lit(x) => each_same(out, L::from_wide(x)),
-        LaneStep::Uniform(place) => each_same(out, uniform(rows.uniforms, place)),
+        LaneStep::Lit(_) | LaneStep::Uniform(_) | LaneStep::Truth(_) => {}
         LaneStep::Arith(op, i, j) => arithmetic(rows, op, i, j, out),
         LaneStep::Compare(op, i, j) => compared(rows, op, i, j, out),
-        LaneStep::Truth(test) => each_same(out, L::of_truth(test)),
         LaneStep::Not(i) => negated(rows, i, out),
         LaneStep::And(i, j) => binary(rows, &Both, i, j, out),
         LaneStep::Or(i, j) => binary(rows, &Either, i, j, out),

@@ -4,10 +4,11 @@ ghost use Rattle.std.specs.Prelude.{◌≡◌, ◌+◌, ◌<◌, ◌≤◌, IsTr
 ghost use Rattle.std.specs.List.{fold};
 ghost use Rattle.weld_data.specs.Operation.{combination};
 ghost use Rattle.weld_lanes.specs.Answers.{at, lane_meaning, row_answer, room_of};
-ghost use Rattle.weld_lanes.specs.Blocks.{ArePart, AreAnswered, IsAnswered};
+ghost use Rattle.weld_lanes.specs.Blocks.{ArePart, AreAnswered, AreConstants, IsAnswered};
 ghost use Rattle.weld_lanes.specs.Formed.{is_formed};
 
 use crate::block::{Rows, answer_step, operand, part};
+use crate::constants::put_constants;
 use crate::kinds::Lane;
 use crate::room::{BLOCK, Scratch};
 use crate::steps::{LaneProgram, LaneStep};
@@ -18,12 +19,16 @@ use weld_data::MergeOp;
 fn answer_next<L: Lane>(
     program: &LaneProgram,
     uniforms: &[L],
+    constants: &[L],
     first: &[L],
     second: &[L],
     place: usize,
     room: &mut [L],
 )
     requires kind { program.now.kind ≡ L.kind }
+    requires constants { AreConstants program.now.steps.items (map L.number uniforms.now)
+        (map L.number constants.now) (length program.now.steps.items) }
+    requires wide { room_of (length program.now.steps.items) ≤ length constants.now }
     requires same { length second.now ≡ length first.now }
     requires small { length first.now ≤ 512 }
     requires there { place < length program.now.steps.items }
@@ -41,6 +46,7 @@ fn answer_next<L: Lane>(
         steps,
         answered: place,
         uniforms,
+        constants,
         first,
         second,
         room: &*before,
@@ -51,6 +57,8 @@ fn answer_next<L: Lane>(
 /// The answers of the next step into the first places of the room that is left.
 fn answer_into<L: Lane>(rows: &Rows<L>, step: LaneStep, rest: &mut [L])
     requires formed { IsTrue (is_formed L.kind rows.now.answered step) }
+    requires constants { AreConstants rows.now.steps.now (map L.number rows.now.uniforms.now)
+        (map L.number rows.now.constants.now) (length rows.now.steps.now) }
     requires answered { AreAnswered L.kind rows.now.steps.now (map L.number rows.now.uniforms.now)
         (map L.number rows.now.first.now) (map L.number rows.now.second.now)
         (map L.number rows.now.room.now) rows.now.answered (length rows.now.first.now) }
@@ -66,11 +74,15 @@ fn answer_into<L: Lane>(rows: &Rows<L>, step: LaneStep, rest: &mut [L])
 fn answer_all<L: Lane>(
     program: &LaneProgram,
     uniforms: &[L],
+    constants: &[L],
     first: &[L],
     second: &[L],
     room: &mut [L],
 )
     requires kind { program.now.kind ≡ L.kind }
+    requires constants { AreConstants program.now.steps.items (map L.number uniforms.now)
+        (map L.number constants.now) (length program.now.steps.items) }
+    requires wide { room_of (length program.now.steps.items) ≤ length constants.now }
     requires same { length second.now ≡ length first.now }
     requires small { length first.now ≤ 512 }
     requires long { room_of (length program.now.steps.items) ≤ length room.old }
@@ -79,7 +91,7 @@ fn answer_all<L: Lane>(
         (length program.now.steps.items) (length first.now) }
 {
     for place in 0..program.steps.len() {
-        answer_next(program, uniforms, first, second, place, room);
+        answer_next(program, uniforms, constants, first, second, place, room);
     }
 }
 
@@ -87,11 +99,15 @@ fn answer_all<L: Lane>(
 fn block_answers<'a, L: Lane>(
     program: &'a LaneProgram,
     uniforms: &'a [L],
+    constants: &'a [L],
     first: &'a [L],
     second: &'a [L],
     room: &'a mut [L],
 ) -> &'a [L]
     requires kind { program.now.kind ≡ L.kind }
+    requires constants { AreConstants program.now.steps.items (map L.number uniforms.now)
+        (map L.number constants.now) (length program.now.steps.items) }
+    requires wide { room_of (length program.now.steps.items) ≤ length constants.now }
     requires same { length second.now ≡ length first.now }
     requires small { length first.now ≤ 512 }
     requires long { room_of (length program.now.steps.items) ≤ length room.old }
@@ -100,12 +116,13 @@ fn block_answers<'a, L: Lane>(
         (map L.number uniforms.now) (at (map L.number first.now) j)
         (at (map L.number second.now) j)) (map L.number result.now) (length first.now) }
 {
-    answer_all(program, uniforms, first, second, room);
+    answer_all(program, uniforms, constants, first, second, room);
     let steps = program.steps.as_slice();
     let rows = Rows {
         steps,
         answered: steps.len(),
         uniforms,
+        constants,
         first,
         second,
         room: &*room,
@@ -114,8 +131,8 @@ fn block_answers<'a, L: Lane>(
 }
 
 /// The answers of the program's steps on the rows of one block, of which there are 512 at most, lent from the room for them, or
-/// from a column that the last step is. Columns and uniform numbers are as for `map_lanes`. It takes no memory, and what the room
-/// holds doesn't matter.
+/// from a column or from constants that the last step is. Columns and uniform numbers are as for `map_lanes`, the constants those of
+/// `constants_for`. It takes no memory, and what the room holds doesn't matter.
 #[tactic(auto, using(crate::proofs::Meaning::block_meaning))]
 pub fn answer_block<'a, L: Lane>(
     program: &'a LaneProgram,
@@ -123,8 +140,12 @@ pub fn answer_block<'a, L: Lane>(
     first: &'a [L],
     second: &'a [L],
     uniforms: &'a [L],
+    constants: &'a [L],
 ) -> &'a [L]
     requires kind { program.now.kind ≡ L.kind }
+    requires constants { AreConstants program.now.steps.items (map L.number uniforms.now)
+        (map L.number constants.now) (length program.now.steps.items) }
+    requires wide { room_of (length program.now.steps.items) ≤ length constants.now }
     requires room { room_of (length program.now.steps.items) ≤ length room.old }
     requires second { length second.now ≡ length first.now }
     requires small { length first.now ≤ 512 }
@@ -132,7 +153,7 @@ pub fn answer_block<'a, L: Lane>(
     ensures answers { map L.number result.now ≡ lane_meaning L.kind program.now.steps.items
         (map L.number uniforms.now) (map L.number first.now) (map L.number second.now) }
 {
-    block_answers(program, uniforms, first, second, room)
+    block_answers(program, uniforms, constants, first, second, room)
 }
 
 /// The answers of the program's steps on all rows, one row after another, whose numbers of the first and of the second column
@@ -154,7 +175,16 @@ pub fn map_lanes<L: Lane>(
         (map L.number uniforms.now) (map L.number first.now) (map L.number second.now) }
     ensures room { scratch.new ≡ scratch.old }
 {
-    map_all(program, &mut scratch.items, first, second, uniforms, out);
+    put_constants(program, uniforms, &mut scratch.constants);
+    map_all(
+        program,
+        &mut scratch.items,
+        first,
+        second,
+        uniforms,
+        &scratch.constants,
+        out,
+    );
 }
 
 /// The same in room that is lent.
@@ -164,9 +194,13 @@ fn map_all<L: Lane>(
     first: &[L],
     second: &[L],
     uniforms: &[L],
+    constants: &[L],
     out: &mut [L],
 )
     requires kind { program.now.kind ≡ L.kind }
+    requires constants { AreConstants program.now.steps.items (map L.number uniforms.now)
+        (map L.number constants.now) (length program.now.steps.items) }
+    requires wide { room_of (length program.now.steps.items) ≤ length constants.now }
     requires room { room_of (length program.now.steps.items) ≤ length room.old }
     requires second { length second.now ≡ length first.now }
     requires out { length out.old ≡ length first.now }
@@ -181,6 +215,7 @@ fn map_all<L: Lane>(
         map_block(
             program,
             uniforms,
+            constants,
             cells,
             others,
             room,
@@ -194,12 +229,16 @@ fn map_all<L: Lane>(
 fn map_block<L: Lane>(
     program: &LaneProgram,
     uniforms: &[L],
+    constants: &[L],
     first: &[L],
     second: &[L],
     room: &mut [L],
     out: &mut [L],
 )
     requires kind { program.now.kind ≡ L.kind }
+    requires constants { AreConstants program.now.steps.items (map L.number uniforms.now)
+        (map L.number constants.now) (length program.now.steps.items) }
+    requires wide { room_of (length program.now.steps.items) ≤ length constants.now }
     requires same { length second.now ≡ length first.now }
     requires small { length first.now ≤ 512 }
     requires long { room_of (length program.now.steps.items) ≤ length room.old }
@@ -208,7 +247,7 @@ fn map_block<L: Lane>(
         (at (map L.number first.now) j) (at (map L.number second.now) j)) (map L.number out.new)
         (length first.now) }
 {
-    let answers = block_answers(program, uniforms, first, second, room);
+    let answers = block_answers(program, uniforms, constants, first, second, room);
     each_copy(out, answers);
 }
 
@@ -231,12 +270,14 @@ pub fn fold_lanes<L: Lane>(
         (map L.number first.now) (map L.number second.now)) }
     ensures room { scratch.new ≡ scratch.old }
 {
+    put_constants(program, uniforms, &mut scratch.constants);
     fold_rows(
         program,
         &mut scratch.items,
         first,
         second,
         uniforms,
+        &scratch.constants,
         op,
         start,
     )
@@ -249,10 +290,14 @@ fn fold_rows<L: Lane>(
     first: &[L],
     second: &[L],
     uniforms: &[L],
+    constants: &[L],
     op: MergeOp,
     start: L,
 ) -> L
     requires kind { program.now.kind ≡ L.kind }
+    requires constants { AreConstants program.now.steps.items (map L.number uniforms.now)
+        (map L.number constants.now) (length program.now.steps.items) }
+    requires wide { room_of (length program.now.steps.items) ≤ length constants.now }
     requires room { room_of (length program.now.steps.items) ≤ length room.old }
     requires second { length second.now ≡ length first.now }
     ensures { L.number result ≡ fold (λ x y. combination op L.kind x y) (L.number start)
@@ -265,7 +310,7 @@ fn fold_rows<L: Lane>(
         let count = (first.len() - from).min(BLOCK);
         let cells = part(first, from, count);
         let others = part(second, from, count);
-        total = fold_block(program, uniforms, cells, others, room, op, total);
+        total = fold_block(program, uniforms, constants, cells, others, room, op, total);
         from += count;
     }
     total
@@ -276,6 +321,7 @@ fn fold_rows<L: Lane>(
 fn fold_block<L: Lane>(
     program: &LaneProgram,
     uniforms: &[L],
+    constants: &[L],
     first: &[L],
     second: &[L],
     room: &mut [L],
@@ -283,6 +329,9 @@ fn fold_block<L: Lane>(
     start: L,
 ) -> L
     requires kind { program.now.kind ≡ L.kind }
+    requires constants { AreConstants program.now.steps.items (map L.number uniforms.now)
+        (map L.number constants.now) (length program.now.steps.items) }
+    requires wide { room_of (length program.now.steps.items) ≤ length constants.now }
     requires same { length second.now ≡ length first.now }
     requires small { length first.now ≤ 512 }
     requires long { room_of (length program.now.steps.items) ≤ length room.old }
@@ -290,7 +339,7 @@ fn fold_block<L: Lane>(
         (lane_meaning L.kind program.now.steps.items (map L.number uniforms.now)
         (map L.number first.now) (map L.number second.now)) }
 {
-    let answers = block_answers(program, uniforms, first, second, room);
+    let answers = block_answers(program, uniforms, constants, first, second, room);
     combined(op, start, answers)
 }
 

@@ -2,6 +2,7 @@
 #![tactic(auto)]
 
 mod block;
+mod constants;
 pub mod formed;
 pub mod kernels;
 pub mod kinds;
@@ -9,6 +10,7 @@ pub mod room;
 pub mod steps;
 mod works;
 
+pub use constants::constants_for;
 pub use formed::{are_steps, is_arithmetic, is_comparison};
 pub use kernels::{answer_block, fold_lanes, map_lanes};
 pub use kinds::Lane;

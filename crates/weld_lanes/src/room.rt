@@ -1,6 +1,6 @@
 //! Room for the answers of steps on a block of rows.
 
-ghost use Rattle.std.specs.Prelude.{◌≤◌, length, IfOk};
+ghost use Rattle.std.specs.Prelude.{◌≡◌, ◌≤◌, length, IfOk};
 ghost use Rattle.weld_lanes.specs.Answers.{room_of};
 
 use crate::kinds::Lane;
@@ -13,7 +13,7 @@ pub const BLOCK: usize = 512;
 
 /// Room for the answers of a program's steps on a block of rows.
 pub fn room_for<L: Lane>(program: &LaneProgram, alloc: Global) -> Result<Vec<L>, AllocError>
-    ensures { IfOk result (λ room. room_of (length program.now.steps.items) ≤ length room.items) }
+    ensures { IfOk result (λ room. length room.items ≡ room_of (length program.now.steps.items)) }
 {
     match program.steps.len().checked_mul(BLOCK) {
         Some(count) => vec![in alloc; L::of_truth(false); count],
@@ -21,10 +21,12 @@ pub fn room_for<L: Lane>(program: &LaneProgram, alloc: Global) -> Result<Vec<L>,
     }
 }
 
-/// Room for the answers of steps. Contracts see how many numbers it has room for.
+/// Room for the answers of steps and for their constants. Contracts see how many numbers it has room for.
 #[derive(Drop)]
 pub struct Scratch<L> {
     pub(crate) items: Vec<L>,
+    pub(crate) constants: Vec<L>,
+    ghost same: { length constants.items ≡ length items.items },
 }
 
 impl<L> Model for Scratch<L> {
@@ -43,8 +45,8 @@ impl<L: Lane> Scratch<L> {
     pub fn new(program: &LaneProgram, alloc: Global) -> Result<Scratch<L>, AllocError>
         ensures { IfOk result (λ scratch. room_of (length program.now.steps.items) ≤ scratch) }
     {
-        Ok(Scratch {
-            items: room_for(program, alloc)?,
-        })
+        let constants = room_for(program, alloc)?;
+        let items = room_for(program, alloc)?;
+        Ok(Scratch { items, constants })
     }
 }
