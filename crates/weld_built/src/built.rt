@@ -461,11 +461,7 @@ fn reserve_in(state: &mut State, kind: Option<Kind>, items: u64) -> Result<(), A
 {
     match state {
         State::List(alloc, list) => return list::reserve(*alloc, list, kind, items),
-        State::Total(_)
-        | State::Totals(_, _)
-        | State::Cells(_)
-        | State::Keyed(_, _)
-        | State::Groups(_, _) => return Ok(()),
+        _ => return Ok(()),
     }
 }
 

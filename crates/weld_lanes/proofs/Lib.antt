@@ -1,4 +1,4 @@
-pub mod ConstantLemmas
+mod ConstantLemmas
 pub mod Meaning
 pub mod Parts
 mod Places
