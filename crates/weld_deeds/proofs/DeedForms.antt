@@ -6,7 +6,7 @@ use Rattle.weld_builders.specs.Outcome.{Outcome, done}
 use Rattle.weld_meaning.specs.Thing.{Thing}
 use Rattle.weld_acts.specs.Act.{Acts}
 use Rattle.weld_deeds.specs.Deeds.{do_of, DeedFits}
-use Rattle.weld_deeds.specs.Does.{DoesAs, number_done, NumberFits, pair_done, PairFits, guarded_done, GuardedFits, list_done, WideFits}
+use Rattle.weld_deeds.specs.Does.{DoesAs, number_done, NumberFits, pair_done, PairFits, guarded_done, GuardedFits, list_done, I64ListFits}
 use Rattle.weld_deeds.specs.declared.deed.Deed.{Deed}
 use Rattle.weld_deeds.specs.declared.deed.Deed as deed
 use Rattle.weld_blocks.specs.declared.numbers.Numbers.{Numbers}
@@ -67,9 +67,9 @@ struct_guarded_as (deed.Choice' x a y b z) c cs t e h p q =
     (subst (λ (u : Deed). As (deed.Choice' c a (deed.Struct cs) b u)) (sym (h.2 ∙ q)) (record { same = λ j s. refl; can = λ j s f. (f.0, f.1, f.2) })))
 struct_guarded_as (deed.Fields ds) c cs t e h p q = absurd h
 
-pub wide_as : (d : Deed) (cs : Vec Numbers Global) (xs : List Numbers) → d ≡ deed.List cs → xs ≡ cs.items → AreAlike kinds.I64 xs → DoesAs (list_done cs.items) (WideFits cs.items) d
+pub wide_as : (d : Deed) (cs : Vec Numbers Global) (xs : List Numbers) → d ≡ deed.List cs → xs ≡ cs.items → AreAlike kinds.I64 xs → DoesAs (list_done cs.items) (I64ListFits cs.items) d
 wide_as d cs xs e same alike =
-    subst (DoesAs (list_done cs.items) (WideFits cs.items)) (sym e) (record { same = λ j s. refl; can = λ j s h. (subst (AreAlike kinds.I64) same alike, h.0, h.1) })
+    subst (DoesAs (list_done cs.items) (I64ListFits cs.items)) (sym e) (record { same = λ j s. refl; can = λ j s h. (subst (AreAlike kinds.I64) same alike, h.0, h.1) })
 
 -- an answer of what is done so is one of the deed
 pub acts_as : {T : Type 0} (r : Result T Stop) (o p : Outcome Thing) (t : Thing) → o ≡ p → Acts r o t → Acts r p t

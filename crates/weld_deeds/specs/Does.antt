@@ -40,8 +40,8 @@ abbrev pub list_done : List Numbers → ℕ → Thing → Outcome Thing
 list_done cs j s = merged s (done (plain (list_at cs j)))
 
 -- it can be done, and the numbers are all of kind i64
-abbrev pub WideFits : List Numbers → ℕ → Thing → Type 0
-WideFits cs j s = AreAlike kinds.I64 cs × AreLonger cs j × IsPut s (list_at cs j)
+abbrev pub I64ListFits : List Numbers → ℕ → Thing → Type 0
+I64ListFits cs j s = AreAlike kinds.I64 cs × AreLonger cs j × IsPut s (list_at cs j)
 
 -- it is done as the deed is, and where that can be
 pub record DoesAs (does : ℕ → Thing → Outcome Thing) (fits : ℕ → Thing → Type 0) (d : Deed) : Type 0 where

@@ -3,9 +3,9 @@
 ghost use Rattle.weld_acts.specs.Act.{Acts};
 ghost use Rattle.weld_eval.specs.ThingView.{thing_of, things_of};
 ghost use Rattle.weld_deeds.specs.Deeds.{DeedFits, DeedsFit, do_of, do_all, DoesAll};
-ghost use Rattle.weld_deeds.specs.Does.{number_done, NumberFits, pair_done, PairFits, guarded_done, GuardedFits, list_done, WideFits};
+ghost use Rattle.weld_deeds.specs.Does.{number_done, NumberFits, pair_done, PairFits, guarded_done, GuardedFits, list_done, I64ListFits};
 
-use crate::lists::{put_list, put_wide};
+use crate::lists::{put_i64_list, put_list};
 use crate::puts::{put_number, put_struct, put_two};
 use crate::texts::{Same, put_same};
 use weld_blocks::numbers::Numbers;
@@ -185,17 +185,17 @@ impl<'a> Does for EachGuarded<'a> {
 
 /// A vector of numbers is merged, which all are of kind i64.
 #[derive(Clone, Copy)]
-pub struct EachWide<'a> {
+pub struct EachI64List<'a> {
     pub columns: &'a Vec<Numbers>,
 }
 
-impl<'a> Does for EachWide<'a> {
+impl<'a> Does for EachI64List<'a> {
     ghost does = { λ d. list_done d.columns.now.items };
 
-    ghost fits = { λ d. WideFits d.columns.now.items };
+    ghost fits = { λ d. I64ListFits d.columns.now.items };
 
     #[inline(always)]
     fn at(&self, place: usize, builder: &mut Owned) -> Result<(), Stop> {
-        put_wide(self.columns, place, builder)
+        put_i64_list(self.columns, place, builder)
     }
 }

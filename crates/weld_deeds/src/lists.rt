@@ -14,7 +14,7 @@ ghost use Rattle.weld_eval.specs.ThingView.{thing_of};
 ghost use Rattle.weld_blocks.specs.Numbers.{count_of, number_at};
 ghost use Rattle.weld_blocks.specs.Scope.{scope_env};
 ghost use Rattle.weld_blocks.specs.Structs.{AreLonger};
-ghost use Rattle.weld_deeds.specs.Does.{list_done, WideFits};
+ghost use Rattle.weld_deeds.specs.Does.{list_done, I64ListFits};
 ghost use Rattle.weld_deeds.specs.Lists.{list_at, AreAlike, MayBeFields, MayBeLists};
 ghost use Rattle.weld_deeds.specs.Puts.{IsPut};
 
@@ -102,7 +102,7 @@ fn list_of_row(columns: &[Numbers], place: usize, alloc: Global) -> Result<Val, 
                 return values_row(columns, place, alloc);
             }
             match kind {
-                Kind::I64 => wide_row(columns, place, alloc),
+                Kind::I64 => i64_list(columns, place, alloc),
                 _ => typed_row(kind, columns, place, alloc),
             }
         }
@@ -113,16 +113,16 @@ fn list_of_row(columns: &[Numbers], place: usize, alloc: Global) -> Result<Val, 
 /// Merges the vector of the numbers at a place, from 0, which all are of kind i64.
 #[tactic(auto, using(crate::proofs::PutLemmas::same_put, crate::proofs::PutLemmas::same_acts))]
 #[inline(always)]
-pub(crate) fn put_wide(
+pub(crate) fn put_i64_list(
     columns: &Vec<Numbers>,
     place: usize,
     builder: &mut Owned,
 ) -> Result<(), Stop>
-    requires { WideFits columns.now.items place (thing_of builder.old) }
+    requires { I64ListFits columns.now.items place (thing_of builder.old) }
     ensures { Acts result (list_done columns.now.items place (thing_of builder.old))
         (thing_of builder.new) }
 {
-    match wide_row(columns, place, *columns.allocator()) {
+    match i64_list(columns, place, *columns.allocator()) {
         Ok(item) => put_value(builder, item),
         Err(_) => Err(Stop::Memory),
     }
@@ -131,7 +131,7 @@ pub(crate) fn put_wide(
 /// The vector of numbers of kind i64, with room for these alone.
 #[tactic(auto, using(weld_blocks::proofs::StructLemmas::longer_at))]
 #[inline(always)]
-fn wide_row(columns: &[Numbers], place: usize, alloc: Global) -> Result<Val, AllocError>
+fn i64_list(columns: &[Numbers], place: usize, alloc: Global) -> Result<Val, AllocError>
     requires alike { AreAlike kinds.I64 columns.now }
     requires long { AreLonger columns.now place }
     ensures { IfOk result (λ v. list_at columns.now place ≡ view_val v) }

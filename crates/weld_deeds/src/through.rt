@@ -15,7 +15,7 @@ ghost use Rattle.weld_deeds.specs.Through.{FitsThrough, done_through};
 ghost use Rattle.weld_deeds.specs.declared.deed.Deed.TheVariants.{Nothing as DoesNothing, Number as OfNumber, Pair as OfPair, Fields as OfFields, Struct as OfStruct, List as OfList};
 
 use crate::chosen::put_chosen;
-use crate::deed::{AnyDeed, Deed, Deeds, Does, EachGuarded, EachNumber, EachPair, EachWide};
+use crate::deed::{AnyDeed, Deed, Deeds, Does, EachGuarded, EachI64List, EachNumber, EachPair};
 use crate::lists::are_alike;
 use crate::puts::{put_numbers, put_pairs};
 use crate::rows::{put_chosen_rows, put_rows};
@@ -120,7 +120,7 @@ fn do_lists(
         (thing_of builder.new) }
 {
     if are_alike(Kind::I64, columns) {
-        do_each(deed, &EachWide { columns }, count, builder)
+        do_each(deed, &EachI64List { columns }, count, builder)
     } else {
         do_each(deed, &AnyDeed { deed }, count, builder)
     }

@@ -1,6 +1,7 @@
 //! The lane form lowered: the steps that mean the body of a loop of plain arithmetic.
 #![tactic(auto)]
 
+mod adding;
 mod asking;
 mod lets;
 mod making;

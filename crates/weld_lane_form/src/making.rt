@@ -2,17 +2,18 @@
 
 ghost use Rattle.std.specs.Prelude.{◌≡◌, ◌&&◌, [], ◌∷◌, IfOk, IfSome};
 ghost use Rattle.weld_meaning.specs.Environment.{look_for};
-ghost use Rattle.weld_tree.specs.ExprView.{view_leaf, view_one, view_two, view_three};
+ghost use Rattle.weld_tree.specs.ExprView.{view_leaf, view_one, view_two};
 ghost use Rattle.weld_sizes.specs.Sized.{is_that_name};
 ghost use Rattle.weld_lane_form.specs.LetsView.{view_lets};
-ghost use Rattle.weld_lane_form.specs.Lowering.{added, placed, nothing_begun, is_mask_at, is_unlet, are_numbers, are_truths, where_true, behind, is_merge, choose_truth, lower_uniform, lower_outside, lower_name, lower_leaf, lower_cast, lower_field, lower_not, lower_one, lower_binary, lower_two, lower_select, lower_three, lower_expr, lower_last, lower_body, place_among};
+ghost use Rattle.weld_lane_form.specs.Lowering.{is_unlet, where_true, behind, is_merge, lower_uniform, lower_outside, lower_name, lower_leaf, lower_cast, lower_field, lower_not, lower_one, lower_two, lower_select, lower_expr, lower_last, lower_body, place_among};
 ghost use Rattle.weld_lane_form.specs.Made.{MayMean, IsWhole, lane_names, begun, IsPlaced};
 
-use crate::asking::{is_integer, is_name, is_same, is_truth, uniform_place};
+use crate::adding::{add_some, join_two, make_last, make_not, make_select};
+use crate::asking::{is_integer, is_name, is_same, uniform_place};
 use crate::lets::{Lets, is_free, no_lets, place_of, with_let};
 use std::alloc::{AllocError, Global};
-use weld_data::{BinOp, Kind, wrap};
-use weld_lanes::{LaneProgram, LaneStep, are_steps, is_arithmetic, is_comparison};
+use weld_data::{Kind, wrap};
+use weld_lanes::{LaneProgram, LaneStep, are_steps};
 use weld_tree::{Binder, Expr, Form, LeafForm, OneForm, Sym, ThreeForm, TwoForm};
 
 /// A loop's body as steps, and the names of the numbers that are the same for all rows by their places.
@@ -36,8 +37,8 @@ pub struct LoopNames {
 /// What is made so far: steps, and names of uniform numbers.
 #[derive(Drop)]
 pub(crate) struct Making {
-    steps: Vec<LaneStep>,
-    uniforms: Vec<Sym>,
+    pub steps: Vec<LaneStep>,
+    pub uniforms: Vec<Sym>,
 }
 
 /// The steps that mean the body of a loop: in every environment in which its names stand for a row and for uniform numbers, it
@@ -64,43 +65,6 @@ pub fn lower(names: LoopNames, e: &Expr, alloc: Global) -> Result<Option<LaneBod
     }
     let program = LaneProgram::new(names.kind, steps);
     Ok(Some(LaneBody { program, uniforms }))
-}
-
-/// Adds a step, and tells its place.
-fn add(making: &mut Making, step: LaneStep) -> Result<u32, AllocError>
-    ensures { IfOk result (λ place. added (begun making.old) step
-        ≡ placed (begun making.new) place) }
-{
-    match u32::try_from(making.steps.len()) {
-        Ok(place) => {
-            making.steps.push(step)?;
-            Ok(place)
-        }
-        Err(_) => Err(AllocError),
-    }
-}
-
-/// The same as an option.
-fn add_some(making: &mut Making, step: LaneStep) -> Result<Option<u32>, AllocError>
-    ensures { IfOk result (λ found. IsPlaced (added (begun making.old) step) found
-        (begun making.new)) }
-{
-    match add(making, step) {
-        Ok(place) => Ok(Some(place)),
-        Err(e) => Err(e),
-    }
-}
-
-/// Whether the step of a place answers a truth value.
-fn is_truth_at(making: &Making, place: u32) -> bool
-    ensures { result ≡ is_mask_at (begun making.now) place }
-{
-    let place = place as usize;
-    if place < making.steps.len() {
-        is_truth(making.steps[place])
-    } else {
-        false
-    }
 }
 
 /// A number that is the same for all rows.
@@ -221,108 +185,6 @@ fn make_field(
         add_some(making, LaneStep::A)
     } else if number == 1 {
         add_some(making, LaneStep::B)
-    } else {
-        Ok(None)
-    }
-}
-
-/// The contrary of a truth value.
-fn make_not(making: &mut Making, place: u32) -> Result<Option<u32>, AllocError>
-    ensures { IfOk result (λ found. IsPlaced (lower_not (begun making.old) place) found
-        (begun making.new)) }
-{
-    if is_truth_at(&*making, place) {
-        add_some(making, LaneStep::Not(place))
-    } else {
-        Ok(None)
-    }
-}
-
-/// An operator between numbers.
-fn make_binary(making: &mut Making, op: BinOp, i: u32, j: u32) -> Result<Option<u32>, AllocError>
-    ensures { IfOk result (λ found. IsPlaced (lower_binary op i j (begun making.old)) found
-        (begun making.new)) }
-{
-    if is_arithmetic(op) {
-        add_some(making, LaneStep::Arith(op, i, j))
-    } else if is_comparison(op) {
-        add_some(making, LaneStep::Compare(op, i, j))
-    } else {
-        Ok(None)
-    }
-}
-
-/// Whether both steps answer numbers.
-fn are_numbers(making: &Making, i: u32, j: u32) -> bool
-    ensures { result ≡ are_numbers (begun making.now) i j }
-{
-    !is_truth_at(making, i) && !is_truth_at(making, j)
-}
-
-/// Whether both steps answer truth values.
-fn are_truths(making: &Making, i: u32, j: u32) -> bool
-    ensures { result ≡ are_truths (begun making.now) i j }
-{
-    is_truth_at(making, i) && is_truth_at(making, j)
-}
-
-/// A form of two parts whose steps have these places.
-fn join_two(making: &mut Making, form: TwoForm, i: u32, j: u32) -> Result<Option<u32>, AllocError>
-    ensures { IfOk result (λ found. IsPlaced (lower_two (view_two form) i j (begun making.old))
-        found (begun making.new)) }
-{
-    match form {
-        TwoForm::Binary(op) => {
-            if are_numbers(&*making, i, j) {
-                make_binary(making, op, i, j)
-            } else {
-                Ok(None)
-            }
-        }
-        TwoForm::And => {
-            if are_truths(&*making, i, j) {
-                add_some(making, LaneStep::And(i, j))
-            } else {
-                Ok(None)
-            }
-        }
-        TwoForm::Or => {
-            if are_truths(&*making, i, j) {
-                add_some(making, LaneStep::Or(i, j))
-            } else {
-                Ok(None)
-            }
-        }
-        TwoForm::LookUp | TwoForm::KeyExists | TwoForm::Merge => Ok(None),
-    }
-}
-
-/// One of two truth values, as a third says.
-#[tactic(auto, using(crate::proofs::Placing::chosen_truth))]
-fn choose_truths(making: &mut Making, t: u32, i: u32, j: u32) -> Result<Option<u32>, AllocError>
-    ensures { IfOk result (λ found. IsPlaced (choose_truth t i j (begun making.old)) found
-        (begun making.new)) }
-{
-    let both = add(making, LaneStep::And(t, i))?;
-    let contrary = add(making, LaneStep::Not(t))?;
-    let other = add(making, LaneStep::And(contrary, j))?;
-    match add(making, LaneStep::Or(both, other)) {
-        Ok(place) => Ok(Some(place)),
-        Err(e) => Err(e),
-    }
-}
-
-/// One of two values, whose steps have these places.
-fn make_select(making: &mut Making, t: u32, i: u32, j: u32) -> Result<Option<u32>, AllocError>
-    ensures { IfOk result (λ found. IsPlaced (lower_select t i j (begun making.old)) found
-        (begun making.new)) }
-{
-    if !is_truth_at(&*making, t) {
-        Ok(None)
-    } else if are_numbers(&*making, i, j) {
-        add_some(making, LaneStep::Select(t, i, j))
-    } else if are_truths(&*making, i, j) {
-        choose_truths(making, t, i, j)
     } else {
         Ok(None)
     }
@@ -452,25 +314,6 @@ fn make_three(
         Err(e) => return Err(e),
     };
     make_select(making, t, i, j)
-}
-
-/// The number of a place as that of the last step.
-#[tactic(auto, using(crate::proofs::Placing::last_copied))]
-fn make_last(making: &mut Making, place: u32) -> Result<Option<u32>, AllocError>
-    ensures { IfOk result (λ found. IsPlaced (lower_last (begun making.old) place) found
-        (begun making.new)) }
-{
-    if is_truth_at(&*making, place) {
-        return Ok(None);
-    }
-    if place as usize + 1 == making.steps.len() {
-        return Ok(Some(place));
-    }
-    let t = add(making, LaneStep::Truth(true))?;
-    match add(making, LaneStep::Select(t, place, place)) {
-        Ok(last) => Ok(Some(last)),
-        Err(e) => Err(e),
-    }
 }
 
 /// A merge of a number into the loop's builder.

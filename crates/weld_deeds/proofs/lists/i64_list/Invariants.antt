@@ -1,6 +1,6 @@
 use Rattle.std.proofs.Common.{◌≡◌, length, take, vec_len, vec_capacity}
 use Rattle.weld_deeds.specs.Rows.{words_at}
-use Rattle.weld_deeds.proofs.lists.wide_row.Given as goal
+use Rattle.weld_deeds.proofs.lists.i64_list.Given as goal
 
 -- the words of the first columns are there, and there is room for those of all
 abbrev pub invariant-columns : goal.invariant-columns

@@ -3,7 +3,7 @@ use Rattle.weld_data.specs.declared.kind.Kind.TheVariants as kinds
 use Rattle.weld_data.specs.Value.{number}
 use Rattle.weld_data.specs.declared.value.Column.TheVariants as columns
 use Rattle.weld_deeds.proofs.ListLemmas.{wide_are}
-use Rattle.weld_deeds.proofs.lists.wide_row.Goals as goal
+use Rattle.weld_deeds.proofs.lists.i64_list.Goals as goal
 
 pub returns : goal.returns
 returns c =
