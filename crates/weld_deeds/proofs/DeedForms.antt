@@ -67,8 +67,8 @@ struct_guarded_as (deed.Choice' x a y b z) c cs t e h p q =
     (subst (λ (u : Deed). As (deed.Choice' c a (deed.Struct cs) b u)) (sym (h.2 ∙ q)) (record { same = λ j s. refl; can = λ j s f. (f.0, f.1, f.2) })))
 struct_guarded_as (deed.Fields ds) c cs t e h p q = absurd h
 
-pub wide_as : (d : Deed) (cs : Vec Numbers Global) (xs : List Numbers) → d ≡ deed.List cs → xs ≡ cs.items → AreAlike kinds.I64 xs → DoesAs (list_done cs.items) (I64ListFits cs.items) d
-wide_as d cs xs e same alike =
+pub i64_list_as : (d : Deed) (cs : Vec Numbers Global) (xs : List Numbers) → d ≡ deed.List cs → xs ≡ cs.items → AreAlike kinds.I64 xs → DoesAs (list_done cs.items) (I64ListFits cs.items) d
+i64_list_as d cs xs e same alike =
     subst (DoesAs (list_done cs.items) (I64ListFits cs.items)) (sym e) (record { same = λ j s. refl; can = λ j s h. (subst (AreAlike kinds.I64) same alike, h.0, h.1) })
 
 -- an answer of what is done so is one of the deed

@@ -72,15 +72,15 @@ pub values_are : (v : Val) (column : Column) (cs : List Numbers) (j : ℕ) (xs y
 values_are v column cs j xs ys none more is made =
     sym (ap view_val made ∙ ap (λ us. list (values us)) (is ∙ more ∙ ap (λ us. us ++ map (λ c. number_at c j) cs) none))
 
-wide_numbers : (cs : List Numbers) (j : ℕ) → AreAlike kinds.I64 cs → map (number kinds.I64) (words_at cs j) ≡ map (λ c. number_at c j) cs
-wide_numbers [] j alike = refl
-wide_numbers (c ∷ cs) j alike =
+i64_numbers : (cs : List Numbers) (j : ℕ) → AreAlike kinds.I64 cs → map (number kinds.I64) (words_at cs j) ≡ map (λ c. number_at c j) cs
+i64_numbers [] j alike = refl
+i64_numbers (c ∷ cs) j alike =
     ap (λ (k : Kind). number k (of_word k (get_or c.items.items j (pos 0))) ∷ map (number kinds.I64) (words_at cs j)) (sym alike.0)
-    ∙ ap (λ (vs : List Value). number_at c j ∷ vs) (wide_numbers cs j alike.1)
+    ∙ ap (λ (vs : List Value). number_at c j ∷ vs) (i64_numbers cs j alike.1)
 
-pub wide_are : (v : Val) (column : Column) (cs : List Numbers) (i j : ℕ) (ws : List ℤ) → length cs ≤ i → ws ≡ words_at (take i cs) j → view_column column ≡ map (number kinds.I64) ws → v ≡ val.List column → AreAlike kinds.I64 cs → list_at cs j ≡ view_val v
-wide_are v column cs i j ws all words is made alike =
-    sym (ap view_val made ∙ ap (λ us. list (values us)) (is ∙ ap (map (number kinds.I64)) (words ∙ ap (λ ds. words_at ds j) (take_all i cs all)) ∙ wide_numbers cs j alike))
+pub i64_list_are : (v : Val) (column : Column) (cs : List Numbers) (i j : ℕ) (ws : List ℤ) → length cs ≤ i → ws ≡ words_at (take i cs) j → view_column column ≡ map (number kinds.I64) ws → v ≡ val.List column → AreAlike kinds.I64 cs → list_at cs j ≡ view_val v
+i64_list_are v column cs i j ws all words is made alike =
+    sym (ap view_val made ∙ ap (λ us. list (values us)) (is ∙ ap (map (number kinds.I64)) (words ∙ ap (λ ds. words_at ds j) (take_all i cs all)) ∙ i64_numbers cs j alike))
 
 -- a string that is written out
 pub text_is : (a : At) (bytes : List ℕ) (envs : ℕ → Env) (n : ExprTree) (u : Same) → n ≡ leaf a (chars bytes) → view_val u.value ≡ list (values (map byte_value bytes)) → (count : ℕ) → IsItem n envs (deed.Same u) count

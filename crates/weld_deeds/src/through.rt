@@ -106,7 +106,7 @@ fn do_rows(
 }
 
 /// The same of a vector of numbers on each row: a loop of its own where all are of kind i64.
-#[tactic(auto, using(crate::proofs::DeedForms::any_as, crate::proofs::DeedForms::wide_as))]
+#[tactic(auto, using(crate::proofs::DeedForms::any_as, crate::proofs::DeedForms::i64_list_as))]
 fn do_lists(
     deed: &Deed,
     columns: &Vec<Numbers>,
