@@ -78,7 +78,7 @@ two_fields (a ∷ b ∷ []) c d j long x y = (λ i. pair (number_at (sym x i) j)
 two_fields (a ∷ b ∷ e ∷ cs) c d j long x y = absurd (omega (arith, long))
 
 pub starts_two : (b : Bound) (cs : Vec Numbers Global) (c d : Numbers) (j : ℕ) → b ≡ bounds.Fields cs → length cs.items ≡ 2 → c ≡ get_or cs.items 0 c → d ≡ get_or cs.items 1 d → c.kind ≡ kinds.I64 → d.kind ≡ kinds.I64
-    → bound_at b j ≡ state_of shapes.Pair (word_in c j) (word_in d j)
+    → bound_at b j ≡ state_of (shapes.Fields 2) (word_in c j) (word_in d j)
 starts_two b cs c d j is long x y first second =
     ap (λ (u : Bound). bound_at u j) is ∙ two_fields cs.items c d j long x y ∙ (λ i. pair (wide_at c j first i) (wide_at d j second i))
 
@@ -108,20 +108,20 @@ field_of_ends (Some c) n a k e envs shape ss count is ends h = record {
       ∙ ap (map_out plain) (h.each j less);
 }
 
-pub part_field : (r : Option Numbers) (ss : List State) (shape : Shape) (second : Bool) (k count : ℕ) → shape ≡ shapes.Pair → k ≡ (if second then 1 else 0) → MayGive (λ j v. v ≡ number kinds.I64 (part_at second ss j)) r count → MayGive (λ j v. IsFieldOf k (state_at shape ss j) v) r count
-part_field r ss shape second k count is at h = may_map (λ j v. v ≡ number kinds.I64 (part_at second ss j)) (λ j v. IsFieldOf k (state_at shape ss j) v) r count
+pub part_field : (r : Option Numbers) (ss : List State) (shape : Shape) (second : Bool) (n k count : ℕ) → shape ≡ shapes.Fields n → k ≡ (if second then 1 else 0) → MayGive (λ j v. v ≡ number kinds.I64 (part_at second ss j)) r count → MayGive (λ j v. IsFieldOf k (state_at shape ss j) v) r count
+part_field r ss shape second n k count is at h = may_map (λ j v. v ≡ number kinds.I64 (part_at second ss j)) (λ j v. IsFieldOf k (state_at shape ss j) v) r count
     (λ j v q. ap (λ (i : ℕ). value_field i (state_at shape ss j)) at ∙ ap (λ (s : Shape). value_field (if second then 1 else 0) (state_at s ss j)) is ∙ part second j ∙ ap done (sym q)) h
   where
-    part : (b : Bool) (j : ℕ) → value_field (if b then 1 else 0) (state_at shapes.Pair ss j) ≡ done (number kinds.I64 (part_at b ss j))
+    part : (b : Bool) (j : ℕ) → value_field (if b then 1 else 0) (state_at (shapes.Fields n) ss j) ≡ done (number kinds.I64 (part_at b ss j))
     part true j = refl
     part false j = refl
 
 pub one_bound : (b : Bound) (c : Numbers) (ss : List State) (count : ℕ) → b ≡ bounds.Number c → AreGiven (λ j v. v ≡ number kinds.I64 (part_at false ss j)) c count → (j : ℕ) → j < count → bound_at b j ≡ state_at shapes.One ss j
 one_bound b c ss count is h j less = ap (λ (u : Bound). bound_at u j) is ∙ h.each j less
 
-pub two_bound : (b : Bound) (c d : Numbers) (ss : List State) (count : ℕ) → ((j : ℕ) → bound_at b j ≡ pair (number_at c j) (number_at d j)) → AreGiven (λ j v. v ≡ number kinds.I64 (part_at false ss j)) c count → AreGiven (λ j v. v ≡ number kinds.I64 (part_at true ss j)) d count
-    → (j : ℕ) → j < count → bound_at b j ≡ state_at shapes.Pair ss j
-two_bound b c d ss count is h k j less = is j ∙ (λ i. pair (h.each j less i) (k.each j less i))
+pub two_bound : (b : Bound) (c d : Numbers) (ss : List State) (n count : ℕ) → ((j : ℕ) → bound_at b j ≡ pair (number_at c j) (number_at d j)) → AreGiven (λ j v. v ≡ number kinds.I64 (part_at false ss j)) c count → AreGiven (λ j v. v ≡ number kinds.I64 (part_at true ss j)) d count
+    → (j : ℕ) → j < count → bound_at b j ≡ state_at (shapes.Fields n) ss j
+two_bound b c d ss n count is h k j less = is j ∙ (λ i. pair (h.each j less i) (k.each j less i))
 
 pub ends_bound : (n : ExprTree) (envs : ℕ → Env) (shape : Shape) (ss : List State) (b : Bound) (count : ℕ) → AreEnds n envs shape ss count → ((j : ℕ) → j < count → bound_at b j ≡ state_at shape ss j) → IsBound n envs (bound_at b) count
 ends_bound n envs shape ss b count ends h j less = ends j less ∙ ap (λ (v : Value). done (plain v)) (sym (h j less))

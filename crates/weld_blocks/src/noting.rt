@@ -227,7 +227,10 @@ fn note_fields(
     }
     let named = Named {
         name,
-        seen: Seen::Fields(columns.as_slice().len() - before, taken),
+        seen: Seen::Fields {
+            count: columns.as_slice().len() - before,
+            taken,
+        },
     };
     match names.push(named) {
         Ok(()) => {}

@@ -254,9 +254,9 @@ pub(crate) fn ends_of(
             if !is_same(x.kind, Kind::I64) || !is_same(y.kind, Kind::I64) {
                 return None;
             }
-            match ends_from(name, body, Shape::Pair, x, y, scope, count, alloc) {
+            match ends_from(name, body, Shape::Fields(2), x, y, scope, count, alloc) {
                 Some(items) => Some(States {
-                    shape: Shape::Pair,
+                    shape: Shape::Fields(2),
                     items,
                 }),
                 None => None,
@@ -317,7 +317,7 @@ pub(crate) fn single_numbers(
     let _scope = scope;
     match states.shape {
         Shape::One => part_of(&states.items, false, count, alloc),
-        Shape::Pair => None,
+        Shape::Fields(_) => None,
     }
 }
 
@@ -331,10 +331,13 @@ pub(crate) fn numbers_of_field(
     ensures { MayGive (λ place v. IsFieldOf field (state_at states.now.shape states.now.items.items
         place) v) result count }
 {
-    match (states.shape, field) {
-        (Shape::Pair, 0) => part_of(&states.items, false, count, alloc),
-        (Shape::Pair, 1) => part_of(&states.items, true, count, alloc),
-        _ => None,
+    match states.shape {
+        Shape::One => None,
+        Shape::Fields(_) => match field {
+            0 => part_of(&states.items, false, count, alloc),
+            1 => part_of(&states.items, true, count, alloc),
+            _ => None,
+        },
     }
 }
 
@@ -349,7 +352,7 @@ pub(crate) fn bound_states(states: &States, count: usize, alloc: Global) -> Opti
     };
     match states.shape {
         Shape::One => Some(Bound::Number(first)),
-        Shape::Pair => match part_of(&states.items, true, count, alloc) {
+        Shape::Fields(_) => match part_of(&states.items, true, count, alloc) {
             Some(second) => two_columns(first, second, alloc),
             None => None,
         },

@@ -1,28 +1,27 @@
 -- Slots that are filled with what an expression comes to.
-use Rattle.std.proofs.Common.{◌≡◌, ℕ, suc, ◌+◌, ◌<◌, ◌≤◌, List, ◌∷◌, length, get_or, Some, Result, Ok, Err, IfOk, refl, ap, sym, subst, ◌∙◌, arith}
-use Rattle.weld_data.specs.Value.{Value}
+use Rattle.std.proofs.Common.{◌≡◌, ℕ, ◌+◌, ◌<◌, ◌≤◌, List, ◌∷◌, drop, Some, Result, Ok, Err, IfOk, refl, ap, sym, subst, ◌∙◌, arith}
+use Rattle.weld_data.specs.Value.{Value, Values, struct}
 use Rattle.weld_data.specs.declared.op.BinOp.{BinOp}
-use Rattle.weld_built.specs.Pair.{pair}
 use Rattle.weld_builders.specs.Outcome.{Outcome, done, fault, stuck, and_then, map_out}
-use Rattle.weld_tree.specs.ExprTree.{ExprTree, ExprTrees, binary, pack_exprs, make_struct, select}
+use Rattle.weld_tree.specs.ExprTree.{ExprTree, binary, pack_exprs, make_struct, select}
 use Rattle.weld_meaning.specs.Environment.{look_for}
 use Rattle.weld_meaning.specs.Evaluation.{Env, eval, eval_all, many_thing, operated, three_thing, two_thing, chosen, selected, truth_of, value_out}
-use Rattle.weld_meaning.specs.Thing.{Thing, plain, as_value, more_things, no_things, struct_of}
+use Rattle.weld_meaning.specs.Thing.{Thing, plain, as_value}
 use Rattle.weld_turns.specs.CodeView.{Slots, slot_limit, with_slot, shape_value, value, filled, either_of}
-use Rattle.weld_turns.specs.Fillings.{AreKept, Copies, Fills, IsFilled, IsWork, Picks, Puts, Selects}
-use Rattle.weld_turns.specs.Scopes.{with_scope, ended, room_of, AreBelow, IsNamedAt, IsOutsideName, IsStateAt, Means, Sites}
+use Rattle.weld_turns.specs.Fillings.{AreKept, Copies, Fills, FillsFields, IsFilled, IsWork, Picks, PutsFields, Selects}
+use Rattle.weld_turns.specs.Scopes.{with_scope, room_of, AreBelow, IsNamedAt, IsOutsideName, IsStateAt, Means, Sites}
 use Rattle.weld_turns.specs.declared.code.Code.{Code}
 use Rattle.weld_turns.specs.declared.code.Filling.{Filling}
 use Rattle.weld_turns.specs.declared.code.Filling as filling
 use Rattle.weld_turns.specs.declared.code.Shape.{Shape}
-use Rattle.weld_turns.specs.declared.code.Shape.TheVariants.{One, Pair}
+use Rattle.weld_turns.specs.declared.code.Shape.TheVariants.{One, Fields}
 use Rattle.weld_turns.specs.declared.code.Place.{Place}
 use Rattle.weld_turns.specs.declared.code.Site.TheVariants as sites
 use Rattle.weld_turns.specs.declared.code.Unmade.{Unmade}
 use Rattle.weld_turns.proofs.Copying.{put_fills, choose_filled}
+use Rattle.weld_turns.proofs.Fields.{values_close, written_close}
 use Rattle.weld_turns.proofs.Making.{named_comes, outside_comes}
-use Rattle.weld_turns.proofs.Scoping.{scope_kept, held_scope, found_under, kept_then, kept_under}
-use Rattle.weld_turns.proofs.Turning.{two_of}
+use Rattle.weld_turns.proofs.Scoping.{scope_kept, held_scope, found_under, kept_then, kept_under, shape_kept}
 
 -- ---- one filling after another
 
@@ -60,49 +59,11 @@ fork_fills shape first ns env e g h c x y t is i j k f =
     by fault = refl
     by stuck = refl
 
--- ---- two fields
-
-ended_by : (o p : Outcome Thing) → ended o p ≡ and_then o (λ t. and_then p (λ u. done (struct_of (more_things t (more_things u no_things)))))
-ended_by (done t) (done u) = refl
-ended_by (done t) fault = refl
-ended_by (done t) stuck = refl
-ended_by fault p = refl
-ended_by stuck p = refl
-
--- the second field is filled beside the first
-beside_first : (o : Outcome Thing) (r : Outcome Slots) (first : ℕ) (g : Slots) → IsFilled o r One (suc first) g
-    → IsFilled (and_then o (λ u. done (struct_of (more_things (plain (g first)) (more_things u no_things))))) r Pair first g
-beside_first o (done h) first g is = (
-  ap (λ (p : Outcome Thing). and_then p (λ u. done (struct_of (more_things (plain (g first)) (more_things u no_things))))) is.0
-      ∙ ap (λ (x : Value). done (plain (pair x (h (suc first))))) (sym (is.1.below first (omega arith))),
-  kept_under first (suc first) g h (omega arith) is.1,
-)
-beside_first o fault first g is = ap (λ (p : Outcome Thing). and_then p (λ u. done (struct_of (more_things (plain (g first)) (more_things u no_things))))) is
-beside_first o stuck first g is = ap (λ (p : Outcome Thing). and_then p (λ u. done (struct_of (more_things (plain (g first)) (more_things u no_things))))) is
-
-two_fill : (ns : Sites) (env : Env) (e d : ExprTree) (first : ℕ) (x y : Filling) → Fills x One first ns env (eval e) → Fills y One (first + 1) ns env (eval d) → AreBelow ns first
-    → (f : Slots) → IsFilled (ended (eval e (with_scope ns f env)) (eval d (with_scope ns f env))) (and_then (filled x f) (filled y)) Pair first f
-two_fill ns env e d first x y i j below f =
-    let inner : Env = with_scope ns f env in
-    let more : first + 1 ≡ suc first = omega arith in
-    subst (λ (o : Outcome Thing). IsFilled o (and_then (filled x f) (filled y)) Pair first f) (sym (ended_by (eval e inner) (eval d inner)))
-    (next_filled (eval e inner) (λ t. and_then (eval d inner) (λ u. done (struct_of (more_things t (more_things u no_things))))) One Pair first first f (filled x f) (filled y) (omega arith) (i f)
-    (λ g kept. beside_first (eval d inner) (filled y g) first g
-    (subst (λ (m : ℕ). IsFilled (eval d inner) (filled y g) One m g) more
-    (subst (λ (names : Env). IsFilled (eval d names) (filled y g) One (first + 1) g) (scope_kept ns f g env first below kept) (j g)))))
-
-pub fields_fill : (x y : Filling) (ns : Sites) (env : Env) (es : List ExprTree) (e d : ExprTree) (first : ℕ) → length es ≡ 2 → e ≡ get_or es 0 e → d ≡ get_or es 1 d
-    → AreBelow ns first → Fills x One first ns env (eval e) → Fills y One (first + 1) ns env (eval d)
-    → (f : Slots) → IsFilled (and_then (eval_all (pack_exprs es) (with_scope ns f env)) (many_thing make_struct)) (and_then (filled x f) (filled y)) Pair first f
-fields_fill x y ns env es e d first n p q below i j f =
-    subst (λ (xs : ExprTrees). IsFilled (and_then (eval_all xs (with_scope ns f env)) (many_thing make_struct)) (and_then (filled x f) (filled y)) Pair first f) (sym (two_of es e d n p q))
-    (two_fill ns env e d first x y i j below f)
-
 -- ---- what stands in slots already
 
-pub named_apart : (e : ExprTree) (ns : Sites) (from first : ℕ) → IsStateAt e Pair ns from → AreBelow ns first → from + 1 ≡ first → ⊥
-named_apart e ns from first is below at =
-    let room : room_of is.1.shape ≡ 2 = ap room_of is.4 in
+pub named_apart : (e : ExprTree) (shape : Shape) (ns : Sites) (from first : ℕ) → IsStateAt e shape ns from → AreBelow ns first → from + room_of shape ≤ first
+named_apart e shape ns from first is below =
+    let room : room_of is.1.shape ≡ room_of shape = ap room_of is.4 in
     let under : is.1.first + room_of is.1.shape ≤ first = found_under ns is.0 first (sites.Whole is.1) is.3 below in
     let same : is.1.first ≡ from = is.5 in
     omega (arith, room, under, same)
@@ -116,13 +77,21 @@ pub named_ok : (r : Result Filling Unmade) (shape : Shape) (ns : Sites) (env : E
 named_ok (Ok t) shape ns env e from first is h = named_fills t shape ns env e from first is h
 named_ok (Err x) shape ns env e from first is h = h
 
-outer_fills : (t : Filling) (ns : Sites) (env : Env) (e : ExprTree) (s first : ℕ) (v w : Value) → IsOutsideName e ns s → look_for s env ≡ Some (plain (pair v w)) → Puts t v w first → Fills t Pair first ns env (eval e)
-outer_fills t ns env e s first v w is h k f = subst (λ (o : Outcome Thing). IsFilled o (filled t f) Pair first f) (sym (outside_comes e s ns f env (plain (pair v w)) is.0 is.1 h)) (k f)
+outer_fills : (t : Filling) (ns : Sites) (env : Env) (e : ExprTree) (s n first : ℕ) (vs : Values) → IsOutsideName e ns s → look_for s env ≡ Some (plain (struct vs)) → PutsFields t n vs first → Fills t (Fields n) first ns env (eval e)
+outer_fills t ns env e s n first vs is h k f =
+    subst (λ (o : Outcome Thing). IsFilled o (filled t f) (Fields n) first f) (sym (outside_comes e s ns f env (plain (struct vs)) is.0 is.1 h)) (values_close vs (filled t f) n first f (k f))
 
-pub outer_ok : (r : Result Filling Unmade) (ns : Sites) (env : Env) (e : ExprTree) (s first : ℕ) (v w : Value) → IsOutsideName e ns s → look_for s env ≡ Some (plain (pair v w)) → IfOk r (λ t. Puts t v w first)
-    → IfOk r (λ t. Fills t Pair first ns env (eval e))
-outer_ok (Ok t) ns env e s first v w is h k = outer_fills t ns env e s first v w is h k
-outer_ok (Err u) ns env e s first v w is h k = k
+pub outer_ok : (r : Result Filling Unmade) (ns : Sites) (env : Env) (e : ExprTree) (s n first : ℕ) (vs : Values) → IsOutsideName e ns s → look_for s env ≡ Some (plain (struct vs)) → IfOk r (λ t. PutsFields t n vs first)
+    → IfOk r (λ t. Fills t (Fields n) first ns env (eval e))
+outer_ok (Ok t) ns env e s n first vs is h k = outer_fills t ns env e s n first vs is h k
+outer_ok (Err u) ns env e s n first vs is h k = k
+
+-- ---- a struct that is written
+
+pub written_ok : (r : Result Filling Unmade) (ns : Sites) (env : Env) (es : List ExprTree) (left n first : ℕ) → left ≡ n → IfOk r (λ t. FillsFields t left first ns env (eval_all (pack_exprs (drop 0 es))))
+    → IfOk r (λ t. Fills t (Fields n) first ns env (λ inner. and_then (eval_all (pack_exprs es) inner) (many_thing make_struct)))
+written_ok (Ok t) ns env es left n first is h = written_close t n first ns env (pack_exprs es) (subst (λ (m : ℕ). FillsFields t m first ns env (eval_all (pack_exprs es))) is h)
+written_ok (Err u) ns env es left n first is h = h
 
 -- ---- a let
 
@@ -185,34 +154,34 @@ work_fills x y z rest op first next ns env e d is less within below i j work f =
 
 -- ---- a select, filled
 
-pub select_fills : (x y : Filling) (first next : ℕ) (ns : Sites) (env : Env) (e g h : ExprTree) → first ≤ next → AreBelow ns next → Fills x One next ns env (eval e) → Selects y next first ns env (eval g) (eval h)
-    → (f : Slots) → IsFilled (and_then (eval e (with_scope ns f env)) (λ u. three_thing select u (eval g (with_scope ns f env)) (eval h (with_scope ns f env)))) (and_then (filled x f) (filled y)) Pair first f
-select_fills x y first next ns env e g h less below i j f =
+pub select_fills : (x y : Filling) (n first next : ℕ) (ns : Sites) (env : Env) (e g h : ExprTree) → first ≤ next → AreBelow ns next → Fills x One next ns env (eval e) → Selects y n next first ns env (eval g) (eval h)
+    → (f : Slots) → IsFilled (and_then (eval e (with_scope ns f env)) (λ u. three_thing select u (eval g (with_scope ns f env)) (eval h (with_scope ns f env)))) (and_then (filled x f) (filled y)) (Fields n) first f
+select_fills x y n first next ns env e g h less below i j f =
     let inner : Env = with_scope ns f env in
-    next_filled (eval e inner) (λ u. three_thing select u (eval g inner) (eval h inner)) One Pair next first f (filled x f) (filled y) less (i f)
-    (λ k kept. subst (λ (names : Env). IsFilled (three_thing select (plain (k next)) (eval g names) (eval h names)) (filled y k) Pair first k) (scope_kept ns f k env next below kept) (j k))
+    next_filled (eval e inner) (λ u. three_thing select u (eval g inner) (eval h inner)) One (Fields n) next first f (filled x f) (filled y) less (i f)
+    (λ k kept. subst (λ (names : Env). IsFilled (three_thing select (plain (k next)) (eval g names) (eval h names)) (filled y k) (Fields n) first k) (scope_kept ns f k env next below kept) (j k))
 
 -- the second struct is filled and then one of both is picked
-second_fills : (y z : Filling) (held first : ℕ) (k : Slots) (p : Outcome Thing) → first + 2 ≤ held → IsFilled p (filled y k) Pair (held + 3) k → Picks z held first
-    → IsFilled (map_out plain (and_then (value_out p) (selected (k held) (shape_value Pair (held + 1) k)))) (and_then (filled y k) (filled z)) Pair first k
-second_fills y z held first k p room i j =
+second_fills : (y z : Filling) (n held first : ℕ) (k : Slots) (p : Outcome Thing) → first + n ≤ held → IsFilled p (filled y k) (Fields n) (held + 1 + n) k → Picks z n held first
+    → IsFilled (map_out plain (and_then (value_out p) (selected (k held) (shape_value (Fields n) (held + 1) k)))) (and_then (filled y k) (filled z)) (Fields n) first k
+second_fills y z n held first k p room i j =
     let v : Value = k held in
-    let w : Value = shape_value Pair (held + 1) k in
-    subst (λ (o : Outcome Thing). IsFilled o (and_then (filled y k) (filled z)) Pair first k) (sym (by_second (selected v w) p))
-    (next_filled p (λ t. map_out plain (and_then (as_value t) (selected v w))) Pair Pair (held + 3) first k (filled y k) (filled z) (omega arith) i
-    (λ l kept. subst (λ (u : Value). IsFilled (map_out plain (selected u w (shape_value Pair (held + 3) l))) (filled z l) Pair first l) (kept.below held (omega arith))
-    (subst (λ (u : Value). IsFilled (map_out plain (selected (l held) u (shape_value Pair (held + 3) l))) (filled z l) Pair first l)
-    (ap (λ (a : Value). pair a (l (suc (held + 1)))) (kept.below (held + 1) (omega arith)) ∙ ap (pair (k (held + 1))) (kept.below (suc (held + 1)) (omega arith))) (j l))))
+    let w : Value = shape_value (Fields n) (held + 1) k in
+    subst (λ (o : Outcome Thing). IsFilled o (and_then (filled y k) (filled z)) (Fields n) first k) (sym (by_second (selected v w) p))
+    (next_filled p (λ t. map_out plain (and_then (as_value t) (selected v w))) (Fields n) (Fields n) (held + 1 + n) first k (filled y k) (filled z) (omega (arith, room)) i
+    (λ l kept. subst (λ (u : Value). IsFilled (map_out plain (selected u w (shape_value (Fields n) (held + 1 + n) l))) (filled z l) (Fields n) first l) (kept.below held (omega arith))
+    (subst (λ (u : Value). IsFilled (map_out plain (selected (l held) u (shape_value (Fields n) (held + 1 + n) l))) (filled z l) (Fields n) first l)
+    (shape_kept (Fields n) (held + 1) (held + 1 + n) k l (omega arith) kept) (j l))))
 
-pub both_fill : (x y z rest : Filling) (held first : ℕ) (ns : Sites) (env : Env) (e d : ExprTree) → ((f : Slots) → filled rest f ≡ and_then (filled y f) (filled z)) → first + 2 ≤ held → AreBelow ns held
-    → Fills x Pair (held + 1) ns env (eval e) → Fills y Pair (held + 3) ns env (eval d) → Picks z held first
-    → (f : Slots) → IsFilled (three_thing select (plain (f held)) (eval e (with_scope ns f env)) (eval d (with_scope ns f env))) (and_then (filled x f) (filled rest)) Pair first f
-both_fill x y z rest held first ns env e d is room below i j l f =
+pub both_fill : (x y z rest : Filling) (n held first : ℕ) (ns : Sites) (env : Env) (e d : ExprTree) → ((f : Slots) → filled rest f ≡ and_then (filled y f) (filled z)) → first + n ≤ held → AreBelow ns held
+    → Fills x (Fields n) (held + 1) ns env (eval e) → Fills y (Fields n) (held + 1 + n) ns env (eval d) → Picks z n held first
+    → (f : Slots) → IsFilled (three_thing select (plain (f held)) (eval e (with_scope ns f env)) (eval d (with_scope ns f env))) (and_then (filled x f) (filled rest)) (Fields n) first f
+both_fill x y z rest n held first ns env e d is room below i j l f =
     let inner : Env = with_scope ns f env in
     let v : Value = f held in
-    subst (λ (o : Outcome Thing). IsFilled o (and_then (filled x f) (filled rest)) Pair first f) (sym (by_first v (eval e inner) (eval d inner)))
-    (next_filled (eval e inner) (λ t. map_out plain (and_then (as_value t) (λ w. and_then (value_out (eval d inner)) (selected v w)))) Pair Pair (held + 1) first f (filled x f) (filled rest) (omega arith) (i f)
-    (λ g kept. subst (λ (r : Outcome Slots). IsFilled (map_out plain (and_then (value_out (eval d inner)) (selected v (shape_value Pair (held + 1) g)))) r Pair first g) (sym (is g))
-    (subst (λ (u : Value). IsFilled (map_out plain (and_then (value_out (eval d inner)) (selected u (shape_value Pair (held + 1) g)))) (and_then (filled y g) (filled z)) Pair first g) (kept.below held (omega arith))
-    (second_fills y z held first g (eval d inner) room
-    (subst (λ (names : Env). IsFilled (eval d names) (filled y g) Pair (held + 3) g) (scope_kept ns f g env held below (kept_under held (held + 1) f g (omega arith) kept)) (j g)) l))))
+    subst (λ (o : Outcome Thing). IsFilled o (and_then (filled x f) (filled rest)) (Fields n) first f) (sym (by_first v (eval e inner) (eval d inner)))
+    (next_filled (eval e inner) (λ t. map_out plain (and_then (as_value t) (λ w. and_then (value_out (eval d inner)) (selected v w)))) (Fields n) (Fields n) (held + 1) first f (filled x f) (filled rest) (omega (arith, room)) (i f)
+    (λ g kept. subst (λ (r : Outcome Slots). IsFilled (map_out plain (and_then (value_out (eval d inner)) (selected v (shape_value (Fields n) (held + 1) g)))) r (Fields n) first g) (sym (is g))
+    (subst (λ (u : Value). IsFilled (map_out plain (and_then (value_out (eval d inner)) (selected u (shape_value (Fields n) (held + 1) g)))) (and_then (filled y g) (filled z)) (Fields n) first g) (kept.below held (omega arith))
+    (second_fills y z n held first g (eval d inner) room
+    (subst (λ (names : Env). IsFilled (eval d names) (filled y g) (Fields n) (held + 1 + n) g) (scope_kept ns f g env held below (kept_under held (held + 1) f g (omega arith) kept)) (j g)) l))))

@@ -1,5 +1,5 @@
 -- What is still to be done of a turn, put otherwise.
-use Rattle.std.proofs.Common.{◌≡◌, ℕ, suc, ◌<◌, Bool, true, false, not, if◌then◌else◌, Result, Ok, Err, IfOk, refl, ap, sym, ◌∙◌, arith}
+use Rattle.std.proofs.Common.{◌≡◌, ℕ, ◌+◌, ◌≤◌, Bool, true, false, not, if◌then◌else◌, Result, Ok, Err, IfOk, refl, ap, sym, ◌∙◌, arith}
 use Rattle.weld_data.specs.Value.{Value}
 use Rattle.weld_built.specs.Pair.{pair}
 use Rattle.weld_builders.specs.Outcome.{Outcome, done, fault, stuck, and_then, map_out}
@@ -8,21 +8,22 @@ use Rattle.weld_eval.specs.declared.short.Short.{Short}
 use Rattle.weld_meaning.specs.Evaluation.{contrary, truth_of, truth_value}
 use Rattle.weld_turns.specs.CodeView.{Slots, either_of, filled, shape_value, turn_value, value, with_slot}
 use Rattle.weld_turns.specs.StepView.{Words, shown}
+use Rattle.weld_turns.specs.Scopes.{room_of}
 use Rattle.weld_turns.specs.Lowering.{Agree, Lowers, Meaning, either_then, ended_at, filled_then, put_then, settle, settled}
 use Rattle.weld_turns.specs.declared.code.Code.{Code}
 use Rattle.weld_turns.specs.declared.code.Code as codes
 use Rattle.weld_turns.specs.declared.code.Filling.{Filling}
 use Rattle.weld_turns.specs.declared.code.Turn.{Turn}
 use Rattle.weld_turns.specs.declared.code.Shape.{Shape}
-use Rattle.weld_turns.specs.declared.code.Shape.TheVariants.{One, Pair}
+use Rattle.weld_turns.proofs.Shapes.{shape_same}
 use Rattle.weld_turns.specs.declared.step.Step.{Step}
 use Rattle.weld_turns.specs.declared.step.Step as steps
 use Rattle.weld_turns.specs.declared.code.Unmade.{Unmade}
 
 -- instructions that come to one thing come to what is the same
-pub ok_as : (r : Result Step Unmade) (m n : Meaning) → ((shape : Shape) (f : Slots) → n shape f ≡ m shape f) → IfOk r (λ t. Lowers t m) → IfOk r (λ t. Lowers t n)
-ok_as (Ok t) m n e h = λ shape f w a. e shape f ∙ h shape f w a
-ok_as (Err u) m n e h = h
+pub ok_as : (s : Shape) (r : Result Step Unmade) (m n : Meaning) → ((shape : Shape) (f : Slots) → n shape f ≡ m shape f) → IfOk r (λ t. Lowers s t m) → IfOk r (λ t. Lowers s t n)
+ok_as s (Ok t) m n e h = λ f w a. e s f ∙ h f w a
+ok_as s (Err u) m n e h = h
 
 -- ---- outcomes
 
@@ -91,12 +92,11 @@ turn_end d c first whole is e shape f =
 
 -- ---- the end
 
-end_value : (shape : Shape) (first : ℕ) (f : Slots) (w : Words) → first < 63 → Agree f w → shape_value shape first f ≡ shape_value shape first (shown w)
-end_value One first f w h a = a first (omega (arith, h))
-end_value Pair first f w h a = ap (λ (v : Value). pair v (f (suc first))) (a first (omega (arith, h))) ∙ ap (pair (shown w first)) (a (suc first) (omega (arith, h)))
+end_value : (shape : Shape) (first : ℕ) (f : Slots) (w : Words) → first + room_of shape ≤ 64 → Agree f w → shape_value shape first f ≡ shape_value shape first (shown w)
+end_value shape first f w h a = shape_same shape first first (shown w) f (λ j less. a (first + j) (omega (arith, h, less)))
 
-pub end_lowers : (first : ℕ) (go : Bool) → first < 63 → Lowers (steps.End first go) (ended_at first go)
-end_lowers first go h shape f w a = ap (λ (v : Value). done (pair v (truth_value go))) (end_value shape first f w h a)
+pub end_lowers : (shape : Shape) (first : ℕ) (go : Bool) → first + room_of shape ≤ 64 → Lowers shape (steps.End first go) (ended_at first go)
+end_lowers shape first go h f w a = ap (λ (v : Value). done (pair v (truth_value go))) (end_value shape first f w h a)
 
 -- ---- fillings
 

@@ -1,4 +1,5 @@
 mod Copying
+mod Fields
 mod Fillings
 mod Following
 mod LowerLemmas
@@ -7,6 +8,7 @@ mod OnRows
 mod Outside
 mod Runs
 mod Scoping
+mod Shapes
 mod SlotLemmas
 mod States
 mod Turning

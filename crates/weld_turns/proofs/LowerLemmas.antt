@@ -214,7 +214,7 @@ picked_ap op x y p q r s e h = ap (λ (o : Outcome Value). picked_by op x y o q)
 
 pub fork_lowers : (t next last so not_so : Step) (op : BinOp) (a b : Code) (slot : Option ℕ) (hand : Option Operand) → MayHaveSlot a slot → Forks last so not_so op (slot_or slot 64) (operand_or hand 65)
     → Brings next last b (operand_or hand 65) 65 → Brings t next a (operands.Place (slot_or slot 64)) 64 → IsForkOf t so not_so op a b
-fork_lowers t next last so not_so op a b slot hand at forks second first x y lx ly shape f w g = by (value a f) (first f w g)
+fork_lowers t next last so not_so op a b slot hand at forks second first shape x y lx ly f w g = by (value a f) (first f w g)
   where
     left : ℕ
     left = slot_or slot 64
@@ -225,7 +225,7 @@ fork_lowers t next last so not_so op a b slot hand at forks second first x y lx 
     forked : (u : Words) → Agree f u → step_value t shape w ≡ step_value last shape u → and_then (operated op (number kinds.I64 (u left)) (number kinds.I64 (word_of_operand right u))) (λ v. either_of v (x shape f) (y shape f)) ≡ step_value t shape w
     forked u ag s =
         chosen_by op (u left) (word_of_operand right u) (x shape f) (y shape f) forks.compares
-        ∙ picked_ap op (u left) (word_of_operand right u) (x shape f) (y shape f) (step_value so shape u) (step_value not_so shape u) (lx shape f u ag) (ly shape f u ag)
+        ∙ picked_ap op (u left) (word_of_operand right u) (x shape f) (y shape f) (step_value so shape u) (step_value not_so shape u) (lx f u ag) (ly f u ag)
         ∙ sym (s ∙ forks.forks shape u)
 
     by_two : (v : Value) (u : Words) (o : Outcome Value) → v ≡ number kinds.I64 (u left) → Agree f u → step_value t shape w ≡ step_value next shape u → IsBrought o right next last u 65
@@ -244,17 +244,17 @@ fork_lowers t next last so not_so op a b slot hand at forks second first x y lx 
 
 -- ---- what follows
 
-put_lowers : (t k : Step) (c : Code) (to : ℕ) (m : Meaning) → Lowers k m → Puts t k c to 64 → Lowers t (put_then to c m)
-put_lowers t k c to m l p shape f w a = by (value c f) (p f w a)
+put_lowers : (shape : Shape) (t k : Step) (c : Code) (to : ℕ) (m : Meaning) → Lowers shape k m → Puts t k c to 64 → Lowers shape t (put_then to c m)
+put_lowers shape t k c to m l p f w a = by (value c f) (p f w a)
   where
     by : (o : Outcome Value) → IsPut o t k w to 64 → and_then o (λ v. m shape (with_slot f to v)) ≡ step_value t shape w
-    by (done v) (x, u, e, s, at, kept) = l shape (with_slot f to v) u (put_agree f w u to v x a e at kept) ∙ sym (s shape)
+    by (done v) (x, u, e, s, at, kept) = l (with_slot f to v) u (put_agree f w u to v x a e at kept) ∙ sym (s shape)
     by fault q = sym (q shape)
     by stuck q = absurd q
 
-pub put_ok : (r : Result Step Unmade) (k : Step) (c : Code) (to : ℕ) (m : Meaning) → Lowers k m → IfOk r (λ t. Puts t k c to 64) → IfOk r (λ t. Lowers t (put_then to c m))
-put_ok (Ok t) k c to m l p = put_lowers t k c to m l p
-put_ok (Err u) k c to m l p = p
+pub put_ok : (shape : Shape) (r : Result Step Unmade) (k : Step) (c : Code) (to : ℕ) (m : Meaning) → Lowers shape k m → IfOk r (λ t. Puts t k c to 64) → IfOk r (λ t. Lowers shape t (put_then to c m))
+put_ok shape (Ok t) k c to m l p = put_lowers shape t k c to m l p
+put_ok shape (Err u) k c to m l p = p
 
 -- ---- what was brought
 
@@ -275,7 +275,7 @@ work_is (Ok t) k op c x y to below e h = λ f w a. subst (λ (o : Outcome Value)
 work_is (Err u) k op c x y to below e h = h
 
 pub fork_is : (r : Result Step Unmade) (so not_so : Step) (op : BinOp) (c x y : Code) → ((f : Slots) → value c f ≡ between op x y f) → IfOk r (λ t. IsForkOf t so not_so op x y) → IfOk r (λ t. IsFork t so not_so c)
-fork_is (Ok t) so not_so op c x y e h = λ m n l r shape f w a. ap (λ (o : Outcome Value). and_then o (λ v. either_of v (m shape f) (n shape f))) (e f) ∙ h m n l r shape f w a
+fork_is (Ok t) so not_so op c x y e h = λ s m n l r f w a. ap (λ (o : Outcome Value). and_then o (λ v. either_of v (m s f) (n s f))) (e f) ∙ h s m n l r f w a
 fork_is (Err u) so not_so op c x y e h = h
 
 pub slot_rests : (slot : Option ℕ) (k : Step) (c : Code) (i place : ℕ) → slot ≡ Some i → MayHaveSlot c slot → Brings k k c (operands.Place (slot_or slot place)) place

@@ -8,11 +8,11 @@ use Rattle.weld_tree.specs.ExprTree.{ExprTree, leaf, one, two, three, many, let_
 use Rattle.weld_meaning.specs.Environment.{look_for}
 use Rattle.weld_meaning.specs.Evaluation.{Env, eval, found, leaf_thing, one_thing, two_thing, three_thing, on_value, on_values, on_three, value_out, operated, negated, contrary, cast_to, truth_of, truth_value, selected, chosen}
 use Rattle.weld_meaning.specs.Thing.{Thing, plain, value_at}
-use Rattle.weld_turns.specs.CodeView.{Slots, shape_value, value, either_of}
+use Rattle.weld_turns.specs.CodeView.{Slots, field_values, shape_value, value, either_of}
 use Rattle.weld_eval.specs.ShortView.{view_short}
 use Rattle.weld_eval.specs.declared.short.Short.{Short}
 use Rattle.weld_turns.specs.Outside.{IsFieldIn}
-use Rattle.weld_turns.specs.Scopes.{with_scope, first_of, put_fields, rest_of, site_value, takes, whole_of, IsFieldSlot, IsNameOf, IsPartSlot, IsTruth, Means, Sites}
+use Rattle.weld_turns.specs.Scopes.{with_scope, first_of, put_fields, rest_of, site_value, takes, whole_of, IsFieldSlot, IsNameOf, IsSpreadSlot, IsStructSlot, IsTruth, Means, Sites}
 use Rattle.weld_turns.specs.declared.code.Code.{Code}
 use Rattle.weld_turns.specs.declared.code.Code as code
 use Rattle.weld_turns.specs.declared.code.Shape.{Shape}
@@ -126,8 +126,8 @@ outside_comes (iterate a e x g) s ns f env t is h q = absurd is
 pub field_means : (ns : Sites) (env : Env) (e : ExprTree) (s n : ℕ) (p : Place) (c : Code) → IsNameOf e s → look_for s ns ≡ Some (sites.Whole p) → IsFieldSlot c n p → Means c ns env (λ inner. and_then (eval e inner) (one_thing (field n)))
 field_means ns env e s n p c is h k f = ap (λ (o : Outcome Thing). and_then o (one_thing (field n))) (named_comes e s ns f env (sites.Whole p) is h) ∙ ap (map_out plain) (k f)
 
-pub part_means : (ns : Sites) (env : Env) (e : ExprTree) (s n : ℕ) (p : Spread) (c : Code) → IsNameOf e s → look_for s ns ≡ Some (sites.Parts p) → IsPartSlot c n p → Means c ns env (λ inner. and_then (eval e inner) (one_thing (field n)))
-part_means ns env e s n p c is h k f = ap (λ (o : Outcome Thing). and_then o (one_thing (field n))) (named_comes e s ns f env (sites.Parts p) is h) ∙ ap (map_out plain) (k f)
+pub spread_means : (ns : Sites) (env : Env) (e : ExprTree) (s n : ℕ) (p : Spread) (c : Code) → IsNameOf e s → look_for s ns ≡ Some (sites.Spread p) → IsSpreadSlot c n p → Means c ns env (λ inner. and_then (eval e inner) (one_thing (field n)))
+spread_means ns env e s n p c is h k f = ap (λ (o : Outcome Thing). and_then o (one_thing (field n))) (named_comes e s ns f env (sites.Spread p) is h) ∙ ap (map_out plain) (k f)
 
 -- a field whose bit is set is the one of its slot
 field_put : (n k bits first : ℕ) (f : Slots) (vs : Values) → k < n → takes bits k ≡ true → value_at k (put_fields n bits first f vs) ≡ done (f (first + k))
@@ -135,8 +135,17 @@ field_put zero k bits first f vs less is = absurd (omega (arith, less))
 field_put (suc n) zero bits first f vs less is = ap (λ (b : Bool). done (if b then f first else first_of vs)) is ∙ ap (λ (i : ℕ). done (f i)) (omega arith)
 field_put (suc n) (suc k) bits first f vs less is = field_put n k (bits / 2) (suc first) f (rest_of vs) (omega (arith, less)) is ∙ ap (λ (i : ℕ). done (f i)) (omega arith)
 
-pub part_slot : (c : Code) (p : Spread) (n at : ℕ) → c ≡ code.Slot at → at ≡ p.first + n → n < p.fields → takes p.taken n ≡ true → IsPartSlot c n p
-part_slot c p n at is there less bit f =
+-- the field of a struct whose fields stand in slots is the one of its slot
+field_there : (n k first : ℕ) (f : Slots) → k < n → value_at k (field_values n first f) ≡ done (f (first + k))
+field_there zero k first f less = absurd (omega (arith, less))
+field_there (suc n) zero first f less = ap (λ (i : ℕ). done (f i)) (omega arith)
+field_there (suc n) (suc k) first f less = field_there n k (suc first) f (omega (arith, less)) ∙ ap (λ (i : ℕ). done (f i)) (omega arith)
+
+pub field_slot : (c : Code) (n count first at : ℕ) → c ≡ code.Slot at → at ≡ first + n → n < count → IsStructSlot c n count first
+field_slot c n count first at is there less f = field_there count n first f less ∙ ap (λ (i : ℕ). done (f i)) (sym there) ∙ ap (λ (d : Code). value d f) (sym is)
+
+pub spread_slot : (c : Code) (p : Spread) (n at : ℕ) → c ≡ code.Slot at → at ≡ p.first + n → n < p.fields → takes p.taken n ≡ true → IsSpreadSlot c n p
+spread_slot c p n at is there less bit f =
     field_put p.fields n p.taken p.first f (whole_of f p.name.0) less bit
     ∙ ap (λ (i : ℕ). done (f i)) (sym there) ∙ ap (λ (d : Code). value d f) (sym is)
 

@@ -17,24 +17,25 @@ use Rattle.weld_data.specs.declared.stop.Stop.{Stop}
 use Rattle.weld_eval.specs.Answers.{Answers}
 use Rattle.weld_eval.specs.ThingView.{held_of}
 use Rattle.weld_turns.specs.States.{IsState, StepsRunOn}
-use Rattle.weld_turns.specs.CodeView.{Slots, shape_value, slot_limit}
+use Rattle.weld_turns.specs.CodeView.{Slots, field_values, shape_value, slot_limit}
 use Rattle.weld_turns.specs.Lowering.{Lowers, Meaning, settle, settled}
-use Rattle.weld_turns.specs.OnRows.{has_name, most_words, placed, site_from, state_of, state_site, words_for, EndsWith, HasNumbers, HasWords, IsFollowedWith, IsSeen, MeansBody, Stand}
+use Rattle.weld_turns.specs.OnRows.{has_name, most_words, placed, site_from, state_of, state_site, words_for, EndsWith, HasNumbers, HasWords, IsFollowedWith, IsOfTwo, IsSeen, MeansBody, Stand}
 use Rattle.weld_turns.specs.declared.code.Named.{Named}
 use Rattle.weld_turns.specs.declared.code.Seen.{Seen}
-use Rattle.weld_turns.specs.declared.code.Seen.TheVariants.{Number, Fields}
+use Rattle.weld_turns.specs.declared.code.Seen.TheVariants as seen
 use Rattle.weld_turns.specs.declared.code.Site.{Site}
 use Rattle.weld_turns.specs.declared.code.Site.TheVariants as sites
-use Rattle.weld_turns.specs.Scopes.{with_scope, fields_in, is_odd, put_fields, site_value, whole_of, Sites, TurnMeans}
+use Rattle.weld_turns.specs.Scopes.{with_scope, fields_in, is_odd, put_fields, room_of, site_value, whole_of, Sites, TurnMeans}
 use Rattle.weld_turns.specs.StepView.{Words, shown, step_value, with_word, words_of}
 use Rattle.weld_turns.specs.declared.code.Place.{Place}
 use Rattle.weld_turns.specs.declared.code.Shape.{Shape}
-use Rattle.weld_turns.specs.declared.code.Shape.TheVariants.{One, Pair}
+use Rattle.weld_turns.specs.declared.code.Shape.TheVariants.{One, Fields}
 use Rattle.weld_turns.specs.declared.code.Turn.{Turn}
 use Rattle.weld_turns.specs.declared.code.Unmade.{Unmade}
 use Rattle.weld_turns.specs.declared.step.Step.{Step}
 use Rattle.weld_turns.proofs.LowerLemmas.{with_other, with_same}
 use Rattle.weld_turns.proofs.Making.{out_in}
+use Rattle.weld_turns.proofs.Shapes.{same_state}
 use Rattle.weld_turns.specs.States.{next_of}
 use Rattle.weld_turns.proofs.States.{next_by, settled_next, unrolled}
 
@@ -90,20 +91,22 @@ stand_within : (names : List Named) (at : ℕ) (xs : List ℤ) (row : Env) → S
 stand_within [] at xs row is = omega (arith, is)
 stand_within (s ∷ ss) at xs row is = let rest : at + words_for s.seen ≤ length xs = stand_within ss (at + words_for s.seen) xs row is.1 in omega (arith, rest)
 
-seen_stands : (name : Sym) (seen : Seen) (at : ℕ) (xs : List ℤ) (w : Words) (row : Env) → at + words_for seen ≤ length xs → length xs ≤ most_words → HasWords xs w → IsSeen seen at xs (look_for name.0 row) → look_for name.0 row ≡ Some (plain (site_value (site_from name seen (2 + at)) (shown_on w row)))
-seen_stands name Number at xs w row room few has is =
-    is ∙ ap (λ (v : Value). Some (plain v)) (ap (number kinds.I64) (sym (has at (omega (arith, room)))) ∙ sym (shown_below w row (2 + at) (omega (arith, room, few))))
-seen_stands name (Fields n bits) at xs w row room few has is =
+seen_stands : (name : Sym) (s : Seen) (first at : ℕ) (xs : List ℤ) (w : Words) (row : Env) → first ≤ 255 → at + words_for s ≤ length xs → length xs ≤ most_words → HasWords first xs w → IsSeen s at xs (look_for name.0 row)
+    → look_for name.0 row ≡ Some (plain (site_value (site_from name s (first + at)) (shown_on w row)))
+seen_stands name seen.Number first at xs w row low room few has is =
+    is ∙ ap (λ (v : Value). Some (plain v)) (ap (number kinds.I64) (sym (has at (omega (arith, room)))) ∙ sym (shown_below w row (first + at) (omega (arith, low, room, few))))
+seen_stands name (seen.Fields n bits) first at xs w row low room few has is =
     is.1 ∙ ap (λ (vs : Values). Some (plain (struct vs)))
-    (fields_stand n bits at 2 xs (shown_on w row) is.0 (λ k less more. shown_below w row (2 + k) (omega (arith, more, room, few)) ∙ ap (number kinds.I64) (has k (omega (arith, more, room)))) is.2
-    ∙ ap (put_fields n bits (2 + at) (shown_on w row)) (sym (shown_past w row name.0 is.0 is.1)))
+    (fields_stand n bits at first xs (shown_on w row) is.0 (λ k less more. shown_below w row (first + k) (omega (arith, low, more, room, few)) ∙ ap (number kinds.I64) (has k (omega (arith, more, room)))) is.2
+    ∙ ap (put_fields n bits (first + at) (shown_on w row)) (sym (shown_past w row name.0 is.0 is.1)))
 
-all_stand : (names : List Named) (at : ℕ) (xs : List ℤ) (w : Words) (row : Env) (ns : Sites) → length xs ≤ most_words → HasWords xs w → Stand names at xs row → AllStand ns (shown_on w row) row → AllStand (placed names (2 + at) ns) (shown_on w row) row
-all_stand [] at xs w row ns few has is all = all
-all_stand (s ∷ ss) at xs w row ns few has is all =
-    subst (λ (i : ℕ). AllStand (placed ss i ((s.name.0, site_from s.name s.seen (2 + at)) ∷ ns)) (shown_on w row) row) (omega arith)
-    (all_stand ss (at + words_for s.seen) xs w row ((s.name.0, site_from s.name s.seen (2 + at)) ∷ ns) few has is.1
-    (seen_stands s.name s.seen at xs w row (stand_within ss (at + words_for s.seen) xs row is.1) few has is.0, all))
+all_stand : (names : List Named) (first at : ℕ) (xs : List ℤ) (w : Words) (row : Env) (ns : Sites) → first ≤ 255 → length xs ≤ most_words → HasWords first xs w → Stand names at xs row → AllStand ns (shown_on w row) row
+    → AllStand (placed names (first + at) ns) (shown_on w row) row
+all_stand [] first at xs w row ns low few has is all = all
+all_stand (s ∷ ss) first at xs w row ns low few has is all =
+    subst (λ (i : ℕ). AllStand (placed ss i ((s.name.0, site_from s.name s.seen (first + at)) ∷ ns)) (shown_on w row) row) (omega arith)
+    (all_stand ss first (at + words_for s.seen) xs w row ((s.name.0, site_from s.name s.seen (first + at)) ∷ ns) low few has is.1
+    (seen_stands s.name s.seen first at xs w row low (stand_within ss (at + words_for s.seen) xs row is.1) few has is.0, all))
 
 none_placed : (names : List Named) (at n : ℕ) (ns : Sites) → look_for n (placed names at ns) ≡ None → (has_name n names ≡ false) × (look_for n ns ≡ None)
 none_placed [] at n ns is = (refl, is)
@@ -115,25 +118,29 @@ none_placed (s ∷ ss) at n ns is =
     by true e has q = let none : ⊥ = cc in absurd none
     by false e has q = (has, q)
 
-shown_state : (shape : Shape) (w : Words) (row : Env) → shape_value shape 0 (shown_on w row) ≡ shape_value shape 0 (shown w)
-shown_state One w row = shown_below w row 0 (omega arith)
-shown_state Pair w row = (λ i. pair (shown_below w row 0 (omega arith) i) (shown_below w row 1 (omega arith) i))
+shown_state : (shape : Shape) (w : Words) (row : Env) → room_of shape ≤ 255 → shape_value shape 0 (shown_on w row) ≡ shape_value shape 0 (shown w)
+shown_state shape w row low = same_state shape (shown w) (shown_on w row) (λ j less. shown_below w row j (omega (arith, low, less)))
 
-pub means_body : (t : Turn) (st : Step) (whole : Meaning) (shape : Shape) (s : ℕ) (e : ExprTree) (names : List Named) (env : Env) → TurnMeans t shape ((s, state_site shape) ∷ placed names 2 []) env (eval e) → whole ≡ settled t → Lowers st whole
-    → MeansBody st shape s e names env
-means_body t st whole shape s e names env means is lowers row xs few stand others w has =
+behind_state : (names : List Named) (shape : Shape) (xs : List ℤ) (w : Words) (row : Env) → room_of shape ≤ 255 → length xs ≤ most_words → HasWords (room_of shape) xs w → Stand names 0 xs row → AllStand (placed names (room_of shape) []) (shown_on w row) row
+behind_state names shape xs w row low few has stand =
+    let here : room_of shape + 0 ≡ room_of shape = omega arith in
+    subst (λ (i : ℕ). AllStand (placed names i []) (shown_on w row) row) here (all_stand names (room_of shape) 0 xs w row [] low few has stand tt)
+
+pub means_body : (t : Turn) (st : Step) (whole : Meaning) (shape : Shape) (s : ℕ) (e : ExprTree) (names : List Named) (env : Env) → room_of shape ≤ 255 → TurnMeans t shape ((s, state_site shape) ∷ placed names (room_of shape) []) env (eval e)
+    → whole ≡ settled t → Lowers shape st whole → MeansBody st shape s e names env
+means_body t st whole shape s e names env low means is lowers row xs few stand others w has =
     let f : Slots = shown_on w row in
-    let behind : Env = with_scope (placed names 2 []) f env in
+    let behind : Env = with_scope (placed names (room_of shape) []) f env in
     let state : Value = shape_value shape 0 f in
-    let same_state : state ≡ shape_value shape 0 (shown w) = shown_state shape w row in
+    let same_state : state ≡ shape_value shape 0 (shown w) = shown_state shape w row low in
     let agree : AgreeOn (λ n. IsFree e n × (n ≢ s)) row behind =
-    record { agree = λ n g. found_there n (placed names 2 []) f row env (all_stand names 0 xs w row [] few has stand tt) (λ q. others.agree n (g.0, g.1, (none_placed names 2 n [] q).0)) } in
+    record { agree = λ n g. found_there n (placed names (room_of shape) []) f row env (behind_state names shape xs w row low few has stand) (λ q. others.agree n (g.0, g.1, (none_placed names (room_of shape) n [] q).0)) } in
     let same : eval e ((s, plain state) ∷ row) ≡ eval e ((s, plain state) ∷ behind) =
     eval_free e ((s, plain state) ∷ row) ((s, plain state) ∷ behind) (agree_bind (λ n. IsFree e n × (n ≢ s)) (IsFree e) s (plain state) row behind (λ n g ne. (g, ne)) agree) in
     ap (λ (v : Value). and_then (next_of s e row v) settle) (sym same_state)
     ∙ ap (λ (o : Outcome Thing). and_then (value_out o) settle) (same ∙ means f)
     ∙ ap (λ (o : Outcome Value). and_then o settle) (out_in _)
-    ∙ ap (λ (m : Meaning). m shape f) (sym is) ∙ lowers shape f w (λ i h. shown_below w row i (omega (arith, h)))
+    ∙ ap (λ (m : Meaning). m shape f) (sym is) ∙ lowers f w (λ i h. shown_below w row i (omega (arith, h)))
 
 -- ---- the places of the names
 
@@ -166,57 +173,60 @@ one_placed t names shape s i at next seen site ns all e env less is there after 
 
 -- ---- the turns
 
-kept_state : (shape : Shape) (w u : Words) → u 0 ≡ w 0 → u 1 ≡ w 1 → shape_value shape 0 (shown u) ≡ shape_value shape 0 (shown w)
-kept_state One w u a b = ap (number kinds.I64) a
-kept_state Pair w u a b = (λ i. pair (number kinds.I64 (a i)) (number kinds.I64 (b i)))
+abbrev IsKept : Shape → Words → Words → Type 0
+IsKept shape w u = (i : ℕ) → i < room_of shape → u i ≡ w i
 
-pub words_state : (shape : Shape) (w : Words) (x y : ℤ) → w 0 ≡ x → w 1 ≡ y → shape_value shape 0 (shown w) ≡ state_of shape x y
-words_state One w x y a b = ap (number kinds.I64) a
-words_state Pair w x y a b = (λ i. pair (number kinds.I64 (a i)) (number kinds.I64 (b i)))
+kept_state : (shape : Shape) (w u : Words) → IsKept shape w u → shape_value shape 0 (shown u) ≡ shape_value shape 0 (shown w)
+kept_state shape w u kept = same_state shape (shown w) (shown u) (λ j less. ap (number kinds.I64) (kept j less))
 
-pub one_more : (w u : Words) (k : ℕ) (x : ℤ) (xs : List ℤ) → done u ≡ done (with_word w (2 + k) x) → x ≡ words_of xs k → ((j : ℕ) → j < k → w (2 + j) ≡ words_of xs j) → (j : ℕ) → j < k + 1 → u (2 + j) ≡ words_of xs j
-one_more w u k x xs e is before j less = by (cases_lt j k)
+words_state : (shape : Shape) (w : Words) (x y : ℤ) → IsOfTwo shape → w 0 ≡ x → w 1 ≡ y → shape_value shape 0 (shown w) ≡ state_of shape x y
+words_state One w x y two a b = ap (number kinds.I64) a
+words_state (Fields n) w x y two a b = ap (λ (m : ℕ). struct (field_values m 0 (shown w))) two ∙ (λ i. pair (number kinds.I64 (a i)) (number kinds.I64 (b i)))
+
+pub one_more : (w u : Words) (at k : ℕ) (x : ℤ) (xs : List ℤ) → done u ≡ done (with_word w (at + k) x) → x ≡ words_of xs k → ((j : ℕ) → j < k → w (at + j) ≡ words_of xs j) → (j : ℕ) → j < k + 1 → u (at + j) ≡ words_of xs j
+one_more w u at k x xs e is before j less = by (cases_lt j k)
   where
-    same : u ≡ with_word w (2 + k) x
+    same : u ≡ with_word w (at + k) x
     same = cc
 
-    by : (j < k) ⊎ (k ≤ j) → u (2 + j) ≡ words_of xs j
-    by (inl h) = ap (λ (z : Words). z (2 + j)) same ∙ with_other w (2 + k) (2 + j) x (λ q. omega (arith, q, h)) ∙ before j h
-    by (inr h) = let last : j ≡ k = omega (arith, h, less) in ap (λ (i : ℕ). u (2 + i)) last ∙ ap (λ (z : Words). z (2 + k)) same ∙ with_same w (2 + k) x ∙ is ∙ ap (words_of xs) (sym last)
+    by : (j < k) ⊎ (k ≤ j) → u (at + j) ≡ words_of xs j
+    by (inl h) = ap (λ (z : Words). z (at + j)) same ∙ with_other w (at + k) (at + j) x (λ q. omega (arith, q, h)) ∙ before j h
+    by (inr h) = let last : j ≡ k = omega (arith, h, less) in ap (λ (i : ℕ). u (at + i)) last ∙ ap (λ (z : Words). z (at + k)) same ∙ with_same w (at + k) x ∙ is ∙ ap (words_of xs) (sym last)
 
-pub one_kept : (w u z : Words) (k i : ℕ) (x : ℤ) → i < 2 → done u ≡ done (with_word w (2 + k) x) → w i ≡ z i → u i ≡ z i
-one_kept w u z k i x less e before =
-    let same : u ≡ with_word w (2 + k) x = cc in
-    ap (λ (v : Words). v i) same ∙ with_other w (2 + k) i x (λ q. omega (arith, q, less)) ∙ before
+pub one_kept : (w u z : Words) (at k : ℕ) (x : ℤ) → done u ≡ done (with_word w (at + k) x) → ((i : ℕ) → i < at → w i ≡ z i) → (i : ℕ) → i < at → u i ≡ z i
+one_kept w u z at k x e before i less =
+    let same : u ≡ with_word w (at + k) x = cc in
+    ap (λ (v : Words). v i) same ∙ with_other w (at + k) i x (λ q. omega (arith, q, less)) ∙ before i less
 
 -- a turn from these words, the names put behind the state again
-pub stepped_with : (t : Step) (shape : Shape) (xs : List ℤ) (w u z : Words) (g : Value → Outcome Value) (i : ℕ) (v : Value) (b : Bool) → i < 1000000 → IsFollowedWith t shape xs g → HasWords xs u → u 0 ≡ w 0 → u 1 ≡ w 1
+pub stepped_with : (t : Step) (shape : Shape) (xs : List ℤ) (w u z : Words) (g : Value → Outcome Value) (i : ℕ) (v : Value) (b : Bool) → i < 1000000 → IsFollowedWith t shape xs g → HasWords (room_of shape) xs u → IsKept shape w u
     → step_value t shape u ≡ done (pair (shape_value shape 0 (shown z)) v) → truth_of v ≡ done b
     → turns (turn_limit - i) (shape_value shape 0 (shown w)) g ≡ (if b then turns (turn_limit - (i + 1)) (shape_value shape 0 (shown z)) g else done (shape_value shape 0 (shown z)))
-stepped_with t shape xs w u z g i v b h is has a c e q =
+stepped_with t shape xs w u z g i v b h is has kept e q =
     let go : Value → Outcome Value = λ (state : Value). turns (turn_limit - (i + 1)) state g in
-    ap (λ (s : Value). turns (turn_limit - i) s g) (sym (kept_state shape w u a c))
+    ap (λ (s : Value). turns (turn_limit - i) s g) (sym (kept_state shape w u kept))
     ∙ unrolled i (shape_value shape 0 (shown u)) g h ∙ settled_next (g (shape_value shape 0 (shown u))) go
     ∙ ap (λ (o : Outcome Value). and_then o (λ x. next_turn x go)) (is u has ∙ e)
     ∙ next_by (shape_value shape 0 (shown z)) v b go q
 
 -- a turn that faults
-pub fault_with : (t : Step) (shape : Shape) (xs : List ℤ) (w u : Words) (g : Value → Outcome Value) (i : ℕ) → i < 1000000 → IsFollowedWith t shape xs g → HasWords xs u → u 0 ≡ w 0 → u 1 ≡ w 1 → step_value t shape u ≡ fault → turns (turn_limit - i) (shape_value shape 0 (shown w)) g ≡ fault
-fault_with t shape xs w u g i h is has a c e =
+pub fault_with : (t : Step) (shape : Shape) (xs : List ℤ) (w u : Words) (g : Value → Outcome Value) (i : ℕ) → i < 1000000 → IsFollowedWith t shape xs g → HasWords (room_of shape) xs u → IsKept shape w u → step_value t shape u ≡ fault → turns (turn_limit - i) (shape_value shape 0 (shown w)) g ≡ fault
+fault_with t shape xs w u g i h is has kept e =
     let go : Value → Outcome Value = λ (state : Value). turns (turn_limit - (i + 1)) state g in
-    ap (λ (s : Value). turns (turn_limit - i) s g) (sym (kept_state shape w u a c))
+    ap (λ (s : Value). turns (turn_limit - i) s g) (sym (kept_state shape w u kept))
     ∙ unrolled i (shape_value shape 0 (shown u)) g h ∙ settled_next (g (shape_value shape 0 (shown u))) go
     ∙ ap (λ (o : Outcome Value). and_then o (λ x. next_turn x go)) (is u has ∙ e)
 
-pub means_ok : (r : Result Step Unmade) (t : Turn) (shape : Shape) (s : ℕ) (e : ExprTree) (names : List Named) (env : Env) → TurnMeans t shape ((s, state_site shape) ∷ placed names 2 []) env (eval e) → IfOk r (λ st. Lowers st (settled t)) → IfOk r (λ st. MeansBody st shape s e names env)
-means_ok (Ok st) t shape s e names env means h = means_body t st (settled t) shape s e names env means refl h
-means_ok (Err u) t shape s e names env means h = tt
+pub means_ok : (r : Result Step Unmade) (t : Turn) (shape : Shape) (s : ℕ) (e : ExprTree) (names : List Named) (env : Env) → room_of shape ≤ 255 → TurnMeans t shape ((s, state_site shape) ∷ placed names (room_of shape) []) env (eval e)
+    → IfOk r (λ st. Lowers shape st (settled t)) → IfOk r (λ st. MeansBody st shape s e names env)
+means_ok (Ok st) t shape s e names env low means h = means_body t st (settled t) shape s e names env low means refl h
+means_ok (Err u) t shape s e names env low means h = tt
 
-pub ends_some : (r : Option (ℤ × ℤ)) (t : Step) (shape : Shape) (xs : List ℤ) (w u : Words) (x y : ℤ) → w 0 ≡ x → w 1 ≡ y → IfSome r (λ p. u 0 ≡ p.0) → IfSome r (λ p. u 1 ≡ p.1)
+pub ends_some : (r : Option (ℤ × ℤ)) (t : Step) (shape : Shape) (xs : List ℤ) (w u : Words) (x y : ℤ) → IsOfTwo shape → w 0 ≡ x → w 1 ≡ y → IfSome r (λ p. u 0 ≡ p.0) → IfSome r (λ p. u 1 ≡ p.1)
     → ((g : Value → Outcome Value) → IsFollowedWith t shape xs g → turns (turn_limit - 0) (shape_value shape 0 (shown w)) g ≡ done (shape_value shape 0 (shown u))) → IfSome r (λ p. EndsWith t shape xs (state_of shape x y) (state_of shape p.0 p.1))
-ends_some None t shape xs w u x y a b c d ends = tt
-ends_some (Some p) t shape xs w u x y a b c d ends = λ g is.
-    ap (λ (v : Value). turns turn_limit v g) (sym (words_state shape w x y a b)) ∙ ap (λ (n : ℕ). turns n (shape_value shape 0 (shown w)) g) whole ∙ ends g is ∙ ap done (words_state shape u p.0 p.1 c d)
+ends_some None t shape xs w u x y two a b c d ends = tt
+ends_some (Some p) t shape xs w u x y two a b c d ends = λ g is.
+    ap (λ (v : Value). turns turn_limit v g) (sym (words_state shape w x y two a b)) ∙ ap (λ (n : ℕ). turns n (shape_value shape 0 (shown w)) g) whole ∙ ends g is ∙ ap done (words_state shape u p.0 p.1 two c d)
   where
     whole : turn_limit ≡ turn_limit - 0
     whole = omega arith

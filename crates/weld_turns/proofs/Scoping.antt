@@ -2,7 +2,6 @@
 use Rattle.std.proofs.Common.{◌≡◌, ℕ, zero, suc, ◌+◌, ◌/◌, ◌<◌, ◌≤◌, ◌==◌, Bool, true, false, if◌then◌else◌, [], ◌∷◌, Some, refl, ap, sym, subst, ◌∙◌, arith}
 use Rattle.std.proofs.lemmas.Bool.{eq-eqb, eqb-true}
 use Rattle.weld_data.specs.Value.{Value, Values, and_value, struct}
-use Rattle.weld_built.specs.Pair.{pair}
 use Rattle.weld_tree.specs.ExprTree.{ExprTree}
 use Rattle.weld_meaning.specs.Environment.{look_for}
 use Rattle.weld_meaning.specs.Evaluation.{Env}
@@ -14,7 +13,7 @@ use Rattle.weld_turns.specs.declared.code.Place.{Place}
 use Rattle.weld_turns.specs.declared.code.Site.{Site}
 use Rattle.weld_turns.specs.declared.code.Site.TheVariants as sites
 use Rattle.weld_turns.specs.declared.code.Shape.{Shape}
-use Rattle.weld_turns.specs.declared.code.Shape.TheVariants.{One, Pair}
+use Rattle.weld_turns.proofs.Shapes.{shape_same}
 
 -- ---- slots that are written
 
@@ -41,9 +40,8 @@ kept_under first next f g h k = record { below = λ i less. k.below i (omega (ar
 
 -- ---- places below those that are written
 
-shape_kept : (k : Shape) (at first : ℕ) (f g : Slots) → at + room_of k ≤ first → AreKept first f g → shape_value k at g ≡ shape_value k at f
-shape_kept One at first f g h kept = kept.below at (omega (arith, h))
-shape_kept Pair at first f g h kept = ap (λ x. pair x (g (suc at))) (kept.below at (omega (arith, h))) ∙ ap (pair (f at)) (kept.below (suc at) (omega (arith, h)))
+pub shape_kept : (k : Shape) (at first : ℕ) (f g : Slots) → at + room_of k ≤ first → AreKept first f g → shape_value k at g ≡ shape_value k at f
+shape_kept k at first f g h kept = shape_same k at at f g (λ j less. kept.below (at + j) (omega (arith, h, less)))
 
 fields_kept : (n bits at first : ℕ) (f g : Slots) (vs us : Values) → at + n ≤ first → AreKept first f g → us ≡ vs → put_fields n bits at g us ≡ put_fields n bits at f vs
 fields_kept zero bits at first f g vs us h kept is = is
@@ -52,7 +50,7 @@ fields_kept (suc n) bits at first f g vs us h kept is =
 
 site_kept : (p : Site) (first : ℕ) (f g : Slots) → end_of p ≤ first → AreKept first f g → site_value p g ≡ site_value p f
 site_kept (sites.Whole p) first f g h kept = shape_kept p.shape p.first first f g h kept
-site_kept (sites.Parts p) first f g h kept =
+site_kept (sites.Spread p) first f g h kept =
     ap struct (fields_kept p.fields p.taken p.first first f g (whole_of f p.name.0) (whole_of g p.name.0) h kept (ap fields_in (kept.past (slot_limit + p.name.0) (omega arith))))
 
 -- what is written past the places of all names changes none of them

@@ -9,7 +9,7 @@ use Rattle.weld_eval.specs.ShortView.{view_short}
 use Rattle.weld_eval.specs.declared.short.Short.{Short}
 use Rattle.weld_turns.specs.CodeView.{Slots, shape_value, slots_of, turn_value}
 use Rattle.weld_turns.specs.Scopes.{AreBelow, TurnMeans, room_of, with_scope, Sites}
-use Rattle.weld_turns.specs.States.{next_of, Follows, IsFollowed, RunsOn, StepsRunOn}
+use Rattle.weld_turns.specs.States.{next_of, Follows, IsFollowed, IsState, RunsOn, StepsRunOn}
 use Rattle.weld_turns.specs.Lowering.{Lowers, Meaning, settle, settled}
 use Rattle.weld_turns.specs.StepView.{Words, shown}
 use Rattle.weld_turns.specs.declared.step.Step.{Step}
@@ -21,10 +21,9 @@ use Rattle.weld_meaning.specs.Thing.{plain, value_field}
 use Rattle.weld_turns.specs.declared.code.Place.{Place}
 use Rattle.weld_turns.specs.declared.code.Site.TheVariants as sites
 use Rattle.weld_turns.specs.declared.code.Shape.{Shape}
-use Rattle.weld_turns.specs.declared.code.Shape.TheVariants.{One, Pair}
 use Rattle.weld_turns.specs.declared.code.Turn.{Turn}
 use Rattle.weld_turns.proofs.Making.{out_in}
-use Rattle.weld_turns.proofs.SlotLemmas.{set_there, set_beside}
+use Rattle.weld_turns.proofs.SlotLemmas.{set_there}
 
 -- ---- the limit
 
@@ -96,40 +95,31 @@ settled_next (done v) go = next_settled (value_field 0 v) (value_field 1 v) go
 settled_next fault go = refl
 settled_next stuck go = refl
 
-lowered_runs : (r : Result Held Stop) (t : Turn) (s : Step) (shape : Shape) (f : Slots) (w : Words) (whole : Meaning) (left : ℕ) → whole ≡ settled t → Lowers s whole → shape_value shape 0 (shown w) ≡ shape_value shape 0 f → StepsRunOn r s shape w left → RunsOn r t shape f left
+lowered_runs : (r : Result Held Stop) (t : Turn) (s : Step) (shape : Shape) (f : Slots) (w : Words) (whole : Meaning) (left : ℕ) → whole ≡ settled t → Lowers shape s whole → shape_value shape 0 (shown w) ≡ shape_value shape 0 f → StepsRunOn r s shape w left → RunsOn r t shape f left
 lowered_runs r t s shape f w whole left e lowers state on g is =
     subst (λ (v : Value). Answers held_of r (map_out plain (turns left v g))) state
-    (on g (λ u. ap (λ (o : Outcome Value). and_then o settle) (is (shown u)) ∙ ap (λ (m : Meaning). m shape (shown u)) (sym e) ∙ lowers shape (shown u) u (λ i h. refl)))
+    (on g (λ u. ap (λ (o : Outcome Value). and_then o settle) (is (shown u)) ∙ ap (λ (m : Meaning). m shape (shown u)) (sym e) ∙ lowers (shown u) u (λ i h. refl)))
 
-pub lowered_some : (o : Option (Result Held Stop)) (t : Turn) (s : Step) (shape : Shape) (f : Slots) (w : Words) (whole : Meaning) (left : ℕ) → whole ≡ settled t → Lowers s whole → shape_value shape 0 (shown w) ≡ shape_value shape 0 f
+pub lowered_some : (o : Option (Result Held Stop)) (t : Turn) (s : Step) (shape : Shape) (f : Slots) (w : Words) (whole : Meaning) (left : ℕ) → whole ≡ settled t → Lowers shape s whole → shape_value shape 0 (shown w) ≡ shape_value shape 0 f
     → IfSome o (λ r. StepsRunOn r s shape w left) → IfSome o (λ r. RunsOn r t shape f left)
 lowered_some (Some r) t s shape f w whole left e lowers state on = lowered_runs r t s shape f w whole left e lowers state on
 lowered_some None t s shape f w whole left e lowers state on = on
+
+-- the state of the slots is that of the words
+pub state_shown : (o : Option (Result Held Stop)) (shape : Shape) (f : Slots) (w : Words) → shape_value shape 0 f ≡ shape_value shape 0 (shown w) → IfSome o (λ r. IsState r shape f) → IfSome o (λ r. IsState r shape (shown w))
+state_shown None shape f w same is = tt
+state_shown (Some r) shape f w same is = subst (λ (v : Value). Answers held_of r (done (plain v))) same is
 
 -- ---- the state that the turns start with
 
 pub one_put : (ss : List Short) (n : Short) (v : Value) → 0 < length ss → v ≡ view_short n → slots_of (set ss 0 n) 0 ≡ v
 one_put ss n v h e = set_there ss 0 n h ∙ sym e
 
-pub two_put : (ss : List Short) (x y : Short) (v : Value) → 1 < length ss → v ≡ pair (view_short x) (view_short y) → pair (slots_of (set (set ss 0 x) 1 y) 0) (slots_of (set (set ss 0 x) 1 y) 1) ≡ v
-two_put ss x y v h e =
-    ap (λ u. pair u (slots_of (set (set ss 0 x) 1 y) 1)) (set_beside (set ss 0 x) 1 0 y (λ q. omega arith) ∙ set_there ss 0 x (omega arith))
-    ∙ ap (λ w. pair (view_short x) w) (set_there (set ss 0 x) 1 y (long ss h)) ∙ sym e
-  where
-    long : (rs : List Short) → 1 < length rs → 1 < length (set rs 0 x)
-    long [] g = absurd (omega arith)
-    long (r ∷ rs) g = omega arith
-
 -- ---- the body
 
-pub room_two : (k : Shape) → room_of k ≤ 2
-room_two One = omega arith
-room_two Pair = omega arith
-
-pub first_scope : (ns none : Sites) (s : ℕ) (p : Place) → p.first ≡ 0 → none ≡ [] → ns ≡ (s, sites.Whole p) ∷ none → AreBelow ns 2
-first_scope ns none s p e empty is =
-    let room = room_two p.shape in
-    subst (λ (ms : Sites). AreBelow ms 2) (sym (is ∙ ap (λ (rest : Sites). (s, sites.Whole p) ∷ rest) empty)) (omega (arith, room, e), tt)
+pub first_scope : (ns none : Sites) (s at : ℕ) (p : Place) → p.first ≡ 0 → at ≡ room_of p.shape → none ≡ [] → ns ≡ (s, sites.Whole p) ∷ none → AreBelow ns at
+first_scope ns none s at p e there empty is =
+    subst (λ (ms : Sites). AreBelow ms at) (sym (is ∙ ap (λ (rest : Sites). (s, sites.Whole p) ∷ rest) empty)) (omega (arith, there, e), tt)
 
 pub body_follows : (t : Turn) (ns none : Sites) (s : ℕ) (p : Place) (e : ExprTree) (env : Env) → p.first ≡ 0 → none ≡ [] → ns ≡ (s, sites.Whole p) ∷ none → TurnMeans t p.shape ns env (eval e) → Follows t p.shape s e env
 body_follows t ns none s p e env at empty is h f =

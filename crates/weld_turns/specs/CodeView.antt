@@ -1,7 +1,7 @@
 -- What code comes to where slots have these values.
-use Rattle.std.specs.Prelude.{ℕ, suc, ◌==◌, Bool, if◌then◌else◌, List, Option, Some, None, pos, slice_get}
+use Rattle.std.specs.Prelude.{ℕ, zero, suc, ◌==◌, Bool, if◌then◌else◌, List, Option, Some, None, pos, slice_get}
 use Rattle.weld_data.specs.declared.kind.Kind.TheVariants as kinds
-use Rattle.weld_data.specs.Value.{Value, number}
+use Rattle.weld_data.specs.Value.{Value, Values, number, struct, no_values, and_value}
 use Rattle.weld_built.specs.Pair.{pair}
 use Rattle.weld_builders.specs.Outcome.{Outcome, done, and_then, map_out}
 use Rattle.weld_meaning.specs.Evaluation.{operated, negated, contrary, cast_to, truth_of, selected}
@@ -14,7 +14,7 @@ use Rattle.weld_turns.specs.declared.code.Filling as filling
 use Rattle.weld_turns.specs.declared.code.Turn.{Turn}
 use Rattle.weld_turns.specs.declared.code.Turn as turns
 use Rattle.weld_turns.specs.declared.code.Shape.{Shape}
-use Rattle.weld_turns.specs.declared.code.Shape.TheVariants.{One, Pair}
+use Rattle.weld_turns.specs.declared.code.Shape.TheVariants.{One, Fields}
 
 -- ---- slots
 
@@ -38,10 +38,15 @@ slot_value None = number kinds.Bool (pos 0)
 abbrev pub slots_of : List Short → Slots
 slots_of ss = λ i. slot_value (slice_get ss i)
 
--- the value of a shape that stands in slots from that one on
+-- the values of so many slots that follow each other, from that one on
+abbrev pub field_values : ℕ → ℕ → Slots → Values
+field_values zero first f = no_values
+field_values (suc n) first f = and_value (f first) (field_values n (suc first) f)
+
+-- the value of a shape that stands in slots from that one on: a number, or a struct of so many
 abbrev pub shape_value : Shape → ℕ → Slots → Value
 shape_value One first f = f first
-shape_value Pair first f = pair (f first) (f (suc first))
+shape_value (Fields n) first f = struct (field_values n first f)
 
 -- ---- numbers
 

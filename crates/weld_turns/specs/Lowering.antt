@@ -72,9 +72,9 @@ shared = 64
 abbrev pub Agree : Slots → Words → Type 0
 Agree f w = (i : ℕ) → suc i ≤ shared → f i ≡ number kinds.I64 (w i)
 
--- whatever the slots have that the words stand for, the instructions come to that
-abbrev pub Lowers : Step → Meaning → Type 0
-Lowers t k = (shape : Shape) (f : Slots) (w : Words) → Agree f w → k shape f ≡ step_value t shape w
+-- whatever the slots have that the words stand for, the instructions come to that of a state of the shape
+abbrev pub Lowers : Shape → Step → Meaning → Type 0
+Lowers shape t k = (f : Slots) (w : Words) → Agree f w → k shape f ≡ step_value t shape w
 
 -- what an operator comes to between two
 abbrev pub between : BinOp → Code → Code → Slots → Outcome Value
@@ -174,8 +174,8 @@ IsOppositePut t k x to below = (f : Slots) (w : Words) → Agree f w → IsPut (
 
 -- whatever the two come to, the instructions come to the one or the other, as the code says
 abbrev pub IsFork : Step → Step → Step → Code → Type 0
-IsFork t x y c = (m n : Meaning) → Lowers x m → Lowers y n → Lowers t (either_then c m n)
+IsFork t x y c = (s : Shape) (m n : Meaning) → Lowers s x m → Lowers s y n → Lowers s t (either_then c m n)
 
 -- the same as the operator says
 abbrev pub IsForkOf : Step → Step → Step → BinOp → Code → Code → Type 0
-IsForkOf t x y op a b = (m n : Meaning) → Lowers x m → Lowers y n → Lowers t (λ shape f. and_then (between op a b f) (λ v. either_of v (m shape f) (n shape f)))
+IsForkOf t x y op a b = (s : Shape) (m n : Meaning) → Lowers s x m → Lowers s y n → Lowers s t (λ shape f. and_then (between op a b f) (λ v. either_of v (m shape f) (n shape f)))

@@ -16,14 +16,14 @@ use Rattle.weld_turns.specs.States.{next_of}
 use Rattle.weld_turns.specs.StepView.{Words, shown, step_value, words_of}
 use Rattle.weld_turns.specs.declared.code.Halt.{Halt}
 use Rattle.weld_turns.specs.declared.code.Halt.TheVariants.{Fault, Other}
-use Rattle.weld_turns.specs.Scopes.{Sites, is_odd}
+use Rattle.weld_turns.specs.Scopes.{Sites, is_odd, room_of}
 use Rattle.weld_turns.specs.declared.code.Named.{Named}
 use Rattle.weld_turns.specs.declared.code.Seen.{Seen}
-use Rattle.weld_turns.specs.declared.code.Seen.TheVariants.{Number, Fields}
+use Rattle.weld_turns.specs.declared.code.Seen.TheVariants as seen
 use Rattle.weld_turns.specs.declared.code.Site.{Site}
 use Rattle.weld_turns.specs.declared.code.Site.TheVariants as sites
 use Rattle.weld_turns.specs.declared.code.Shape.{Shape}
-use Rattle.weld_turns.specs.declared.code.Shape.TheVariants.{One, Pair}
+use Rattle.weld_turns.specs.declared.code.Shape.TheVariants.{One, Fields}
 use Rattle.weld_turns.specs.declared.step.Step.{Step}
 
 -- ---- the names
@@ -35,8 +35,8 @@ has_name n (s ∷ ss) = (n == s.name.0) || has_name n ss
 
 -- how many words it has
 abbrev pub words_for : Seen → ℕ
-words_for Number = 1
-words_for (Fields n bits) = n
+words_for seen.Number = 1
+words_for (seen.Fields n bits) = n
 
 -- so many of the first values, where their bits are set, are the numbers of kind i64 that stand from that place on
 abbrev pub HasNumbers : ℕ → ℕ → ℕ → List ℤ → Values → Type 0
@@ -46,8 +46,8 @@ HasNumbers (suc n) bits at xs (and_value v vs) = (is_odd bits ≡ true → v ≡
 
 -- what it stands for is the number of that place, or a struct that has those from that place on
 abbrev pub IsSeen : Seen → ℕ → List ℤ → Option Thing → Type 0
-IsSeen Number at xs o = o ≡ Some (plain (number kinds.I64 (words_of xs at)))
-IsSeen (Fields n bits) at xs o = (vs : Values) × (o ≡ Some (plain (struct vs))) × HasNumbers n bits at xs vs
+IsSeen seen.Number at xs o = o ≡ Some (plain (number kinds.I64 (words_of xs at)))
+IsSeen (seen.Fields n bits) at xs o = (vs : Values) × (o ≡ Some (plain (struct vs))) × HasNumbers n bits at xs vs
 
 -- each name stands for what it is seen as, by the numbers from that place on; and there are no others
 abbrev pub Stand : List Named → ℕ → List ℤ → Env → Type 0
@@ -60,8 +60,8 @@ IsOther e s names n = IsFree e n × (n ≢ s) × (has_name n names ≡ false)
 
 -- where the name's words stand, from that slot on
 abbrev pub site_from : Sym → Seen → ℕ → Site
-site_from s Number at = sites.Whole (record { shape = One; first = at })
-site_from s (Fields n bits) at = sites.Parts (record { name = s; first = at; fields = n; taken = bits })
+site_from s seen.Number at = sites.Whole (record { shape = One; first = at })
+site_from s (seen.Fields n bits) at = sites.Spread (record { name = s; first = at; fields = n; taken = bits })
 
 -- the state's words come first
 abbrev pub state_site : Shape → Site
@@ -74,18 +74,23 @@ placed (s ∷ ss) at ns = placed ss (at + words_for s.seen) ((s.name.0, site_fro
 
 -- ---- the turns
 
--- the state that two words are; of a single number the second doesn't matter
+-- two words are a state of the shape; of a single number the second doesn't matter
+abbrev pub IsOfTwo : Shape → Type 0
+IsOfTwo One = Unit {0}
+IsOfTwo (Fields n) = n ≡ 2
+
+-- the state that two words are
 abbrev pub state_of : Shape → ℤ → ℤ → Value
 state_of One x y = number kinds.I64 x
-state_of Pair x y = pair (number kinds.I64 x) (number kinds.I64 y)
+state_of (Fields n) x y = pair (number kinds.I64 x) (number kinds.I64 y)
 
--- the words of the names stand behind those of the state
-abbrev pub HasWords : List ℤ → Words → Type 0
-HasWords xs w = (k : ℕ) → k < length xs → w (2 + k) ≡ words_of xs k
+-- the words of the names stand in the places from that one on
+abbrev pub HasWords : ℕ → List ℤ → Words → Type 0
+HasWords at xs w = (k : ℕ) → k < length xs → w (at + k) ≡ words_of xs k
 
--- what makes of each state what the instructions make of it while the names have these words
+-- what makes of each state what the instructions make of it while the names have these words behind those of the state
 abbrev pub IsFollowedWith : Step → Shape → List ℤ → (Value → Outcome Value) → Type 0
-IsFollowedWith t shape xs g = (w : Words) → HasWords xs w → and_then (g (shape_value shape 0 (shown w))) settle ≡ step_value t shape w
+IsFollowedWith t shape xs g = (w : Words) → HasWords (room_of shape) xs w → and_then (g (shape_value shape 0 (shown w))) settle ≡ step_value t shape w
 
 -- so many words of names at most are looked at
 abbrev pub most_words : ℕ

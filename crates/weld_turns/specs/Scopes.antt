@@ -12,7 +12,7 @@ use Rattle.weld_turns.specs.CodeView.{Slots, shape_value, slot_limit, value, tur
 use Rattle.weld_turns.specs.declared.code.Code.{Code}
 use Rattle.weld_turns.specs.declared.code.Turn.{Turn}
 use Rattle.weld_turns.specs.declared.code.Shape.{Shape}
-use Rattle.weld_turns.specs.declared.code.Shape.TheVariants.{One, Pair}
+use Rattle.weld_turns.specs.declared.code.Shape.TheVariants.{One, Fields}
 use Rattle.weld_turns.specs.declared.code.Place.{Place}
 use Rattle.weld_turns.specs.declared.code.Site.{Site}
 use Rattle.weld_turns.specs.declared.code.Site.TheVariants as sites
@@ -24,6 +24,7 @@ use Rattle.weld_turns.specs.declared.scope.Scope.TheOpen.{Scope-F}
 abbrev pub Sites : Type 0
 Sites = List (ℕ × Site)
 
+-- the names with one more, where there is one
 abbrev pub scope_step : Scope-F Sites → Sites
 scope_step Scope-F.End = []
 scope_step (Scope-F.And s p rest) = (s.0, p) ∷ rest.now
@@ -33,6 +34,7 @@ view_scope = fold-Scope Sites scope_step
 
 -- ---- structs of which fields stand in slots
 
+-- the lowest bit is set
 abbrev pub is_odd : ℕ → Bool
 is_odd bits = bits % 2 == 1
 
@@ -41,14 +43,17 @@ abbrev pub takes : ℕ → ℕ → Bool
 takes bits zero = is_odd bits
 takes bits (suc k) = takes (bits / 2) k
 
+-- the first value; past the last one nothing is asked for
 abbrev pub first_of : Values → Value
 first_of no_values = number kinds.Bool (pos 0)
 first_of (and_value v vs) = v
 
+-- the values behind the first one
 abbrev pub rest_of : Values → Values
 rest_of no_values = no_values
 rest_of (and_value v vs) = vs
 
+-- the fields of a struct; of another value none
 abbrev pub fields_in : Value → Values
 fields_in (number k x) = no_values
 fields_in (list vs) = no_values
@@ -60,7 +65,7 @@ abbrev pub put_fields : ℕ → ℕ → ℕ → Slots → Values → Values
 put_fields zero bits first f vs = vs
 put_fields (suc n) bits first f vs = and_value (if is_odd bits then f first else first_of vs) (put_fields n (bits / 2) (suc first) f (rest_of vs))
 
--- what the name stood for outside of the slots is past them
+-- the fields of what the name stands for outside of the slots, which is past them
 abbrev pub whole_of : Slots → ℕ → Values
 whole_of f s = fields_in (f (slot_limit + s))
 
@@ -69,7 +74,7 @@ whole_of f s = fields_in (f (slot_limit + s))
 -- the value that stands there
 abbrev pub site_value : Site → Slots → Value
 site_value (sites.Whole p) f = shape_value p.shape p.first f
-site_value (sites.Parts p) f = struct (put_fields p.fields p.taken p.first f (whole_of f p.name.0))
+site_value (sites.Spread p) f = struct (put_fields p.fields p.taken p.first f (whole_of f p.name.0))
 
 -- the names that stand in slots, and those outside
 abbrev pub with_scope : Sites → Slots → Env → Env
@@ -79,12 +84,12 @@ with_scope (n ∷ ns) f env = (n.0, plain (site_value n.1 f)) ∷ with_scope ns 
 -- how many slots a shape takes
 abbrev pub room_of : Shape → ℕ
 room_of One = 1
-room_of Pair = 2
+room_of (Fields n) = n
 
 -- the slot behind the last one of it
 abbrev pub end_of : Site → ℕ
 end_of (sites.Whole p) = p.first + room_of p.shape
-end_of (sites.Parts p) = p.first + p.fields
+end_of (sites.Spread p) = p.first + p.fields
 
 -- each ends at that slot or before
 abbrev pub AreBelow : Sites → ℕ → Type 0
@@ -112,9 +117,13 @@ IsTruth c b = (f : Slots) → value c f ≡ done (truth_value b)
 abbrev pub IsFieldSlot : Code → ℕ → Place → Type 0
 IsFieldSlot c n p = (f : Slots) → value_field n (shape_value p.shape p.first f) ≡ value c f
 
+-- the same of a struct of so many that stands in slots from that one on
+abbrev pub IsStructSlot : Code → ℕ → ℕ → ℕ → Type 0
+IsStructSlot c n count first = (f : Slots) → value_field n (shape_value (Fields count) first f) ≡ value c f
+
 -- the same of a struct of which fields stand in slots
-abbrev pub IsPartSlot : Code → ℕ → Spread → Type 0
-IsPartSlot c n p = (f : Slots) → value_field n (site_value (sites.Parts p) f) ≡ value c f
+abbrev pub IsSpreadSlot : Code → ℕ → Spread → Type 0
+IsSpreadSlot c n p = (f : Slots) → value_field n (site_value (sites.Spread p) f) ≡ value c f
 
 -- the expression is a name of a state that stands in slots from that one on
 abbrev pub IsStateAt : ExprTree → Shape → Sites → ℕ → Type 0

@@ -53,21 +53,27 @@ pub enum Turn {
     End(usize, Code),
 }
 
-/// What stands in slots that follow each other: one number, or a struct of two.
+/// How many fields a struct in slots has at most; no struct of a program has more.
+pub const MOST_FIELDS: usize = 16;
+
+/// What stands in slots that follow each other: one number, or a struct of so many.
 #[derive(Clone, Copy, Debug, PartialEq, Eq)]
 pub enum Shape {
+    /// One number.
     One,
-    Pair,
+    /// A struct of numbers, by how many fields it has.
+    Fields(u8),
 }
 
 /// How many slots a shape takes.
+#[inline(always)]
 pub fn room(shape: Shape) -> usize
     ensures exact { result ≡ room_of shape }
-    ensures few { result ≤ 2 }
+    ensures few { result ≤ 255 }
 {
     match shape {
         Shape::One => 1,
-        Shape::Pair => 2,
+        Shape::Fields(count) => count as usize,
     }
 }
 
@@ -78,34 +84,43 @@ pub struct Place {
     pub first: usize,
 }
 
-/// The struct that a name stands for, of whose first fields, so many, some are numbers in slots: field k in the k-th slot from the
-/// first one on, where bit k is set. The name is the one that stood for the whole outside of the slots.
+/// The struct that a name stands for, of whose first fields some are numbers in slots.
 #[derive(Clone, Copy)]
 pub struct Spread {
+    /// The name that stood for the whole outside of the slots.
     pub name: Sym,
+    /// The first of its slots: field k has the k-th one from there on.
     pub first: usize,
+    /// How many fields have a slot.
     pub fields: usize,
+    /// Which of them stand there: field k where bit k is set.
     pub taken: u64,
 }
 
-/// Where the value of a name stands: whole in slots, or fields of it alone.
+/// Where the value of a name stands.
 #[derive(Clone, Copy)]
 pub enum Site {
+    /// Whole, in slots.
     Whole(Place),
-    Parts(Spread),
+    /// Fields of it alone, in slots.
+    Spread(Spread),
 }
 
-/// What a name of a row is seen as: a number of kind i64, or a struct of whose first fields, so many, those with a bit set are such.
+/// What a name of a row is seen as.
 #[derive(Clone, Copy)]
 pub enum Seen {
+    /// A number of kind i64.
     Number,
-    Fields(usize, u64),
+    /// A struct of whose first fields, `count` of them, those whose bit is set in `taken` are such numbers.
+    Fields { count: usize, taken: u64 },
 }
 
 /// A name of a row, and what it is seen as.
 #[derive(Clone, Copy)]
 pub struct Named {
+    /// The name.
     pub name: Sym,
+    /// What it is seen as.
     pub seen: Seen,
 }
 

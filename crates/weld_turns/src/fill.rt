@@ -1,4 +1,4 @@
-//! What fills slots with the value of an expression that is a number or a struct of two.
+//! What fills slots with the value of an expression that is a number or a struct of numbers.
 
 ghost use Rattle.std.specs.Prelude.{◌+◌, ◌≤◌, ◌∷◌, IfOk};
 ghost use Rattle.weld_builders.specs.Outcome.{and_then};
@@ -9,15 +9,15 @@ ghost use Rattle.weld_turns.specs.declared.code.Shape.TheVariants as shapes;
 ghost use Rattle.weld_turns.specs.Fillings.{Fills};
 ghost use Rattle.weld_turns.specs.Scopes.{room_of, view_scope, AreBelow, IsNamedAt};
 
-mod pairs;
+mod structs;
 
 use crate::code::{Filling, Place, Shape, Unmade, room};
 use crate::copies::{boxed_copy, in_box, worked};
 use crate::make::make;
 use crate::scope::{Scope, named_place, shape_of, with_name};
 use crate::slots::SLOTS;
-use pairs::fill_pair;
 use std::alloc::Global;
+use structs::fill_struct;
 use weld_data::BinOp;
 use weld_eval::frame::Frame;
 use weld_tree::{Expr, Form, Sym, ThreeForm, TwoForm};
@@ -46,7 +46,9 @@ pub fn fill(
         }
         _ => match place.shape {
             Shape::One => fill_one(e, place.first, scope, next, frame, alloc),
-            Shape::Pair => fill_pair(e, place.first, scope, next, frame, alloc),
+            Shape::Fields(count) => {
+                fill_struct(e, count, place.first, scope, next, frame, alloc)
+            }
         },
     }
 }

@@ -4,7 +4,7 @@
 ghost use Rattle.std.specs.Prelude.{◌≤◌, IfOk};
 ghost use Rattle.weld_turns.specs.Lowering.{ended_at, either_then, filled_then, put_then, rest_value, settled, Lowers};
 
-use crate::code::{Code, Filling, Turn, Unmade};
+use crate::code::{Code, Filling, Shape, Turn, Unmade, room};
 use crate::lower_code::{fork, put_code};
 use crate::rest::{Rest, either, end, fill, of_turn, put};
 use crate::slots::SLOTS;
@@ -12,10 +12,10 @@ use crate::step::Step;
 use crate::words::truth_in;
 use std::alloc::Global;
 
-/// The instructions of what is still to be done; at most so many more are made.
+/// The instructions of what is still to be done of a turn on a state of that shape; at most so many more are made.
 #[cycle(lower)]
-pub fn lower(rest: &Rest, left: &mut usize, alloc: Global) -> Result<Step, Unmade>
-    ensures lowered { IfOk result (λ t. Lowers t (rest_value rest.now)) }
+pub fn lower(rest: &Rest, shape: Shape, left: &mut usize, alloc: Global) -> Result<Step, Unmade>
+    ensures lowered { IfOk result (λ t. Lowers shape t (rest_value rest.now)) }
     ensures left { left.new ≤ left.old }
 {
     if *left == 0 {
@@ -23,11 +23,11 @@ pub fn lower(rest: &Rest, left: &mut usize, alloc: Global) -> Result<Step, Unmad
     }
     *left -= 1;
     match rest {
-        Rest::Turn(turn) => lower_turn(turn, left, alloc),
-        Rest::Fill(filling, rest) => lower_filling(filling, rest, left, alloc),
-        Rest::Put(to, code, rest) => lower_put(*to, code, rest, left, alloc),
-        Rest::Either(test, x, y) => lower_test(test, x, y, left, alloc),
-        Rest::End(first, go) => lower_end(*first, *go),
+        Rest::Turn(turn) => lower_turn(turn, shape, left, alloc),
+        Rest::Fill(filling, rest) => lower_filling(filling, rest, shape, left, alloc),
+        Rest::Put(to, code, rest) => lower_put(*to, code, rest, shape, left, alloc),
+        Rest::Either(test, x, y) => lower_test(test, x, y, shape, left, alloc),
+        Rest::End(first, go) => lower_end(*first, *go, shape),
     }
 }
 
@@ -56,11 +56,10 @@ fn size_of(code: &Code) -> usize {
 }
 
 /// The end of a turn.
-#[tactic(auto, using(crate::proofs::Following::end_lowers))]
-fn lower_end(first: usize, go: bool) -> Result<Step, Unmade>
-    ensures { IfOk result (λ t. Lowers t (ended_at first go)) }
+fn lower_end(first: usize, go: bool, shape: Shape) -> Result<Step, Unmade>
+    ensures { IfOk result (λ t. Lowers shape t (ended_at first go)) }
 {
-    if first < SLOTS - 1 {
+    if first < SLOTS && first + room(shape) <= SLOTS {
         Ok(Step::End(first, go))
     } else {
         Err(Unmade::Other)
@@ -69,25 +68,25 @@ fn lower_end(first: usize, go: bool) -> Result<Step, Unmade>
 
 /// A turn.
 #[cycle(lower)]
-fn lower_turn(turn: &Turn, left: &mut usize, alloc: Global) -> Result<Step, Unmade>
-    ensures lowered { IfOk result (λ t. Lowers t (settled turn.now)) }
+fn lower_turn(turn: &Turn, shape: Shape, left: &mut usize, alloc: Global) -> Result<Step, Unmade>
+    ensures lowered { IfOk result (λ t. Lowers shape t (settled turn.now)) }
     ensures left { left.new ≤ left.old }
 {
     match turn {
         Turn::First(filling, rest) => {
             let after = of_turn(rest);
             let whole = fill(filling, &after);
-            lower(&whole, left, alloc)
+            lower(&whole, shape, left, alloc)
         }
         Turn::Either(test, x, y) => {
             let (yes, no) = (of_turn(x), of_turn(y));
             let whole = either(test, &yes, &no);
-            lower(&whole, left, alloc)
+            lower(&whole, shape, left, alloc)
         }
         Turn::End(first, test) => {
             let (yes, no) = (end(*first, true), end(*first, false));
             let whole = either(test, &yes, &no);
-            lower(&whole, left, alloc)
+            lower(&whole, shape, left, alloc)
         }
     }
 }
@@ -97,27 +96,29 @@ fn lower_turn(turn: &Turn, left: &mut usize, alloc: Global) -> Result<Step, Unma
 fn lower_filling(
     filling: &Filling,
     rest: &Rest,
+    shape: Shape,
     left: &mut usize,
     alloc: Global,
 ) -> Result<Step, Unmade>
-    ensures lowered { IfOk result (λ t. Lowers t (filled_then filling.now (rest_value rest.now))) }
+    ensures lowered { IfOk result (λ t. Lowers shape t (filled_then filling.now
+        (rest_value rest.now))) }
     ensures left { left.new ≤ left.old }
 {
     match filling {
         Filling::Put(to, code) => {
             let whole = put(*to, code, &*rest);
-            lower(&whole, left, alloc)
+            lower(&whole, shape, left, alloc)
         }
         Filling::Then(x, y) => {
             let after = fill(y, &*rest);
             let whole = fill(x, &after);
-            lower(&whole, left, alloc)
+            lower(&whole, shape, left, alloc)
         }
         Filling::Either(test, x, y) => {
             let yes = fill(x, &*rest);
             let no = fill(y, &*rest);
             let whole = either(test, &yes, &no);
-            lower(&whole, left, alloc)
+            lower(&whole, shape, left, alloc)
         }
     }
 }
@@ -128,16 +129,18 @@ fn lower_put(
     to: usize,
     code: &Code,
     rest: &Rest,
+    shape: Shape,
     left: &mut usize,
     alloc: Global,
 ) -> Result<Step, Unmade>
-    ensures lowered { IfOk result (λ t. Lowers t (put_then to code.now (rest_value rest.now))) }
+    ensures lowered { IfOk result (λ t. Lowers shape t (put_then to code.now
+        (rest_value rest.now))) }
     ensures left { left.new ≤ left.old }
 {
     if to >= SLOTS || !spend(code, left) {
         return Err(Unmade::Other);
     }
-    match lower(rest, left, alloc) {
+    match lower(rest, shape, left, alloc) {
         Ok(after) => put_code(code, to, SLOTS, after, alloc),
         Err(unmade) => Err(unmade),
     }
@@ -149,30 +152,31 @@ fn lower_test(
     test: &Code,
     x: &Rest,
     y: &Rest,
+    shape: Shape,
     left: &mut usize,
     alloc: Global,
 ) -> Result<Step, Unmade>
-    ensures lowered { IfOk result (λ t. Lowers t (either_then test.now (rest_value x.now)
+    ensures lowered { IfOk result (λ t. Lowers shape t (either_then test.now (rest_value x.now)
         (rest_value y.now))) }
     ensures left { left.new ≤ left.old }
 {
     match test {
         Code::Contrary(test) => {
             let whole = either(test, &*y, &*x);
-            lower(&whole, left, alloc)
+            lower(&whole, shape, left, alloc)
         }
         Code::Choice(test, first, second) => {
             let yes = either(first, &*x, &*y);
             let no = either(second, &*x, &*y);
             let whole = either(test, &yes, &no);
-            lower(&whole, left, alloc)
+            lower(&whole, shape, left, alloc)
         }
         Code::Literal(n) => match truth_in(n.kind, n.word) {
-            Ok(true) => lower(x, left, alloc),
-            Ok(false) => lower(y, left, alloc),
+            Ok(true) => lower(x, shape, left, alloc),
+            Ok(false) => lower(y, shape, left, alloc),
             Err(_) => Err(Unmade::Other),
         },
-        _ => lower_fork(test, x, y, left, alloc),
+        _ => lower_fork(test, x, y, shape, left, alloc),
     }
 }
 
@@ -182,21 +186,22 @@ fn lower_fork(
     test: &Code,
     x: &Rest,
     y: &Rest,
+    shape: Shape,
     left: &mut usize,
     alloc: Global,
 ) -> Result<Step, Unmade>
-    ensures lowered { IfOk result (λ t. Lowers t (either_then test.now (rest_value x.now)
+    ensures lowered { IfOk result (λ t. Lowers shape t (either_then test.now (rest_value x.now)
         (rest_value y.now))) }
     ensures left { left.new ≤ left.old }
 {
     if !spend(test, left) {
         return Err(Unmade::Other);
     }
-    let yes = match lower(x, left, alloc) {
+    let yes = match lower(x, shape, left, alloc) {
         Ok(yes) => yes,
         Err(unmade) => return Err(unmade),
     };
-    match lower(y, left, alloc) {
+    match lower(y, shape, left, alloc) {
         Ok(no) => fork(test, yes, no, alloc),
         Err(unmade) => Err(unmade),
     }

@@ -6,7 +6,7 @@ ghost use Rattle.weld_eval.specs.FrameView.{env_of};
 ghost use Rattle.weld_meaning.specs.Evaluation.{eval, leaf_thing, one_thing, two_thing, three_thing};
 ghost use Rattle.weld_tree.specs.ExprTree.{int, name as name_leaf, neg, not as not_of, cast, field as field_form, binary, and as and_form, or as or_form, if_else, select};
 ghost use Rattle.weld_tree.specs.ExprView.{view_leaf, view_one, view_two, view_three};
-ghost use Rattle.weld_turns.specs.Scopes.{view_scope, takes, IsFieldSlot, IsPartSlot, IsTruth, Means};
+ghost use Rattle.weld_turns.specs.Scopes.{view_scope, takes, IsFieldSlot, IsSpreadSlot, IsStructSlot, IsTruth, Means};
 
 use crate::code::{Code, Place, Shape, Site, Spread, Unmade};
 use crate::outer::{literal, outer_field, outer_number};
@@ -83,9 +83,9 @@ fn make_name(name: Sym, scope: &Scope, frame: &Frame) -> Result<Code, Unmade>
     match site_of(scope, name) {
         Some(Site::Whole(place)) => match place.shape {
             Shape::One => Ok(Code::Slot(place.first)),
-            Shape::Pair => Err(Unmade::Other),
+            Shape::Fields(_) => Err(Unmade::Other),
         },
-        Some(Site::Parts(_)) => Err(Unmade::Other),
+        Some(Site::Spread(_)) => Err(Unmade::Other),
         None => match outer_number(frame, name) {
             Some(n) => Ok(Code::Literal(n)),
             None => Err(Unmade::Other),
@@ -125,7 +125,7 @@ fn make_one(
 }
 
 /// The code of a field of a name.
-#[tactic(auto, using(crate::proofs::Making::field_means, crate::proofs::Making::part_means, crate::proofs::Making::outer_field_means))]
+#[tactic(auto, using(crate::proofs::Making::field_means, crate::proofs::Making::spread_means, crate::proofs::Making::outer_field_means))]
 fn make_field(number: u32, part: &Expr, scope: &Scope, frame: &Frame) -> Result<Code, Unmade>
     ensures { IfOk result (λ c. Means c (view_scope scope.now) (env_of frame.now)
         (λ env. and_then (eval part.now env) (one_thing (field_form number)))) }
@@ -136,7 +136,7 @@ fn make_field(number: u32, part: &Expr, scope: &Scope, frame: &Frame) -> Result<
     };
     match site_of(scope, name) {
         Some(Site::Whole(place)) => slot_of_field(number, place),
-        Some(Site::Parts(spread)) => slot_of_part(number, spread),
+        Some(Site::Spread(spread)) => slot_in_spread(number, spread),
         None => match outer_field(frame, name, number) {
             Some(n) => Ok(Code::Literal(n)),
             None => Err(Unmade::Other),
@@ -293,16 +293,27 @@ fn slot_of_field(number: u32, place: Place) -> Result<Code, Unmade>
     ensures { IfOk result (λ c. IsFieldSlot c number place) }
 {
     match place.shape {
-        Shape::Pair if number == 0 => Ok(Code::Slot(place.first)),
-        Shape::Pair if number == 1 && place.first < SLOTS => Ok(Code::Slot(place.first + 1)),
-        _ => Err(Unmade::Other),
+        Shape::One => Err(Unmade::Other),
+        Shape::Fields(count) => slot_of_struct(number, count, place.first),
     }
 }
 
-/// The slot of a field, from 0, of a struct whose fields stand in slots, where this one does.
-#[tactic(auto, using(crate::proofs::Making::part_slot))]
-fn slot_of_part(number: u32, spread: Spread) -> Result<Code, Unmade>
-    ensures { IfOk result (λ c. IsPartSlot c number spread) }
+/// The slot of a field, from 0, of a struct of so many that stands in slots from one on.
+#[tactic(auto, using(crate::proofs::Making::field_slot))]
+fn slot_of_struct(number: u32, count: u8, first: usize) -> Result<Code, Unmade>
+    ensures { IfOk result (λ c. IsStructSlot c number count first) }
+{
+    let field = number as usize;
+    if field >= count as usize || first >= SLOTS {
+        return Err(Unmade::Other);
+    }
+    Ok(Code::Slot(first + field))
+}
+
+/// The slot of a field, from 0, of a struct of which some fields stand in slots, where this one does.
+#[tactic(auto, using(crate::proofs::Making::spread_slot))]
+fn slot_in_spread(number: u32, spread: Spread) -> Result<Code, Unmade>
+    ensures { IfOk result (λ c. IsSpreadSlot c number spread) }
 {
     let place = number as usize;
     if place >= spread.fields || place >= SLOTS || spread.first >= SLOTS {

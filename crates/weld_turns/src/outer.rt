@@ -2,18 +2,21 @@
 
 ghost use Rattle.std.specs.Prelude.{◌≡◌, IfSome, MatchOption, None, Some};
 ghost use Rattle.weld_data.specs.View.{view_val};
-ghost use Rattle.weld_data.specs.Value.{number};
+ghost use Rattle.weld_data.specs.Value.{number, struct, values};
 ghost use Rattle.weld_eval.specs.FrameView.{env_of};
+ghost use Rattle.weld_builders.specs.Outcome.{done};
+ghost use Rattle.weld_eval.specs.RowView.{row_value};
 ghost use Rattle.weld_eval.specs.ShortView.{view_short};
 ghost use Rattle.weld_eval.specs.SlotView.{slot_thing};
 ghost use Rattle.weld_meaning.specs.Environment.{look_for};
 ghost use Rattle.weld_meaning.specs.Meaning.{with_arguments};
-ghost use Rattle.weld_meaning.specs.Thing.{plain};
+ghost use Rattle.weld_meaning.specs.Thing.{plain, value_at};
 ghost use Rattle.weld_turns.specs.Outside.{IsFieldIn, IsPairOf, StandsFor, StandsForPair};
 
 use weld_data::{Kind, Num, Val, Vals, wrap};
 use weld_eval::frame::{Frame, Slot};
-use weld_eval::number::{number_of, pair_of};
+use weld_eval::number::number_of;
+use weld_eval::row::RowAt;
 use weld_eval::short::Short;
 use weld_eval::thing::Owned;
 use weld_tree::{Binders, Sym};
@@ -51,7 +54,31 @@ pub fn outer_field(frame: &Frame, name: Sym, field: u32) -> Option<Short>
     }
 }
 
-/// The two numbers of the struct that a name stands for, where it stands for one.
+/// The fields of the struct of values that a name stands for, where it stands for one.
+pub fn outer_fields<'a>(frame: &'a Frame<'a>, name: Sym) -> Option<&'a Vals>
+    ensures { IfSome result (λ fields. look_for name.0 (env_of frame.now)
+        ≡ Some (plain (struct (values fields.now)))) }
+{
+    match seek(frame, name) {
+        Some(slot) => fields_in(slot),
+        None => None,
+    }
+}
+
+/// The fields of the struct that stands there, where it is one of values.
+fn fields_in<'a>(slot: Slot<'a>) -> Option<&'a Vals>
+    ensures { IfSome result (λ fields. slot_thing slot.entry ≡ plain (struct (values fields.now))) }
+{
+    match slot {
+        Slot::Value(v) => match v {
+            Val::Struct(fields) => Some(fields),
+            _ => None,
+        },
+        Slot::Number(_) | Slot::Row(_) | Slot::Builder(_) => None,
+    }
+}
+
+/// The two numbers of the row that a name stands for, where it stands for a row of two.
 pub fn outer_pair(frame: &Frame, name: Sym) -> Option<(Short, Short)>
     ensures { StandsForPair result name.0 (env_of frame.now) }
 {
@@ -123,11 +150,37 @@ fn argument<'a>(params: &'a Binders, values: &'a Vals, name: Sym) -> Option<&'a 
 }
 
 /// The number in a field of what stands there, where it is looked for.
-#[tactic(auto, using(crate::proofs::Outside::first_of_pair, crate::proofs::Outside::second_of_pair))]
 fn field_in(slot: Slot, field: u32) -> Option<Short>
     ensures { IfSome result (λ n. StandsFor (slot_thing slot.entry) field (view_short n)) }
 {
-    match pair_in(slot) {
+    match slot {
+        Slot::Value(v) => match v {
+            Val::Struct(fields) => number_at(fields, field as usize),
+            _ => None,
+        },
+        Slot::Row(row) => field_of_row(row, field),
+        Slot::Number(_) | Slot::Builder(_) => None,
+    }
+}
+
+/// The number at an index, from 0, where one is there.
+#[tactic(auto, using(crate::proofs::Outside::value_there))]
+fn number_at(fields: &Vals, index: usize) -> Option<Short>
+    ensures { IfSome result (λ n. value_at index (values fields.now) ≡ done (view_short n)) }
+{
+    if index < fields.len() {
+        number_of(fields.at(index))
+    } else {
+        None
+    }
+}
+
+/// The number in a field of a row that is a struct of two.
+#[tactic(auto, using(crate::proofs::Outside::first_of_pair, crate::proofs::Outside::second_of_pair))]
+fn field_of_row(row: &RowAt, field: u32) -> Option<Short>
+    ensures { IfSome result (λ n. StandsFor (plain (row_value row.now)) field (view_short n)) }
+{
+    match row.pair() {
         Some((x, y)) => match field {
             0 => Some(x),
             1 => Some(y),
@@ -137,15 +190,13 @@ fn field_in(slot: Slot, field: u32) -> Option<Short>
     }
 }
 
-/// The two numbers of the struct that stands there, where it is one.
+/// The two numbers of the row that stands there, where it is a row of two.
 fn pair_in(slot: Slot) -> Option<(Short, Short)>
     ensures { IsPairOf result (slot_thing slot.entry) }
 {
     match slot {
         Slot::Row(row) => row.pair(),
-        Slot::Value(v) => pair_of(v),
-        Slot::Number(_) => None,
-        Slot::Builder(_) => None,
+        Slot::Value(_) | Slot::Number(_) | Slot::Builder(_) => None,
     }
 }
 

@@ -1,6 +1,6 @@
 //! Instructions that are run over words. It takes no memory.
 
-ghost use Rattle.std.specs.Prelude.{◌≡◌, true, int_lt, int_le, IfSome};
+ghost use Rattle.std.specs.Prelude.{◌≡◌, ◌+◌, ◌<◌, ℕ, true, int_lt, int_le, IfSome};
 ghost use Rattle.std.specs.Ordering.{int_eq};
 ghost use Rattle.weld_builders.specs.Outcome.{done, map_out, or_fault};
 ghost use Rattle.weld_data.specs.declared.kind.Kind.TheVariants as kinds;
@@ -198,8 +198,9 @@ fn at_least_with(i: usize, y: i64, words: &[i64]) -> Result<bool, Halt>
     }
 }
 
-/// Moves a state to the first places from where it stands; it tells whether the places are there.
+/// Moves a state to the first places from where it stands; it tells whether the places are there. Two fields are moved without a loop.
 #[inline(always)]
+#[tactic(auto, using(crate::proofs::Shapes::words_moved))]
 fn move_state(shape: Shape, first: usize, words: &mut [i64]) -> bool
     ensures { result ≡ true → shape_value shape 0 (shown (words_of words.new))
         ≡ shape_value shape first (shown (words_of words.old)) }
@@ -212,7 +213,7 @@ fn move_state(shape: Shape, first: usize, words: &mut [i64]) -> bool
             words[0] = words[first];
             true
         }
-        Shape::Pair => {
+        Shape::Fields(2) => {
             if words.len() < 2 || first >= words.len() - 1 {
                 return false;
             }
@@ -221,7 +222,23 @@ fn move_state(shape: Shape, first: usize, words: &mut [i64]) -> bool
             words[1] = y;
             true
         }
+        Shape::Fields(count) => move_fields(count as usize, first, words),
     }
+}
+
+/// Moves so many words to the first places, one after another; it tells whether the places are there.
+#[inline(always)]
+fn move_fields(count: usize, first: usize, words: &mut [i64]) -> bool
+    ensures { result ≡ true → (j : ℕ) → j < count → words_of words.new j
+        ≡ words_of words.old (first + j) }
+{
+    if first > words.len() || count > words.len() - first {
+        return false;
+    }
+    for k in 0..count {
+        words[k] = words[first + k];
+    }
+    true
 }
 
 /// One turn: whether to go on; the next state stands in the first places then.

@@ -5,7 +5,7 @@ ghost use Rattle.weld_meaning.specs.Environment.{look_for};
 ghost use Rattle.weld_turns.specs.declared.code.Site.TheVariants as sites;
 ghost use Rattle.weld_turns.specs.Scopes.{view_scope, IsNamedAt, IsNameOf, IsOutsideName, IsStateAt};
 
-use crate::code::{Place, Shape, Site, Spread};
+use crate::code::{MOST_FIELDS, Place, Shape, Site, Spread};
 use weld_tree::{Expr, Form, LeafForm, ManyForm, Sym};
 
 /// The names whose values stand in slots, the newest first.
@@ -47,9 +47,9 @@ pub fn with_name<'a>(name: Sym, place: Place, rest: &'a Scope<'a>) -> Scope<'a>
 
 /// The names with one more, of which fields stand in slots.
 pub fn with_spread<'a>(name: Sym, spread: Spread, rest: &'a Scope<'a>) -> Scope<'a>
-    ensures { view_scope result ≡ (name.0, sites.Parts spread) ∷ view_scope rest.now }
+    ensures { view_scope result ≡ (name.0, sites.Spread spread) ∷ view_scope rest.now }
 {
-    Scope::And(name, Site::Parts(spread), rest)
+    Scope::And(name, Site::Spread(spread), rest)
 }
 
 /// The name that an expression is.
@@ -101,10 +101,19 @@ pub fn outer_name(e: &Expr, scope: &Scope) -> Option<Sym>
     }
 }
 
+/// The shape of a struct of so many fields. Nothing rests on it: where there are too many, no code is made.
+fn shape_for(count: usize) -> Shape {
+    if count <= MOST_FIELDS {
+        Shape::Fields(count as u8)
+    } else {
+        Shape::One
+    }
+}
+
 /// The shape that the value of an expression has by its look. Nothing rests on it: where it has another, no code is made.
 pub fn shape_of(e: &Expr, scope: &Scope) -> Shape {
     match &e.form {
-        Form::Many(ManyForm::Struct, _) => Shape::Pair,
+        Form::Many(ManyForm::Struct, parts) => shape_for(parts.as_slice().len()),
         Form::Let(_, _, body) => shape_of(body, scope),
         Form::Three(_, _, x, _) => shape_of(x, scope),
         _ => match named_place(e, scope) {

@@ -1,6 +1,6 @@
 //! Slots that are read and written. It takes no memory.
 
-ghost use Rattle.std.specs.Prelude.{◌≡◌, true};
+ghost use Rattle.std.specs.Prelude.{◌≡◌, ◌+◌, ◌<◌, ℕ, true};
 ghost use Rattle.weld_builders.specs.Outcome.{done};
 ghost use Rattle.weld_data.specs.Kind.{InRange};
 ghost use Rattle.weld_data.specs.Value.{number};
@@ -53,9 +53,9 @@ pub fn put_in(slots: &mut [Short], to: usize, kind: Kind, word: i64) -> bool
     }
 }
 
-/// Moves a state to the first slots from where it stands; it tells whether the slots are there.
+/// Moves a state to the first slots from where it stands; it tells whether the slots are there. Two fields are moved without a loop.
 #[inline(always)]
-#[tactic(auto, using(crate::proofs::SlotLemmas::one_moved, crate::proofs::SlotLemmas::two_moved))]
+#[tactic(auto, using(crate::proofs::SlotLemmas::one_moved, crate::proofs::SlotLemmas::two_moved, crate::proofs::Shapes::fields_moved))]
 pub fn move_state(shape: Shape, first: usize, slots: &mut [Short]) -> bool
     ensures { result ≡ true → shape_value shape 0 (slots_of slots.new)
         ≡ shape_value shape first (slots_of slots.old) }
@@ -68,7 +68,7 @@ pub fn move_state(shape: Shape, first: usize, slots: &mut [Short]) -> bool
             slots[0] = slots[first];
             true
         }
-        Shape::Pair => {
+        Shape::Fields(2) => {
             if slots.len() < 2 || first >= slots.len() - 1 {
                 return false;
             }
@@ -77,5 +77,21 @@ pub fn move_state(shape: Shape, first: usize, slots: &mut [Short]) -> bool
             slots[1] = y;
             true
         }
+        Shape::Fields(count) => move_fields(count as usize, first, slots),
     }
+}
+
+/// Moves so many numbers to the first slots, one after another; it tells whether the slots are there.
+#[inline(never)]
+fn move_fields(count: usize, first: usize, slots: &mut [Short]) -> bool
+    ensures { result ≡ true → (j : ℕ) → j < count → slots_of slots.new j
+        ≡ slots_of slots.old (first + j) }
+{
+    if first > slots.len() || count > slots.len() - first {
+        return false;
+    }
+    for k in 0..count {
+        slots[k] = slots[first + k];
+    }
+    true
 }

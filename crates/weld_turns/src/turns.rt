@@ -1,25 +1,23 @@
-//! The turns of an `iterate` whose state is a number or a struct of two and whose body is numbers. Its code is made once, before the
+//! The turns of an `iterate` whose state is a number or a struct of numbers and whose body is numbers. Its code is made once, before the
 //! first turn; behind the eighth it goes by instructions on words, where it can be lowered to such. No turn takes memory.
 
-ghost use Rattle.std.specs.Prelude.{◌≡◌, ◌-◌, [], ◌∷◌, true, IfOk, IfSome};
+ghost use Rattle.std.specs.Prelude.{◌≡◌, ◌-◌, ◌<◌, ◌≤◌, ℕ, true, length, slice_get, Some, IfOk, IfSome};
 ghost use Rattle.weld_data.specs.declared.kind.Kind.TheVariants as kinds;
-ghost use Rattle.weld_data.specs.Value.{number};
+ghost use Rattle.weld_data.specs.Value.{number, struct, values};
 ghost use Rattle.weld_data.specs.View.{view_val};
 ghost use Rattle.weld_builders.specs.Outcome.{done};
-ghost use Rattle.weld_built.specs.Pair.{pair};
 ghost use Rattle.weld_eval.specs.Answers.{Answers};
 ghost use Rattle.weld_eval.specs.FrameView.{env_of};
-ghost use Rattle.weld_eval.specs.ShortView.{view_short};
 ghost use Rattle.weld_eval.specs.ThingView.{held_of};
 ghost use Rattle.weld_eval_plain.specs.Nodes.{IsIterate};
 ghost use Rattle.weld_eval_plain.specs.Turns.{turns_from};
 ghost use Rattle.weld_meaning.specs.Evaluation.{turn_limit};
 ghost use Rattle.weld_meaning.specs.Thing.{plain};
-ghost use Rattle.weld_turns.specs.CodeView.{shape_value, slots_of};
+ghost use Rattle.weld_turns.specs.CodeView.{field_values, shape_value, slots_of};
 ghost use Rattle.weld_turns.specs.StepView.{shown, words_of};
 ghost use Rattle.weld_turns.specs.States.{comes_from, Follows, IsState, RunsOn, RunsTo, StepsRunOn};
 
-use crate::code::{Halt, Place, Shape, Turn, Unmade};
+use crate::code::{Halt, MOST_FIELDS, Place, Shape, Turn, Unmade, room};
 use crate::lower::lower;
 use crate::make_turn::make_turn;
 use crate::on_rows::run_all;
@@ -32,7 +30,7 @@ use crate::step::Step;
 use std::alloc::{AllocError, Global};
 use weld_data::{Kind, Stop, Val, Vals};
 use weld_eval::frame::Frame;
-use weld_eval::number::{number_of, pair_of};
+use weld_eval::number::number_of;
 use weld_eval::short::Short;
 use weld_eval::thing::{Held, Owned};
 use weld_tree::{Expr, Form, Sym};
@@ -86,29 +84,52 @@ fn turns_of_body<'a>(
     }
 }
 
-/// Puts a state into the first slots, where it is a number or a struct of two, and tells its shape.
-#[tactic(auto, using(crate::proofs::States::one_put, crate::proofs::States::two_put))]
+/// Puts a state into the first slots, where it is a number or a struct of numbers, and tells its shape.
+#[tactic(auto, using(crate::proofs::States::one_put))]
 fn put_state(start: &Val, slots: &mut [Short]) -> Option<Shape>
     ensures { IfSome result (λ shape. shape_value shape 0 (slots_of slots.new)
         ≡ view_val start.now) }
 {
-    if slots.len() < 2 {
-        return None;
-    }
-    match number_of(start) {
-        Some(n) => {
-            slots[0] = n;
-            Some(Shape::One)
-        }
-        None => match pair_of(start) {
-            Some((x, y)) => {
-                slots[0] = x;
-                slots[1] = y;
-                Some(Shape::Pair)
+    match start {
+        Val::Struct(fields) => put_fields(fields, slots),
+        _ => match number_of(start) {
+            Some(n) if !slots.is_empty() => {
+                slots[0] = n;
+                Some(Shape::One)
             }
-            None => None,
+            _ => None,
         },
     }
+}
+
+/// The same of the fields of a struct, where they are numbers and not too many.
+#[tactic(auto, using(crate::proofs::Shapes::fields_are))]
+fn put_fields(fields: &Vals, slots: &mut [Short]) -> Option<Shape>
+    ensures { IfSome result (λ shape. shape_value shape 0 (slots_of slots.new)
+        ≡ struct (values fields.now)) }
+{
+    let count = fields.len();
+    if count > MOST_FIELDS || !put_numbers(fields, slots) {
+        return None;
+    }
+    Some(Shape::Fields(count as u8))
+}
+
+/// Puts numbers into the first slots; it tells whether all were numbers, and the slots are there.
+fn put_numbers(fields: &Vals, slots: &mut [Short]) -> bool
+    ensures { result ≡ true → (j : ℕ) → j < length fields.now → slice_get fields.now j
+        ≡ Some (slots_of slots.new j) }
+{
+    if fields.len() > slots.len() {
+        return false;
+    }
+    for k in 0..fields.len() {
+        match number_of(fields.at(k)) {
+            Some(n) => slots[k] = n,
+            None => return false,
+        }
+    }
+    true
 }
 
 /// The code of a body in which the name stands for the state.
@@ -124,7 +145,7 @@ fn turn_of_body(
 {
     let none = no_names();
     let scope = with_name(name, Place { shape, first: 0 }, &none);
-    make_turn(body, shape, &scope, 2, frame, alloc)
+    make_turn(body, shape, &scope, room(shape), frame, alloc)
 }
 
 /// The turns, until one says that it is the last: the first ones by the code, those that are left as `run_on` runs them.
@@ -163,7 +184,7 @@ fn run_on<'a>(
     }
     let mut left = MOST_STEPS;
     let whole = of_turn(turn);
-    match lower(&whole, &mut left, alloc) {
+    match lower(&whole, shape, &mut left, alloc) {
         Ok(step) => run_lowered(&step, shape, &mut words, alloc),
         Err(_) => run_code(turn, shape, slots, alloc),
     }
@@ -208,20 +229,29 @@ fn run_lowered<'a>(
 }
 
 /// Puts a state that stands in the first slots into the first words, where its numbers are of kind i64; it tells whether they are.
+#[tactic(auto, using(crate::proofs::Shapes::words_put))]
 fn put_words(shape: Shape, slots: &[Short], words: &mut [i64]) -> bool
     ensures { result ≡ true → shape_value shape 0 (shown (words_of words.new))
         ≡ shape_value shape 0 (slots_of slots.now) }
 {
-    match shape {
-        Shape::One => match word_in_slot(slots, 0) {
-            Some(x) => put_one(x, words),
-            None => false,
-        },
-        Shape::Pair => match (word_in_slot(slots, 0), word_in_slot(slots, 1)) {
-            (Some(x), Some(y)) => put_two(x, y, words),
-            _ => false,
-        },
+    put_all_words(room(shape), slots, words)
+}
+
+/// The same of so many numbers.
+fn put_all_words(count: usize, slots: &[Short], words: &mut [i64]) -> bool
+    ensures { result ≡ true → (j : ℕ) → j < count → slots_of slots.now j
+        ≡ number kinds.I64 (words_of words.new j) }
+{
+    if count > words.len() {
+        return false;
     }
+    for k in 0..count {
+        match word_in_slot(slots, k) {
+            Some(x) => words[k] = x,
+            None => return false,
+        }
+    }
+    true
 }
 
 /// The word of a slot, where the slot is there and its number is of kind i64.
@@ -236,17 +266,6 @@ fn word_in_slot(slots: &[Short], i: usize) -> Option<i64>
         Kind::I64 => Some(n.word),
         _ => None,
     }
-}
-
-/// Puts a word into the first place; it tells whether the place is there.
-fn put_one(x: i64, words: &mut [i64]) -> bool
-    ensures { result ≡ true → words_of words.new 0 ≡ x }
-{
-    if words.is_empty() {
-        return false;
-    }
-    words[0] = x;
-    true
 }
 
 /// Puts two words into the first places; it tells whether the places are there.
@@ -266,45 +285,60 @@ pub(crate) fn put_two(x: i64, y: i64, words: &mut [i64]) -> bool
 fn last_state<'a>(shape: Shape, slots: &[Short], alloc: Global) -> Option<Result<Held<'a>, Stop>>
     ensures { IfSome result (λ r. IsState r shape (slots_of slots.now)) }
 {
-    if slots.len() < 2 {
+    if slots.is_empty() || room(shape) > slots.len() {
         return None;
     }
     match shape {
         Shape::One => Some(Ok(Held::Made(Owned::Value(Val::Num(slots[0].to_num()))))),
-        Shape::Pair => Some(pair_of_two(slots[0], slots[1], alloc)),
+        Shape::Fields(count) => Some(struct_of(count as usize, slots, alloc)),
     }
 }
 
-/// The struct of two numbers.
-fn pair_of_two<'a>(x: Short, y: Short, alloc: Global) -> Result<Held<'a>, Stop>
-    ensures { Answers held_of result (done (plain (pair (view_short x) (view_short y)))) }
+/// The struct of so many numbers that stand in the first slots.
+fn struct_of<'a>(count: usize, slots: &[Short], alloc: Global) -> Result<Held<'a>, Stop>
+    requires { count ≤ length slots.now }
+    ensures { Answers held_of result (done (plain (struct (field_values count 0
+        (slots_of slots.now))))) }
 {
-    match two_fields(x, y, alloc) {
+    match fields_of(count, slots, alloc) {
         Ok(fields) => Ok(Held::Made(Owned::Value(Val::Struct(fields)))),
         Err(_) => Err(Stop::Memory),
     }
 }
 
-/// The list of two numbers.
-fn two_fields(x: Short, y: Short, alloc: Global) -> Result<Vals, AllocError>
-    ensures { IfOk result (λ vs. vs ≡ view_short x ∷ view_short y ∷ []) }
+/// The list of them.
+fn fields_of(count: usize, slots: &[Short], alloc: Global) -> Result<Vals, AllocError>
+    requires { count ≤ length slots.now }
+    ensures { IfOk result (λ vs. values vs ≡ field_values count 0 (slots_of slots.now)) }
 {
-    let mut fields = Vec::new(alloc);
-    fields.push(Val::Num(x.to_num()))?;
-    fields.push(Val::Num(y.to_num()))?;
-    Ok(Vals::from_vec(fields))
+    let mut fields = Vals::new(alloc);
+    for k in 0..count {
+        fields.push(Val::Num(slots[k].to_num()))?;
+    }
+    Ok(fields)
 }
 
 /// The state that stands in the first words, as a value.
 fn last_words<'a>(shape: Shape, words: &[i64], alloc: Global) -> Option<Result<Held<'a>, Stop>>
     ensures { IfSome result (λ r. IsState r shape (shown (words_of words.now))) }
 {
-    if words.len() < 2 {
+    let mut slots = [Short::of_i64(0); SLOTS];
+    if !show_words(room(shape), words, &mut slots) {
         return None;
     }
-    let x = Short::of_i64(words[0]);
-    match shape {
-        Shape::One => Some(Ok(Held::Made(Owned::Value(Val::Num(x.to_num()))))),
-        Shape::Pair => Some(pair_of_two(x, Short::of_i64(words[1]), alloc)),
+    last_state(shape, &slots, alloc)
+}
+
+/// Puts so many words into the first slots, as numbers of kind i64; it tells whether they are there.
+fn show_words(count: usize, words: &[i64], slots: &mut [Short]) -> bool
+    ensures { result ≡ true → (j : ℕ) → j < count → slots_of slots.new j
+        ≡ number kinds.I64 (words_of words.now j) }
+{
+    if count > slots.len() || count > words.len() {
+        return false;
     }
+    for k in 0..count {
+        slots[k] = Short::of_i64(words[k]);
+    }
+    true
 }

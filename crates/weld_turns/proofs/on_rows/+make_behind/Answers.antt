@@ -16,7 +16,7 @@ pub make_behind-requires-in-Fields : goal.make_behind-requires-in-Fields
 make_behind-requires-in-Fields t c = (
   omega (arith, c.decreases, c.if-i-names.false),
   (
-    site_below (view_scope c.args.scope.now) (view_scope c.with_spread-inner.result) _ c.args.at (c.args.at + c.in-Fields.fields) _ (omega arith) (omega arith) c.requires.below c.with_spread-inner.ensures,
+    site_below (view_scope c.args.scope.now) (view_scope c.with_spread-inner.result) _ c.args.at (c.args.at + c.in-Fields.count) _ (omega arith) (omega arith) c.requires.below c.with_spread-inner.ensures,
     omega (arith, c.requires.state),
   ),
 )

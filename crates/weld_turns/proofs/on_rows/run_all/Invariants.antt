@@ -10,4 +10,4 @@ use Rattle.weld_turns.proofs.on_rows.run_all.Given as goal
 -- the turns that are left from the state make the whole
 
 abbrev pub invariant-loop-turn : goal.invariant-loop-turn
-invariant-loop-turn l = (g : Value → Outcome Value) → IsFollowedWith l.step l.shape l.names g → turns (turn_limit - l.from) (shape_value l.shape 0 (shown (words_of l.initial.words))) g ≡ turns (turn_limit - l._turn) (shape_value l.shape 0 (shown (words_of l.words))) g
+invariant-loop-turn l = (g : Value → Outcome Value) → IsFollowedWith l.step l.shape l.row g → turns (turn_limit - l.from) (shape_value l.shape 0 (shown (words_of l.initial.words))) g ≡ turns (turn_limit - l._turn) (shape_value l.shape 0 (shown (words_of l.words))) g
