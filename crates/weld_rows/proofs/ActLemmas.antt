@@ -33,7 +33,7 @@ use Rattle.weld_tree.specs.ExprFalls.{expr_nodes, exprs_nodes}
 use Rattle.weld_acts.specs.ActFits.{ActFits, ActsFit}
 use Rattle.weld_acts.specs.Ranges.{HoldsRange, range_over}
 use Rattle.weld_acts.proofs.Direct.{direct_value}
-use Rattle.weld_acts.proofs.Children.{merge_item_fits, merge_item_direct, choice_then, choice_otherwise, let_is, loop_holds, loop_is}
+use Rattle.weld_acts.proofs.Children.{merge_item_fits, merge_item_direct, choice_then, choice_otherwise, let_is, loop_holds, loop_is, loop_part_faults}
 use Rattle.weld_eval_plain.proofs.Nodes.{let_value_fits}
 use Rattle.weld_eval_plain.proofs.Rows.{legs_there}
 use Rattle.weld_eval_forms.specs.Legs.{leg_lists}
@@ -167,6 +167,17 @@ pub act_over_gives : {T : Type 0} (r : Result T Stop) (a : At) (ls : LegTrees) (
     → LegsAre m env lists → RowsAnswer (Ok count) lists → act e env s ≡ done t → Acts r (range_over m env lists 0 count t) u → Acts r (act m env s) u
 act_over_gives r a ls e b n x f env m s t u lists count is h q p v k =
     act_over_is r a ls e b n x f env m s t u lists (forms_rows lists) count is h (subst (λ l. LegsAre l env lists) is q) p.0 p.1 v k
+
+pub lone_act_ready : (a : At) (ls : LegTrees) (e : ExprTree) (b n x : Binder) (f : ExprTree) (env : Env) (m : ExprTree) (s t : Thing) (vs : List Value) → m ≡ loop a ls e b n x f → ActFits m env s
+    → LegsAre m env (vs ∷ []) → act e env s ≡ done t → HoldsRange m env (vs ∷ []) 0 (length vs) t
+lone_act_ready a ls e b n x f env m s t vs is h q u = act_over_holds a ls e b n x f env m s t (vs ∷ []) vs (length vs) is h (subst (λ k. LegsAre k env (vs ∷ [])) is q) refl refl u
+
+pub lone_act_gives : {T : Type 0} (r : Result T Stop) (a : At) (ls : LegTrees) (e : ExprTree) (b n x : Binder) (f : ExprTree) (env : Env) (m : ExprTree) (s t u : Thing) (vs : List Value) → m ≡ loop a ls e b n x f → ActFits m env s
+    → LegsAre m env (vs ∷ []) → act e env s ≡ done t → Acts r (range_over m env (vs ∷ []) 0 (length vs) t) u → Acts r (act m env s) u
+lone_act_gives r a ls e b n x f env m s t u vs is h q v k = act_over_is r a ls e b n x f env m s t u (vs ∷ []) vs (length vs) is h (subst (λ l. LegsAre l env (vs ∷ [])) is q) refl refl v k
+
+pub lone_act_faults : (a : At) (ls : LegTrees) (e : ExprTree) (b n x : Binder) (f : ExprTree) (env : Env) (m : ExprTree) (s : Thing) (vs : List Value) → m ≡ loop a ls e b n x f → LegsAre m env (vs ∷ []) → act e env s ≡ fault → act m env s ≡ fault
+lone_act_faults a ls e b n x f env m s vs is q u = loop_part_faults a ls e b n x f env m s (vs ∷ []) vs is (subst (λ k. LegsAre k env (vs ∷ [])) is q) refl u
 
 -- ---- fields
 

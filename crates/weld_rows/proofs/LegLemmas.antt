@@ -1,13 +1,20 @@
 -- What is known of a loop that is run is known of its legs.
-use Rattle.std.proofs.Common.{◌≡◌, Bool, ℕ, ◌+◌, ◌<◌, ◌≤◌, List, [], ◌∷◌, zero, suc, length, drop, map, get_or, sym, subst, arith}
+use Rattle.std.proofs.Common.{◌≡◌, Bool, ℕ, ◌+◌, ◌<◌, ◌≤◌, List, [], ◌∷◌, zero, suc, length, drop, map, get_or, Option, Some, None, sym, ap, ◌∙◌, subst, arith}
+use Rattle.std.specs.Borrow.{Bor}
+use Rattle.weld_data.specs.declared.value.Column.{Column}
+use Rattle.weld_data.specs.Value.{Value, list_of_values-values}
+use Rattle.weld_data.specs.View.{view_column}
 use Rattle.weld_tree.specs.declared.expr.Leg.{Leg}
 use Rattle.weld_tree.specs.ExprFalls.{leg_nodes, legs_nodes}
 use Rattle.weld_tree.specs.ExprTree.{ExprTree, LegTree, whole, strided, pack_legs}
 use Rattle.weld_tree.specs.ExprView.{view_leg}
-use Rattle.weld_meaning.specs.Evaluation.{Env}
+use Rattle.weld_builders.specs.Outcome.{done, and_then, map_out}
+use Rattle.weld_meaning.specs.Evaluation.{Env, eval, eval_legs, value_out, elements_of}
+use Rattle.weld_eval.specs.Fit.{IsFit, LegsAreFit}
 use Rattle.weld_eval_plain.proofs.Legs.{whole_fits, vector_fits, start_fits, end_fits, stride_fits}
 use Rattle.weld_eval_plain.proofs.Parts.{leg_fits, legs_rest_fit}
 use Rattle.weld_acts.proofs.Direct.{direct_leg_at, direct_legs_after, direct_whole, direct_vector, direct_start, direct_end, direct_stride}
+use Rattle.weld_rows.specs.Lent.{LendsVector, LendsLeg}
 use Rattle.weld_rows.specs.Runs.{Runs, LegRuns, LegsRun}
 
 pub leg_runs : {d : Bool} (ls : List Leg) (env : Env) (i : ℕ) (l : Leg) → i < length ls → l ≡ get_or ls i l → LegsRun d (pack_legs (map view_leg (drop i ls))) env → LegRuns d (view_leg l) env
@@ -43,3 +50,23 @@ leg_less ls ms i l same h is =
     let r : leg_nodes (view_leg (get_or ls i l)) ≤ legs_nodes (pack_legs (map view_leg ls)) = under ls i l h in
     let s : leg_nodes (view_leg l) ≤ legs_nodes (pack_legs (map view_leg ls)) = subst (λ d. leg_nodes (view_leg d) ≤ legs_nodes (pack_legs (map view_leg ls))) (sym is) r in
     subst (λ k. leg_nodes (view_leg l) ≤ legs_nodes (pack_legs k)) same s
+
+-- ---- one leg alone
+
+only : (ls : List Leg) (l : Leg) → length ls ≡ 1 → l ≡ get_or ls 0 l → ls ≡ l ∷ []
+only [] l one is = absurd (omega (arith, one))
+only (k ∷ []) l one is = ap (λ m. m ∷ []) (sym is)
+only (k ∷ m ∷ ls) l one is = absurd (omega (arith, one))
+
+pub lone_fits : (ls : List Leg) (e : ExprTree) (env : Env) (l : Leg) → length ls ≡ 1 → l ≡ get_or ls 0 l → view_leg l ≡ whole e → LegsAreFit (pack_legs (map view_leg ls)) env → IsFit e env
+lone_fits ls e env l one at is h = whole_fits e env (view_leg l) is (leg_fits ls env 0 l (omega (arith, one)) at h)
+
+lone_is : (ls : List Leg) (e : ExprTree) (env : Env) (l : Leg) (vs : List Value) → length ls ≡ 1 → l ≡ get_or ls 0 l → view_leg l ≡ whole e → and_then (value_out (eval e env)) elements_of ≡ done vs → eval_legs (pack_legs (map view_leg ls)) env ≡ done (vs ∷ [])
+lone_is ls e env l vs one at is q =
+    ap (λ k. eval_legs (pack_legs (map view_leg k)) env) (only ls l one at)
+    ∙ ap (λ m. eval_legs (pack_legs (m ∷ [])) env) is
+    ∙ ap (λ o. and_then o (λ us. map_out (λ rest. us ∷ rest) (eval_legs (pack_legs []) env))) q
+
+pub lone_lends : (r : Option (Bor Column)) (ls : List Leg) (e : ExprTree) (env : Env) (l : Leg) → length ls ≡ 1 → l ≡ get_or ls 0 l → view_leg l ≡ whole e → LendsVector r (eval e env) → LendsLeg r (eval_legs (pack_legs (map view_leg ls)) env)
+lone_lends None ls e env l one at is h = tt
+lone_lends (Some c) ls e env l one at is h = lone_is ls e env l (view_column c.now) one at is (ap (λ o. and_then (value_out o) elements_of) h ∙ ap done (list_of_values-values (view_column c.now)))

@@ -7,4 +7,5 @@ mod Numbers
 mod Parts
 mod RangeSteps
 mod ReadLemmas
+mod Results
 mod Values

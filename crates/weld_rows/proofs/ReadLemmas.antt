@@ -9,6 +9,9 @@ use Rattle.weld_meaning.specs.Evaluation.{Env, eval, one_thing, found}
 use Rattle.weld_eval.specs.Fit.{IsFit}
 use Rattle.weld_eval.specs.Takes.{OneTakes}
 use Rattle.weld_eval_plain.proofs.Nodes.{part_fits, part_takes, leaf_takes}
+use Rattle.std.specs.Borrow.{Bor}
+use Rattle.weld_data.specs.declared.value.Column.{Column}
+use Rattle.weld_rows.specs.Lent.{LendsVector}
 use Rattle.weld_rows.specs.Numbers.{IsName, ReadsPair}
 use Rattle.weld_eval.specs.declared.short.Short.{Short}
 
@@ -39,3 +42,6 @@ alone_there s e env same h = let l = leaf_name e s same in leaf_takes l.0 (name 
 
 pub alone_reads : (r : Option (Short × Short)) (s : ℕ) (e : ExprTree) (env : Env) (x : Thing) → IsName e s → look_for s env ≡ Some x → ReadsPair r (done x) → ReadsPair r (eval e env)
 alone_reads r s e env x same q h = subst (λ o. ReadsPair r o) (sym (name_is s e env x same q)) h
+
+pub alone_lends : (r : Option (Bor Column)) (s : ℕ) (e : ExprTree) (env : Env) (x : Thing) → IsName e s → look_for s env ≡ Some x → LendsVector r (done x) → LendsVector r (eval e env)
+alone_lends r s e env x same q h = subst (λ o. LendsVector r o) (sym (name_is s e env x same q)) h

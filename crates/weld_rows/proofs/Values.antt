@@ -7,7 +7,7 @@ use Rattle.weld_tree.specs.ExprTree.{ExprTree, At, leaf, one, two, three, many, 
 use Rattle.weld_builders.specs.Outcome.{Outcome, done, fault, stuck, and_then, map_out}
 use Rattle.weld_meaning.specs.Thing.{Thing}
 use Rattle.weld_meaning.specs.Evaluation.{Env, eval, eval_leg, eval_legs, rows_of, run, number_from}
-use Rattle.weld_eval.specs.Fit.{IsFit}
+use Rattle.weld_eval.specs.Fit.{IsFit, LegsAreFit}
 use Rattle.weld_eval.specs.Takes.{OneTakes, row_of}
 use Rattle.weld_data.specs.declared.stop.Stop.{Stop}
 use Rattle.weld_eval.specs.Answers.{Answers}
@@ -145,6 +145,47 @@ pub over_gives : {T : Type 0} (view : T → Thing) (r : Result T Stop) (a : At) 
     → m ≡ loop a ls e b n x f → LegsAre m env lists → RowsAnswer (Ok count) lists → eval e env ≡ done s → Answers view r (range_over m env lists 0 count s) → Answers view r (eval m env)
 over_gives view r a ls e b n x f env m lists count s is q p u k =
     subst (Answers view r) (sym (over_is a ls e b n x f env m lists (forms_rows lists) count s is (subst (λ l. LegsAre l env lists) is q) p.0 p.1 u)) k
+
+-- ---- one leg that is lent
+
+pub legs_fit : {d : Bool} (a : At) (ls : LegTrees) (e : ExprTree) (b n x : Binder) (f : ExprTree) (env : Env) (m : ExprTree) → m ≡ loop a ls e b n x f → Runs d m env → LegsAreFit ls env
+legs_fit a ls e b n x f env m is h = loop_legs_fit a ls e b n x f env m is h.fit
+
+pub legs_act_fit : (a : At) (ls : LegTrees) (e : ExprTree) (b n x : Binder) (f : ExprTree) (env : Env) (m : ExprTree) (s : Thing) → m ≡ loop a ls e b n x f → ActFits m env s → LegsAreFit ls env
+legs_act_fit a ls e b n x f env m s is h = loop_legs_fit a ls e b n x f env m is h.fit
+
+pub lone_less : (a : At) (ls : LegTrees) (e : ExprTree) (b n x : Binder) (f : ExprTree) (m : ExprTree) → m ≡ loop a ls e b n x f → 64 * body_nodes m + 42 < 64 * expr_nodes m
+lone_less a ls e b n x f m is = let one = expr_some e in subst (λ k. 64 * body_nodes k + 42 < 64 * expr_nodes k) (sym is) (omega arith)
+
+pub lone_ready : {d : Bool} (a : At) (ls : LegTrees) (e : ExprTree) (b n x : Binder) (f : ExprTree) (env : Env) (m : ExprTree) (vs : List Value) (s : Thing)
+    → m ≡ loop a ls e b n x f → Runs d m env → LegsAre m env (vs ∷ []) → eval e env ≡ done s → HoldsRange m env (vs ∷ []) 0 (length vs) s
+lone_ready a ls e b n x f env m vs s is h q u = over_holds a ls e b n x f env m (vs ∷ []) vs (length vs) s is h.fit (subst (λ k. LegsAre k env (vs ∷ [])) is q) refl refl u
+
+lone_is : (a : At) (ls : LegTrees) (e : ExprTree) (b n x : Binder) (f : ExprTree) (env : Env) (m : ExprTree) (vs : List Value) (s : Thing)
+    → m ≡ loop a ls e b n x f → LegsAre m env (vs ∷ []) → eval e env ≡ done s → eval m env ≡ range_over m env (vs ∷ []) 0 (length vs) s
+lone_is a ls e b n x f env m vs s is q u = over_is a ls e b n x f env m (vs ∷ []) vs (length vs) s is (subst (λ k. LegsAre k env (vs ∷ [])) is q) refl refl u
+
+pub lone_gives : {T : Type 0} (view : T → Thing) (r : Result T Stop) (a : At) (ls : LegTrees) (e : ExprTree) (b n x : Binder) (f : ExprTree) (env : Env) (m : ExprTree) (vs : List Value) (s : Thing)
+    → m ≡ loop a ls e b n x f → LegsAre m env (vs ∷ []) → eval e env ≡ done s → Answers view r (range_over m env (vs ∷ []) 0 (length vs) s) → Answers view r (eval m env)
+lone_gives view r a ls e b n x f env m vs s is q u k = subst (Answers view r) (sym (lone_is a ls e b n x f env m vs s is q u)) k
+
+pub lone_start_faults : (a : At) (ls : LegTrees) (e : ExprTree) (b n x : Binder) (f : ExprTree) (env : Env) (m : ExprTree) (vs : List Value) → m ≡ loop a ls e b n x f → LegsAre m env (vs ∷ []) → eval e env ≡ fault → eval m env ≡ fault
+lone_start_faults a ls e b n x f env m vs is q u = over_start_faults a ls e b n x f env m (vs ∷ []) vs is (subst (λ k. LegsAre k env (vs ∷ [])) is q) refl u
+
+pub start_fits : {d : Bool} (a : At) (ls : LegTrees) (e : ExprTree) (b n x : Binder) (f : ExprTree) (env : Env) (m : ExprTree) → m ≡ loop a ls e b n x f → Runs d m env → IsFit e env
+start_fits a ls e b n x f env m is h = loop_builder_fits a ls e b n x f env m is h.fit
+
+pub lone_starts : {d : Bool} (a : At) (ls : LegTrees) (e : ExprTree) (b n x : Binder) (f : ExprTree) (env : Env) (m : ExprTree) (vs : List Value) (s : Thing)
+    → m ≡ loop a ls e b n x f → Runs d m env → eval_legs ls env ≡ done (vs ∷ []) → eval e env ≡ done s → HoldsRange m env (vs ∷ []) 0 (length vs) s
+lone_starts a ls e b n x f env m vs s is h q u = lone_ready a ls e b n x f env m vs s is h (subst (λ k. LegsAre k env (vs ∷ [])) (sym is) q) u
+
+pub lone_done : (a : At) (ls : LegTrees) (e : ExprTree) (b n x : Binder) (f : ExprTree) (env : Env) (m : ExprTree) (vs : List Value) (s t : Thing)
+    → m ≡ loop a ls e b n x f → eval_legs ls env ≡ done (vs ∷ []) → eval e env ≡ done s → range_over m env (vs ∷ []) 0 (length vs) s ≡ done t → eval m env ≡ done t
+lone_done a ls e b n x f env m vs s t is q u r = lone_is a ls e b n x f env m vs s is (subst (λ k. LegsAre k env (vs ∷ [])) (sym is) q) u ∙ r
+
+pub lone_faults : (a : At) (ls : LegTrees) (e : ExprTree) (b n x : Binder) (f : ExprTree) (env : Env) (m : ExprTree) (vs : List Value) (s : Thing)
+    → m ≡ loop a ls e b n x f → eval_legs ls env ≡ done (vs ∷ []) → eval e env ≡ done s → range_over m env (vs ∷ []) 0 (length vs) s ≡ fault → eval m env ≡ fault
+lone_faults a ls e b n x f env m vs s is q u r = lone_is a ls e b n x f env m vs s is (subst (λ k. LegsAre k env (vs ∷ [])) (sym is) q) u ∙ r
 
 -- ---- links of legs
 

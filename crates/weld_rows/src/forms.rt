@@ -15,8 +15,8 @@ ghost use Rattle.weld_eval_forms.specs.Legs.{elements_in, IsVector};
 ghost use Rattle.weld_eval_plain.specs.Nodes.{decided};
 ghost use Rattle.weld_eval.specs.Answers.{Answers};
 ghost use Rattle.weld_deeds.specs.Puts.{IsWrittenPair};
-ghost use Rattle.weld_tree.specs.ExprTree.{binary};
-ghost use Rattle.weld_rows.specs.Numbers.{IsBinaryForm, number_thing, numeric, numeric_leaf, numeric_one, numeric_two, IsOnNumber, IsNumberThing};
+ghost use Rattle.weld_tree.specs.ExprTree.{binary, finish};
+ghost use Rattle.weld_rows.specs.Numbers.{IsBinaryForm, TriesNumber, number_thing, numeric, numeric_leaf, numeric_one, numeric_two, IsOnNumber, IsNumberThing};
 
 use std::alloc::Global;
 use weld_blocks::scalar::{cast, contrary, negated};
@@ -104,6 +104,32 @@ pub(crate) fn number_in(x: Held) -> Short
         None => unreachable!(),
     }
 }
+
+/// The result of a builder, where it is a number.
+#[tactic(auto, using(crate::proofs::Results::has_result))]
+#[inline(always)]
+pub(crate) fn number_finished(builder: Owned, alloc: Global) -> Result<Option<Short>, Stop>
+    requires { OneTakes finish (thing_of builder) }
+    ensures { TriesNumber result (one_thing finish (thing_of builder)) }
+{
+    match builder {
+        Owned::Built(built) => match built.finish(alloc) {
+            Ok(v) => {
+                let number = number_of(&v);
+                let_value_go(v);
+                Ok(number)
+            }
+            Err(_) => Err(Stop::Memory),
+        },
+        other => {
+            let_go(other);
+            Ok(None)
+        }
+    }
+}
+
+/// Lets a value go.
+fn let_value_go(_value: Val) {}
 
 /// A thing as one that was made.
 pub(crate) fn made<'a, 'b>(held: Held<'b>, alloc: Global) -> Result<Held<'a>, Stop>

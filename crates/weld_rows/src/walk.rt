@@ -6,6 +6,7 @@
 mod acts;
 mod appended;
 mod legs;
+mod lent;
 mod numbers;
 mod rows;
 mod turns;

@@ -16,10 +16,11 @@ ghost use Rattle.weld_rows.specs.Runs.{Runs};
 ghost use Rattle.weld_tree.specs.ExprTree.{pack_exprs};
 
 use super::legs::eval_legs;
+use super::lent::{act_on, total};
 use super::numbers::{number, unread};
 use super::values::{reach, value};
 use crate::forms::{discard, is_numeric, is_pair, no_legs, with_number};
-use crate::reads::{leaf_number, leaf_pair};
+use crate::reads::{leaf_number, leaf_pair, lent_leg};
 use std::alloc::Global;
 use weld_blocks::scalar::truth_of;
 use weld_data::Stop;
@@ -98,7 +99,7 @@ fn put(item: &Expr, frame: &Frame, builder: &mut Owned, alloc: Global) -> Result
     }
 }
 
-/// The number that an expression comes to, where it is one by its looks or is read at once.
+/// The number that an expression comes to, where it is one by its looks, is read at once, or is a sum over a vector that is lent.
 #[cycle(rows)]
 #[tactic(auto, using(crate::proofs::Numbers::numeric_runs))]
 #[inline(always)]
@@ -115,7 +116,7 @@ pub(super) fn tried(e: &Expr, frame: &Frame, alloc: Global) -> Result<Option<Sho
                     Err(stop) => Err(stop),
                 }
             } else {
-                Ok(None)
+                total(e, frame, true, alloc)
             }
         }
     }
@@ -267,10 +268,28 @@ fn act_let_value(e: &Expr, frame: &Frame, builder: &mut Owned, alloc: Global) ->
     }
 }
 
-/// A loop over the same builder, which goes on in it.
+/// A loop over the same builder, which goes on in it: over a vector that is lent, or over legs that are evaluated.
+#[cycle(rows)]
+#[tactic(auto, using(crate::proofs::Values::legs_act_fit))]
+fn act_loop(e: &Expr, frame: &Frame, builder: &mut Owned, alloc: Global) -> Result<(), Stop>
+    requires acts { ActFits e.now (env_of frame.now) (thing_of builder.old) }
+    requires form { IsLoop e.now }
+    ensures { Acts result (act_of e.now (env_of frame.now) (thing_of builder.old))
+        (thing_of builder.new) }
+{
+    match &e.form {
+        Form::For(legs, _, _, _, _, _) => match lent_leg(legs, &*frame) {
+            Some(column) => act_on(e, frame, column, builder, alloc),
+            None => act_legs(e, frame, builder, alloc),
+        },
+        _ => unreachable!(),
+    }
+}
+
+/// A loop over the same builder: its legs, then its rows.
 #[cycle(rows)]
 #[tactic(auto, using(crate::proofs::Values::loop_legs_acts, weld_acts::proofs::Children::loop_legs_fault))]
-fn act_loop(e: &Expr, frame: &Frame, builder: &mut Owned, alloc: Global) -> Result<(), Stop>
+fn act_legs(e: &Expr, frame: &Frame, builder: &mut Owned, alloc: Global) -> Result<(), Stop>
     requires acts { ActFits e.now (env_of frame.now) (thing_of builder.old) }
     requires form { IsLoop e.now }
     ensures { Acts result (act_of e.now (env_of frame.now) (thing_of builder.old))

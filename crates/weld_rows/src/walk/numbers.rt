@@ -7,6 +7,7 @@ ghost use Rattle.weld_meaning.specs.Evaluation.{eval as eval_of};
 ghost use Rattle.weld_rows.specs.Numbers.{number_thing, AnswersKind, IsBinary, IsNumberForm};
 ghost use Rattle.weld_rows.specs.Runs.{RunsNumber, IsSelect};
 
+use super::lent::total;
 use super::values::other;
 use crate::forms::{decides, number_in, one_number, operator_of};
 use crate::reads::leaf_number;
@@ -201,10 +202,24 @@ fn on_number(e: &Expr, frame: &Frame, in_place: bool, alloc: Global) -> Result<S
     }
 }
 
+/// A number that is the sum over a vector that is lent, or in a value.
+#[cycle(rows)]
+#[tactic(auto, using(crate::proofs::Numbers::number_runs))]
+fn in_value(e: &Expr, frame: &Frame, in_place: bool, alloc: Global) -> Result<Short, Stop>
+    requires { RunsNumber in_place e.now (env_of frame.now) }
+    ensures { Answers number_thing result (eval_of e.now (env_of frame.now)) }
+{
+    match total(e, frame, in_place, alloc) {
+        Ok(Some(n)) => Ok(n),
+        Ok(None) => in_other(e, frame, in_place, alloc),
+        Err(stop) => Err(stop),
+    }
+}
+
 /// A number that is in a value.
 #[cycle(rows)]
 #[tactic(auto, using(crate::proofs::Numbers::number_runs, crate::proofs::Numbers::number_given))]
-fn in_value(e: &Expr, frame: &Frame, in_place: bool, alloc: Global) -> Result<Short, Stop>
+fn in_other(e: &Expr, frame: &Frame, in_place: bool, alloc: Global) -> Result<Short, Stop>
     requires { RunsNumber in_place e.now (env_of frame.now) }
     ensures { Answers number_thing result (eval_of e.now (env_of frame.now)) }
 {

@@ -17,11 +17,12 @@ ghost use Rattle.weld_rows.specs.Runs.{Runs, RunsNumber, AllRun};
 ghost use Rattle.weld_tree.specs.ExprTree.{pack_exprs};
 
 use super::legs::eval_legs;
+use super::lent::value_on;
 use super::numbers::{either, number, unread};
 use super::rows::hand_through;
 use super::turns::value_of_iterate;
 use crate::forms::{column_of, discard, is_numeric, link, made, no_legs};
-use crate::reads::lent_field;
+use crate::reads::{lent_field, lent_leg};
 use std::alloc::Global;
 use weld_blocks::scalar::truth_of;
 use weld_data::Stop;
@@ -121,12 +122,30 @@ fn value_of_one<'a>(
     match &e.form {
         Form::One(form, part) => match lent_field(e, frame) {
             Some(x) => Ok(x),
-            None => match value(part, frame, in_place, alloc) {
+            None => match part_value(part, frame, in_place, alloc) {
                 Ok(x) => one(form, x, alloc),
                 Err(stop) => Err(stop),
             },
         },
         _ => unreachable!(),
+    }
+}
+
+/// The part of such a form: a loop, whose result is wanted most often, is looked for first.
+#[cycle(rows)]
+#[inline(always)]
+fn part_value<'a>(
+    e: &Expr,
+    frame: &'a Frame<'a>,
+    in_place: bool,
+    alloc: Global,
+) -> Result<Held<'a>, Stop>
+    requires { Runs in_place e.now (env_of frame.now) }
+    ensures { Answers held_of result (eval_of e.now (env_of frame.now)) }
+{
+    match &e.form {
+        Form::For(_, _, _, _, _, _) => value_of_loop(e, frame, in_place, alloc),
+        _ => value(e, frame, in_place, alloc),
     }
 }
 
@@ -323,11 +342,33 @@ fn value_of_let<'a>(
     }
 }
 
+/// A loop: over a vector that is lent, or over legs that are evaluated.
+#[cycle(rows)]
+#[tactic(auto, using(crate::proofs::Values::legs_fit))]
+fn value_of_loop<'a>(
+    e: &Expr,
+    frame: &'a Frame<'a>,
+    in_place: bool,
+    alloc: Global,
+) -> Result<Held<'a>, Stop>
+    requires runs { Runs in_place e.now (env_of frame.now) }
+    requires form { IsLoop e.now }
+    ensures { Answers held_of result (eval_of e.now (env_of frame.now)) }
+{
+    match &e.form {
+        Form::For(legs, _, _, _, _, _) => match lent_leg(legs, frame) {
+            Some(column) => value_on(e, frame, column, in_place, alloc),
+            None => value_of_legs(e, frame, in_place, alloc),
+        },
+        _ => unreachable!(),
+    }
+}
+
 /// A loop: its legs, then its builder, then its rows.
 #[cycle(rows)]
 #[tactic(auto, using(crate::proofs::Values::loop_legs_run, weld_eval_plain::proofs::Rows::loop_legs_fault))]
 #[inline(never)]
-fn value_of_loop<'a>(
+fn value_of_legs<'a>(
     e: &Expr,
     frame: &'a Frame<'a>,
     in_place: bool,

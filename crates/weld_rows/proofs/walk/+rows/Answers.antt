@@ -9,6 +9,7 @@ use Rattle.weld_tree.specs.ExprFalls.{expr_nodes}
 use Rattle.weld_tree.specs.ExprTree.{Two, one, two, three, many, let_in, loop, iterate, whole, strided, pack_exprs, pack_legs}
 use Rattle.weld_tree.specs.ExprView.{view_form, view_one, view_two, view_three, view_many, view_leg}
 use Rattle.weld_tree.specs.declared.expr.Form.{Form}
+use Rattle.weld_tree.specs.declared.expr.OneForm.{OneForm}
 use Rattle.weld_builders.specs.Outcome.{done}
 use Rattle.weld_meaning.specs.Thing.{plain, bare_thing, more_things, fields_of}
 use Rattle.weld_meaning.specs.Evaluation.{Env, eval, eval_leg, whole_number}
@@ -21,6 +22,8 @@ use Rattle.weld_eval.specs.ThingView.{thing_of, things_of, held_of}
 use Rattle.weld_eval_forms.specs.FormTakes.{all_of}
 use Rattle.weld_eval_forms.specs.Legs.{elements_in, leg_lists, AreVectors}
 use Rattle.weld_eval.specs.Fit.{IsFit}
+use Rattle.weld_eval.specs.Takes.{OneTakes}
+use Rattle.weld_eval_plain.specs.Nodes.{IsLoop}
 use Rattle.weld_eval_plain.specs.Rows.{BodyAnswer, Joins}
 use Rattle.weld_eval_plain.proofs.Legs.{whole_is_vector, vector_is, start_is, end_is, stride_is, start_faults, end_faults, stride_faults}
 use Rattle.weld_eval_plain.proofs.Rows.{row_body_fits}
@@ -38,8 +41,8 @@ use Rattle.weld_rows.specs.Runs.{Runs}
 use Rattle.weld_rows.proofs.Choosing.{selection_condition_runs, selection_then_runs, selection_otherwise_runs, selection_is_truth}
 use Rattle.weld_rows.proofs.Parts.{turn_runs, part_runs_at, rest_runs, part_less}
 use Rattle.weld_rows.proofs.Numbers.{numeric_runs, either_runs, number_given, either_first, either_second, either_truth, left_runs, right_runs, binary_form, binary_answers, are_operands, choice_condition_runs, choice_is_truth, value_condition_runs, value_is_truth, then_runs, otherwise_runs, on_part_runs, on_takes}
-use Rattle.weld_rows.proofs.Values.{part_run_takes, let_body_runs, over_count, over_ready, as_many, reach_less, linked, all_linked, expr_some}
-use Rattle.weld_rows.proofs.ActLemmas.{item_runs, act_over_count, act_over_ready, fields_fewer, fields_end, some_left, several_there, reads_some, choice_runs, choice_truth, pair_item_stops}
+use Rattle.weld_rows.proofs.Values.{part_run_takes, let_body_runs, over_count, over_ready, as_many, reach_less, linked, all_linked, expr_some, part_runs, lone_less, lone_ready, lone_starts, lone_done}
+use Rattle.weld_rows.proofs.ActLemmas.{item_runs, act_over_count, act_over_ready, lone_act_ready, fields_fewer, fields_end, some_left, several_there, reads_some, choice_runs, choice_truth, pair_item_stops}
 use Rattle.weld_deeds.proofs.Merges.{item_puts, put_number_item, put_plain, put_is, pair_is}
 use Rattle.weld_built.specs.Pair.{pair}
 use Rattle.weld_rows.proofs.RangeSteps.{row_names, row_names_bare, row_same, append_start, range_holds, range_append_stops, range_next, range_start, range_there, range_row_acts, range_act_stops, range_act_next, range_part, range_part_next, range_part_stops}
@@ -48,8 +51,8 @@ use Rattle.weld_rows.proofs.walk.+rows.Goals as goal
 pub values::value_of_one-one-requires : goal.values::value_of_one-one-requires
 values::value_of_one-one-requires t c = part_run_takes _ _ c.deref.result.now (env_of c.args.frame.now) c.args.e.now (held_of c.in-Ok.x) (sym c.e.view_is ∙ ap (λ (f : Form). view_form f (record { place = c.e.inside.place; ty = c.e.inside.ty })) c.in-One.is ∙ (λ i. one (record { place = c.e.inside.place; ty = c.e.inside.ty }) (view_one c.in-One.form) (sym c.deref.ensures i))) c.requires.runs c.in-Ok.ensures
 
-pub numbers::in_value-number_in-requires : goal.numbers::in_value-number_in-requires
-numbers::in_value-number_in-requires t c = number_given c.args.e.now (env_of c.args.frame.now) (held_of c.in-Ok.x) c.requires c.in-Ok.ensures
+pub numbers::in_other-number_in-requires : goal.numbers::in_other-number_in-requires
+numbers::in_other-number_in-requires t c = number_given c.args.e.now (env_of c.args.frame.now) (held_of c.in-Ok.x) c.requires c.in-Ok.ensures
 
 pub acts::tried-unread-requires : goal.acts::tried-unread-requires
 acts::tried-unread-requires t c = let p : numeric c.args.e.now ≡ true = cc in (omega arith, numeric_runs c.args.e.now (env_of c.args.frame.now) p c.requires)
@@ -491,3 +494,36 @@ appended::append_rows-returns-in-Err t c = range_append_stops (Unit {0}) (Unit {
 
 pub appended::append_rows-loop-number-preserved : goal.appended::append_rows-loop-number-preserved
 appended::append_rows-loop-number-preserved t c = range_next c.args.e.now (env_of c.args.frame.now) (lists_of c.args.legs.now) c.args.from c.args.to _ _ c.loop-number.number (thing_of c.loop-number.builder) (thing_of c.append_row.new.builder) c.loop-number.invariant c.loop-number-test.true c.in-Ok.ensures
+
+-- ---- one vector that is lent
+
+pub lent::value_on-fill_on-requires : goal.lent::value_on-fill_on-requires
+lent::value_on-fill_on-requires t c =
+    let is = sym c.e.view_is ∙ ap (λ (f : Form). view_form f (record { place = c.e.inside.place; ty = c.e.inside.ty })) c.in-For.is ∙ (λ i. loop (record { place = c.e.inside.place; ty = c.e.inside.ty }) (pack_legs c.in-For.field-0) (sym c.deref.ensures i) c.in-For.field-2.value c.in-For.field-3.value c.in-For.field-4.value c.in-For.field-5.value) in
+    let less = lone_less _ _ _ _ _ _ _ c.args.e.now (sym c.e.view_is ∙ ap (λ (f : Form). view_form f (record { place = c.e.inside.place; ty = c.e.inside.ty })) c.in-For.is) in
+    (omega arith, (lone_ready _ _ c.deref.result.now _ _ _ _ (env_of c.args.frame.now) c.args.e.now (view_column c.args.column.now) (held_of c.in-Ok.builder) is c.requires.runs c.requires.legs c.in-Ok.ensures, (c.requires.runs.direct, c.requires.form)))
+
+pub lent::act_on-hand_on-requires : goal.lent::act_on-hand_on-requires
+lent::act_on-hand_on-requires t c =
+    let is = sym c.e.view_is ∙ ap (λ (f : Form). view_form f (record { place = c.e.inside.place; ty = c.e.inside.ty })) c.in-For.is ∙ (λ i. loop (record { place = c.e.inside.place; ty = c.e.inside.ty }) (pack_legs c.in-For.field-0) (sym c.deref.ensures i) c.in-For.field-2.value c.in-For.field-3.value c.in-For.field-4.value c.in-For.field-5.value) in
+    let less = lone_less _ _ _ _ _ _ _ c.args.e.now (sym c.e.view_is ∙ ap (λ (f : Form). view_form f (record { place = c.e.inside.place; ty = c.e.inside.ty })) c.in-For.is) in
+    (omega arith, (lone_act_ready _ _ c.deref.result.now _ _ _ _ (env_of c.args.frame.now) c.args.e.now (thing_of c.args.builder.now) (thing_of c.act.new.builder) (view_column c.args.column.now) is c.requires.acts c.requires.legs c.in-Ok.ensures, ((λ u. c.requires.acts.direct), c.requires.form)))
+
+pub lent::total-total_of_part-requires : goal.lent::total-total_of_part-requires
+lent::total-total_of_part-requires t c =
+    let is : c.args.e.now ≡ one (record { place = c.e.inside.place; ty = c.e.inside.ty }) (view_one c.in-One.form) c.deref.result.now = sym c.e.view_is ∙ ap (λ (f : Form). view_form f (record { place = c.e.inside.place; ty = c.e.inside.ty })) c.in-One.is ∙ (λ i. one (record { place = c.e.inside.place; ty = c.e.inside.ty }) (view_one c.in-One.form) (sym c.deref.ensures i)) in
+    (omega (arith, ap expr_nodes is), (part_runs _ _ c.deref.result.now (env_of c.args.frame.now) c.args.e.now is c.requires, (λ x q. part_run_takes _ _ c.deref.result.now (env_of c.args.frame.now) c.args.e.now x is c.requires q)))
+
+pub lent::total_of_part-total_of_loop-requires : goal.lent::total_of_part-total_of_loop-requires
+lent::total_of_part-total_of_loop-requires t c = (omega arith, (c.requires.runs, (λ x q. subst (λ (o : OneForm). OneTakes (view_one o) x) c.in-Finish.is (c.requires.takes x q))))
+
+pub lent::total_of_loop-hand_on-requires : goal.lent::total_of_loop-hand_on-requires
+lent::total_of_loop-hand_on-requires t c =
+    let is = sym c.e.view_is ∙ ap (λ (f : Form). view_form f (record { place = c.e.inside.place; ty = c.e.inside.ty })) c.in-For.is ∙ (λ i. loop (record { place = c.e.inside.place; ty = c.e.inside.ty }) (pack_legs c.in-For.legs) (sym c.deref.ensures i) c.in-For.field-2.value c.in-For.field-3.value c.in-For.field-4.value c.in-For.field-5.value) in
+    let less = lone_less _ _ _ _ _ _ _ c.args.e.now (sym c.e.view_is ∙ ap (λ (f : Form). view_form f (record { place = c.e.inside.place; ty = c.e.inside.ty })) c.in-For.is) in
+    (omega arith, (lone_starts _ _ c.deref.result.now _ _ _ _ (env_of c.args.frame.now) c.args.e.now (view_column c.in-Some-lent_leg.column.now) _ is c.requires.runs c.in-Some-lent_leg.ensures c.in-Some.ensures, (c.requires.runs.direct, subst (λ k. IsLoop k) (sym is) tt)))
+
+pub lent::total_of_loop-number_finished-requires : goal.lent::total_of_loop-number_finished-requires
+lent::total_of_loop-number_finished-requires t c =
+    let is = sym c.e.view_is ∙ ap (λ (f : Form). view_form f (record { place = c.e.inside.place; ty = c.e.inside.ty })) c.in-For.is ∙ (λ i. loop (record { place = c.e.inside.place; ty = c.e.inside.ty }) (pack_legs c.in-For.legs) (sym c.deref.ensures i) c.in-For.field-2.value c.in-For.field-3.value c.in-For.field-4.value c.in-For.field-5.value) in
+    c.requires.takes (thing_of c.hand_on.new.builder) (lone_done _ _ c.deref.result.now _ _ _ _ (env_of c.args.frame.now) c.args.e.now (view_column c.in-Some-lent_leg.column.now) _ (thing_of c.hand_on.new.builder) is c.in-Some-lent_leg.ensures c.in-Some.ensures c.in-Ok.ensures)

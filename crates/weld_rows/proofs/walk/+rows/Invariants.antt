@@ -20,10 +20,10 @@ use Rattle.weld_rows.proofs.walk.+rows.Given as goal
 -- evaluated those of its body
 
 abbrev pub decreases-numbers::number : goal.decreases-numbers::number
-decreases-numbers::number l = 64 * expr_nodes l.e.now + 13
+decreases-numbers::number l = 64 * expr_nodes l.e.now + 14
 
 abbrev pub decreases-numbers::compound : goal.decreases-numbers::compound
-decreases-numbers::compound l = 64 * expr_nodes l.e.now + 11
+decreases-numbers::compound l = 64 * expr_nodes l.e.now + 12
 
 abbrev pub decreases-numbers::binary : goal.decreases-numbers::binary
 decreases-numbers::binary l = 64 * expr_nodes l.e.now + 9
@@ -38,13 +38,13 @@ abbrev pub decreases-numbers::on_number : goal.decreases-numbers::on_number
 decreases-numbers::on_number l = 64 * expr_nodes l.e.now + 9
 
 abbrev pub decreases-numbers::in_value : goal.decreases-numbers::in_value
-decreases-numbers::in_value l = 64 * expr_nodes l.e.now + 9
+decreases-numbers::in_value l = 64 * expr_nodes l.e.now + 10
 
 abbrev pub decreases-values::value : goal.decreases-values::value
-decreases-values::value l = 64 * expr_nodes l.e.now + 14
+decreases-values::value l = 64 * expr_nodes l.e.now + 15
 
 abbrev pub decreases-values::numeral : goal.decreases-values::numeral
-decreases-values::numeral l = 64 * expr_nodes l.e.now + 13
+decreases-values::numeral l = 64 * expr_nodes l.e.now + 14
 
 abbrev pub decreases-values::other : goal.decreases-values::other
 decreases-values::other l = 64 * expr_nodes l.e.now + 8
@@ -64,11 +64,47 @@ decreases-values::value_of_let l = 64 * expr_nodes l.e.now + 7
 abbrev pub decreases-values::value_of_loop : goal.decreases-values::value_of_loop
 decreases-values::value_of_loop l = 64 * expr_nodes l.e.now + 7
 
+abbrev pub decreases-values::value_of_legs : goal.decreases-values::value_of_legs
+decreases-values::value_of_legs l = 64 * expr_nodes l.e.now + 6
+
+abbrev pub decreases-values::part_value : goal.decreases-values::part_value
+decreases-values::part_value l = 64 * expr_nodes l.e.now + 16
+
+abbrev pub decreases-lent::value_on : goal.decreases-lent::value_on
+decreases-lent::value_on l = 64 * expr_nodes l.e.now + 6
+
+abbrev pub decreases-lent::started : goal.decreases-lent::started
+decreases-lent::started l = 64 * expr_nodes l.e.now + 16
+
+abbrev pub decreases-lent::fill_on : goal.decreases-lent::fill_on
+decreases-lent::fill_on l = 64 * body_nodes l.e.now + 41
+
+abbrev pub decreases-lent::total : goal.decreases-lent::total
+decreases-lent::total l = 64 * expr_nodes l.e.now + 8
+
+abbrev pub decreases-lent::total_of_part : goal.decreases-lent::total_of_part
+decreases-lent::total_of_part l = 64 * expr_nodes l.e.now + 8
+
+abbrev pub decreases-lent::total_of_loop : goal.decreases-lent::total_of_loop
+decreases-lent::total_of_loop l = 64 * expr_nodes l.e.now + 7
+
+abbrev pub decreases-lent::act_on : goal.decreases-lent::act_on
+decreases-lent::act_on l = 64 * expr_nodes l.e.now + 29
+
+abbrev pub decreases-lent::hand_on : goal.decreases-lent::hand_on
+decreases-lent::hand_on l = 64 * body_nodes l.e.now + 40
+
+abbrev pub decreases-acts::act_legs : goal.decreases-acts::act_legs
+decreases-acts::act_legs l = 64 * expr_nodes l.e.now + 29
+
+abbrev pub decreases-numbers::in_other : goal.decreases-numbers::in_other
+decreases-numbers::in_other l = 64 * expr_nodes l.e.now + 9
+
 abbrev pub decreases-values::value_over : goal.decreases-values::value_over
-decreases-values::value_over l = 64 * expr_nodes l.e.now + 6
+decreases-values::value_over l = 64 * expr_nodes l.e.now + 5
 
 abbrev pub decreases-acts::tried : goal.decreases-acts::tried
-decreases-acts::tried l = 64 * expr_nodes l.e.now + 15
+decreases-acts::tried l = 64 * expr_nodes l.e.now + 16
 
 abbrev pub decreases-acts::act : goal.decreases-acts::act
 decreases-acts::act l = 64 * expr_nodes l.e.now + 31
@@ -89,7 +125,7 @@ abbrev pub decreases-acts::act_loop : goal.decreases-acts::act_loop
 decreases-acts::act_loop l = 64 * expr_nodes l.e.now + 30
 
 abbrev pub decreases-acts::act_over : goal.decreases-acts::act_over
-decreases-acts::act_over l = 64 * expr_nodes l.e.now + 29
+decreases-acts::act_over l = 64 * expr_nodes l.e.now + 28
 
 abbrev pub decreases-acts::act_struct : goal.decreases-acts::act_struct
 decreases-acts::act_struct l = 64 * expr_nodes l.e.now + 30
@@ -107,10 +143,10 @@ abbrev pub decreases-acts::put_written : goal.decreases-acts::put_written
 decreases-acts::put_written l = 64 * expr_nodes l.item.now + 18
 
 abbrev pub decreases-numbers::chosen : goal.decreases-numbers::chosen
-decreases-numbers::chosen l = 64 * expr_nodes l.e.now + 10
+decreases-numbers::chosen l = 64 * expr_nodes l.e.now + 11
 
 abbrev pub decreases-numbers::unread : goal.decreases-numbers::unread
-decreases-numbers::unread l = 64 * expr_nodes l.e.now + 12
+decreases-numbers::unread l = 64 * expr_nodes l.e.now + 13
 
 abbrev pub decreases-acts::act_first : goal.decreases-acts::act_first
 decreases-acts::act_first l = 64 * expr_nodes l.e.now + 32
@@ -164,7 +200,7 @@ abbrev pub decreases-values::value_of_many : goal.decreases-values::value_of_man
 decreases-values::value_of_many l = 64 * expr_nodes l.e.now + 7
 
 abbrev pub decreases-values::things : goal.decreases-values::things
-decreases-values::things l = 64 * exprs_nodes (pack_exprs l.parts.now) + 15
+decreases-values::things l = 64 * exprs_nodes (pack_exprs l.parts.now) + 16
 
 abbrev pub decreases-turns::value_of_iterate : goal.decreases-turns::value_of_iterate
 decreases-turns::value_of_iterate l = 64 * expr_nodes l.e.now + 7
