@@ -1,10 +1,10 @@
 -- A run at a loop.
-use Rattle.std.proofs.Common.{◌≡◌, ℕ, zero, suc, ◌+◌, ◌-◌, ◌<◌, List, [], ◌∷◌, ◌++◌, length, drop, get_or, Result, Ok, Err, Bor, refl, sym, ap, ◌∙◌, subst, arith}
+use Rattle.std.proofs.Common.{◌≡◌, ℕ, zero, suc, ◌+◌, ◌-◌, ◌<◌, Bool, List, [], ◌∷◌, ◌++◌, length, drop, get_or, Result, Ok, Err, Bor, refl, sym, ap, ◌∙◌, subst, arith}
 use Rattle.std.proofs.lemmas.List.{length-map}
 use Rattle.weld_data.specs.Value.{Value}
 use Rattle.weld_data.specs.declared.stop.Stop.{Stop}
 use Rattle.weld_data.specs.declared.stop.Stop.TheVariants.{Fault, Memory}
-use Rattle.weld_tree.specs.ExprTree.{ExprTree, loop}
+use Rattle.weld_tree.specs.ExprTree.{ExprTree, Two, loop}
 use Rattle.weld_builders.specs.Outcome.{Outcome, done, fault, and_then}
 use Rattle.weld_meaning.specs.declared.loop_id.LoopId.{LoopId}
 use Rattle.weld_meaning.specs.Thing.{Thing, Things, no_things, more_things, first_of, rest_of}
@@ -26,9 +26,10 @@ use Rattle.weld_plan.specs.PlanView.{view_step, view_steps}
 use Rattle.weld_plan.specs.declared.step.Step.{Step}
 use Rattle.weld_plan.specs.declared.step.Step.TheVariants as code
 use Rattle.weld_plan.specs.declared.plan.Plan.{Plan}
-use Rattle.weld_exec.specs.Stacked.{IsSomething, IsAtLoop, HasPile, CountAnswer, StackAnswer}
-use Rattle.weld_exec.specs.Run.{IsReady, IsLoopNext, loop_node, node_of, arguments_of, locals, scope, body_outcome, program_meaning, steps_left, rest_left, AtLoop, StandsAt, StepAnswer, NextAnswer, IsNoLoop, env_inputs}
+use Rattle.weld_exec.specs.Stacked.{IsSomething, IsTruthOnTop, IsAtLoop, HasPile, CountAnswer, StackAnswer, IsWork, TakesStep}
+use Rattle.weld_exec.specs.Run.{IsReady, IsLoopNext, loop_node, node_of, arguments_of, locals, scope, body_outcome, program_meaning, steps_left, rest_left, AtLoop, StandsAt, IsNext, StepAnswer, NextAnswer, IsNoLoop, env_inputs}
 use Rattle.weld_exec.specs.declared.env.Env.{Env as State}
+use Rattle.weld_exec.proofs.Stepping.{decide_truth, unless_truth, bind_takes, unbind_takes, work_takes}
 
 next_inside : (steps : List Step) (i : ℕ) → IsLoopNext (drop i (view_steps steps)) → i < length steps
 next_inside [] zero h = absurd h
@@ -132,6 +133,26 @@ pub count_answer : (r : Result ℕ Stop) (ls ms : List (List Value)) → ls ≡ 
 count_answer (Ok n) ls ms e h = subst (CountAnswer (Ok n)) e h
 count_answer (Err Fault) ls ms e h = subst (CountAnswer (Err Fault)) e h
 count_answer (Err Memory) ls ms e h = tt
+
+-- ---- the next step, of whatever plan
+
+pub is_next : (p : Plan) (e : State) (s : StepTree) → StandsAt p e s → IsNext e s
+is_next p e s h = record { of = p; stands = h }
+
+pub next_decides : (f : Two) (n : ℕ) (e : State) → IsNext e (decide f n) → (c : Bool) × IsTruthOnTop (things_of e.stack) c
+next_decides f n e h = decide_truth f n (rest_left h.of e) (arguments_of h.of e) (locals e) (things_of e.stack) (body_outcome h.of e) h.stands.leads
+
+pub next_jumps : (n : ℕ) (e : State) → IsNext e (unless n) → (c : Bool) × IsTruthOnTop (things_of e.stack) c
+next_jumps n e h = unless_truth n (rest_left h.of e) (arguments_of h.of e) (locals e) (things_of e.stack) (body_outcome h.of e) h.stands.leads
+
+pub next_binds : (s : ℕ) (e : State) → IsNext e (bind s) → IsSomething (things_of e.stack)
+next_binds s e h = bind_takes s (rest_left h.of e) (arguments_of h.of e) (locals e) (things_of e.stack) (body_outcome h.of e) h.stands.leads
+
+pub next_unbinds : (e : State) → IsNext e unbind → 0 < length (locals e)
+next_unbinds e h = unbind_takes (rest_left h.of e) (arguments_of h.of e) (locals e) (things_of e.stack) (body_outcome h.of e) h.stands.leads
+
+pub next_works : (s : StepTree) (e : State) → IsWork s → IsNext e s → TakesStep s (things_of e.stack)
+next_works s e k h = work_takes s (rest_left h.of e) (arguments_of h.of e) (locals e) (things_of e.stack) (body_outcome h.of e) k h.stands.leads
 
 -- ---- step by step
 

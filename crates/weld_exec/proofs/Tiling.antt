@@ -23,7 +23,7 @@ use Rattle.weld_plan.specs.Leads.{IsLoopAt, below_loop, loop_lists, Leads}
 use Rattle.weld_plan.specs.PlanView.{view_steps}
 use Rattle.weld_plan.specs.declared.plan.Plan.{Plan}
 use Rattle.weld_exec.specs.Stacked.{IsSomething, HasPile, AreThereAt}
-use Rattle.weld_exec.specs.Run.{IsLoopNext, node_of, evaluation_of, rows_at, arguments_of, locals, scope, body_outcome, program_meaning, steps_left, rest_left, AtLoop, TileAnswer}
+use Rattle.weld_exec.specs.Run.{IsLoopNext, node_of, evaluation_of, rows_at, arguments_of, locals, scope, body_outcome, program_meaning, steps_left, rest_left, AtLoop, IsAtALoop, TileAnswer}
 use Rattle.weld_exec.specs.declared.env.Env.{Env as State}
 use Rattle.weld_exec.proofs.Looping.{loop_means, loop_next, goes_done, goes_fault, tail_of}
 
@@ -34,6 +34,15 @@ at_next p e at h = loop_next (evaluation_of p e).node at.0 (steps_left p e) h.re
 
 pub at_something : (p : Plan) (e : State) (at : LoopId) → AtLoop p e at → IsSomething (things_of e.stack)
 at_something p e at h = h.there
+
+pub at_a_loop : (p : Plan) (e : State) (at : LoopId) → AtLoop p e at → IsAtALoop p e
+at_a_loop p e at h = record { at = at; stands = h }
+
+pub some_next : (p : Plan) (e : State) → IsAtALoop p e → IsLoopNext (steps_left p e)
+some_next p e h = at_next p e h.at h.stands
+
+pub some_there : (p : Plan) (e : State) → IsAtALoop p e → IsSomething (things_of e.stack)
+some_there p e h = h.stands.there
 
 has_pile : (n : ExprTree) (env : Env) (s : Thing) (st : Things) → IsLoopAt n env s st → HasPile n env st
 has_pile (loop a ls e b n x f) env s st h = (h.0, h.2)
@@ -73,12 +82,12 @@ begins p e at s h is = subst (IsSoFar (evaluation_of p e) 0) (sym is) (so_far_st
 
 -- ---- tiles
 
-pub tile_of : (p : Plan) (e : State) (at : LoopId) (lo hi : ℕ) → AtLoop p e at → lo ≤ hi → hi ≤ rows_at e → IsTileOf (evaluation_of p e) lo hi
-tile_of p e at lo hi h low high = record { count = rows_at e; holds = h.holds; ordered = low; within = high }
+pub tile_of : (p : Plan) (e : State) (lo hi : ℕ) → IsAtALoop p e → lo ≤ hi → hi ≤ rows_at e → IsTileOf (evaluation_of p e) lo hi
+tile_of p e lo hi h low high = record { count = rows_at e; holds = h.stands.holds; ordered = low; within = high }
 
-pub pile_ready : (p : Plan) (e : State) (at : LoopId) (n : ExprTree) (g : Env) (s : Thing) (pile : Things) → AtLoop p e at → n ≡ node_of p e → g ≡ scope p e → things_of e.stack ≡ more_things s pile → HasPile n g pile
-pile_ready p e at n g s pile h is gs st =
-    subst (λ d. HasPile d g pile) (sym is) (subst (λ k. HasPile (node_of p e) k pile) (sym gs) (subst (λ u. HasPile (node_of p e) (scope p e) (rest_of u)) st (has_pile (node_of p e) (scope p e) (first_of (things_of e.stack)) (rest_of (things_of e.stack)) h.is_loop)))
+pub pile_ready : (p : Plan) (e : State) (n : ExprTree) (g : Env) (s : Thing) (pile : Things) → IsAtALoop p e → n ≡ node_of p e → g ≡ scope p e → things_of e.stack ≡ more_things s pile → HasPile n g pile
+pile_ready p e n g s pile h is gs st =
+    subst (λ d. HasPile d g pile) (sym is) (subst (λ k. HasPile (node_of p e) k pile) (sym gs) (subst (λ u. HasPile (node_of p e) (scope p e) (rest_of u)) st (has_pile (node_of p e) (scope p e) (first_of (things_of e.stack)) (rest_of (things_of e.stack)) h.stands.is_loop)))
 
 -- the rows of the evaluation at which the run stands, by what stands there
 range_same : (p : Plan) (e : State) (n : ExprTree) (g : Env) (s x : Thing) (pile : Things) (lo hi : ℕ) → n ≡ node_of p e → g ≡ scope p e → things_of e.stack ≡ more_things s pile

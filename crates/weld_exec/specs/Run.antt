@@ -97,6 +97,11 @@ pub record AtLoop (p : Plan) (e : State) (at : LoopId) : Type 0 where
   pub counted : length holds.rows ≡ rows_at e
   pub goes_on : GoesOn (eval (evaluation_of p e).node (evaluation_of p e).names) (λ t. Leads rest 0 (arguments_of p e) (locals e) (more_things t (below_loop (evaluation_of p e).node (rest_of (things_of e.stack)))) (body_outcome p e)) (body_outcome p e)
 
+-- the run stands at a loop of whatever number
+pub record IsAtALoop (p : Plan) (e : State) : Type 0 where
+  pub at : LoopId
+  pub stands : AtLoop p e at
+
 -- how many steps are left
 abbrev pub left_of : Plan → State → ℕ
 left_of p e = length p.steps.items - e.at
@@ -144,6 +149,11 @@ pub record StandsAt (p : Plan) (e : State) (s : StepTree) : Type 0 where
   pub skip : e.skip ≡ 0
   pub leads : Leads (s ∷ rest_left p e) 0 (arguments_of p e) (locals e) (things_of e.stack) (body_outcome p e)
 
+-- the same of whatever plan the run is
+pub record IsNext (e : State) (s : StepTree) : Type 0 where
+  pub of : Plan
+  pub stands : StandsAt of e s
+
 -- what taking a step answers
 abbrev pub StepAnswer : {T : Type 0} → Result T Stop → Plan → State → State → Type 0
 StepAnswer (Ok x) p old new = IsReady p new
@@ -153,9 +163,3 @@ StepAnswer (Err Memory) p old new = Unit {0}
 abbrev pub IsNoLoop : StepTree → Type 0
 IsNoLoop (run_loop n k) = ⊥
 IsNoLoop _ = Unit {0}
-
--- what standing at a loop answers
-abbrev pub StandAnswer : {T : Type 0} → Result T Stop → Plan → State → LoopId → Type 0
-StandAnswer (Ok x) p e at = AtLoop p e at
-StandAnswer (Err Fault) p e at = program_meaning p e ≡ fault
-StandAnswer (Err Memory) p e at = Unit {0}

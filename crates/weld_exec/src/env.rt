@@ -81,7 +81,7 @@ impl<'a> Env<'a> {
                 match step {
                     Step::Loop(node, at) => {
                         return match self.stand(plan, node, at, alloc) {
-                            Ok(()) => Ok(Next::Loop(at)),
+                            Ok(next) => Ok(next),
                             Err(stop) => Err(stop),
                         };
                     }

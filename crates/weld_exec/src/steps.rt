@@ -1,15 +1,16 @@
 //! The steps between shared loops.
 
-ghost use Rattle.std.specs.Prelude.{◌≡◌, ◌+◌, ◌<◌, length, OnOk};
+ghost use Rattle.std.specs.Prelude.{◌≡◌, ◌+◌, ◌<◌, ◌^◌, length, IfOk, OnOk};
 ghost use Rattle.weld_tree.specs.ExprView.{view_two};
 ghost use Rattle.weld_plan.specs.PlanView.{view_step};
+ghost use Rattle.weld_plan.specs.declared.plan.Plan.{Plan};
 ghost use Rattle.weld_plan.specs.StepTree.{compute as compute_step, run_turns, decide as decide_step, unless as unless_step, skip as skip_step, bind as bind_step, unbind as unbind_step, run_loop};
 ghost use Rattle.weld_plan.specs.Leads.{settles as settles_so};
 ghost use Rattle.weld_exec.specs.Stacked.{IsWork};
-ghost use Rattle.weld_exec.specs.Run.{env_inputs, rows_left, StandsAt, StepAnswer, StandAnswer, IsNoLoop};
+ghost use Rattle.weld_exec.specs.Run.{env_inputs, rows_left, StandsAt, IsNext, StepAnswer, NextAnswer, LeavesNone, IsNoLoop};
 
 use crate::apply::apply;
-use crate::env::Env;
+use crate::env::{Env, Next};
 use crate::evaluate::{compute, take_turns};
 use crate::gather::count;
 use crate::stack::{drop_top, pop, push, top_truth};
@@ -44,13 +45,13 @@ impl<'a> Env<'a> {
         match step {
             Step::Compute(e) => self.compute(plan, e, alloc),
             Step::Turns(e) => self.turns(plan, e, alloc),
-            Step::Decide(form, count) => self.decide(plan, form, count, alloc),
-            Step::Unless(count) => self.unless(plan, count),
-            Step::Skip(count) => self.skip(plan, count),
-            Step::Bind(name) => self.bind(plan, name),
-            Step::Unbind => self.unbind(plan),
+            Step::Decide(form, count) => self.decide(form, count, alloc),
+            Step::Unless(count) => self.unless(count),
+            Step::Skip(count) => self.skip(count),
+            Step::Bind(name) => self.bind(name),
+            Step::Unbind => self.unbind(),
             Step::Loop(_, _) => unreachable!(),
-            _ => self.work(plan, step, alloc),
+            _ => self.work(step, alloc),
         }
     }
 
@@ -101,21 +102,16 @@ impl<'a> Env<'a> {
     }
 
     /// `&&` and `||`, whose first part is the newest thing: where it decides, it is the answer.
-    fn decide(
-        &mut self,
-        plan: &Plan,
-        form: TwoForm,
-        count: usize,
-        alloc: Global,
-    ) -> Result<(), Stop>
-        requires stands { StandsAt plan.now self.old (decide_step (view_two form) count) }
-        requires more { self.old.at < length plan.now.steps.items }
-        ensures step { StepAnswer result plan.now self.old self.new }
+    fn decide(&mut self, form: TwoForm, count: usize, alloc: Global) -> Result<(), Stop>
+        requires next { IsNext self.old (decide_step (view_two form) count) }
+        requires more { self.old.at < 2 ^ 63 }
+        ensures step { (p : Plan) → StandsAt p self.old (decide_step (view_two form) count)
+            → StepAnswer result p self.old self.new }
         ensures at { OnOk result (self.new.at ≡ self.old.at + 1) }
-        ensures rows { OnOk result (rows_left plan.now self.new ≡ rows_left plan.now self.old) }
+        ensures rows { (p : Plan) → StandsAt p self.old (decide_step (view_two form) count)
+            → OnOk result (rows_left p self.new ≡ rows_left p self.old) }
         ensures inputs { env_inputs self.new ≡ env_inputs self.old }
     {
-        let _plan = plan;
         let truth = top_truth(&self.stack);
         drop_top(&mut self.stack);
         self.at += 1;
@@ -132,15 +128,16 @@ impl<'a> Env<'a> {
     }
 
     /// The condition of an `if`, the newest thing: where it is false, the first arm is left out.
-    fn unless(&mut self, plan: &Plan, count: usize) -> Result<(), Stop>
-        requires stands { StandsAt plan.now self.old (unless_step count) }
-        requires more { self.old.at < length plan.now.steps.items }
-        ensures step { StepAnswer result plan.now self.old self.new }
+    fn unless(&mut self, count: usize) -> Result<(), Stop>
+        requires next { IsNext self.old (unless_step count) }
+        requires more { self.old.at < 2 ^ 63 }
+        ensures step { (p : Plan) → StandsAt p self.old (unless_step count)
+            → StepAnswer result p self.old self.new }
         ensures at { OnOk result (self.new.at ≡ self.old.at + 1) }
-        ensures rows { OnOk result (rows_left plan.now self.new ≡ rows_left plan.now self.old) }
+        ensures rows { (p : Plan) → StandsAt p self.old (unless_step count)
+            → OnOk result (rows_left p self.new ≡ rows_left p self.old) }
         ensures inputs { env_inputs self.new ≡ env_inputs self.old }
     {
-        let _plan = plan;
         let truth = top_truth(&self.stack);
         drop_top(&mut self.stack);
         self.at += 1;
@@ -149,30 +146,32 @@ impl<'a> Env<'a> {
     }
 
     /// Leaves out so many steps.
-    fn skip(&mut self, plan: &Plan, count: usize) -> Result<(), Stop>
-        requires stands { StandsAt plan.now self.old (skip_step count) }
-        requires more { self.old.at < length plan.now.steps.items }
-        ensures step { StepAnswer result plan.now self.old self.new }
+    fn skip(&mut self, count: usize) -> Result<(), Stop>
+        requires next { IsNext self.old (skip_step count) }
+        requires more { self.old.at < 2 ^ 63 }
+        ensures step { (p : Plan) → StandsAt p self.old (skip_step count)
+            → StepAnswer result p self.old self.new }
         ensures at { OnOk result (self.new.at ≡ self.old.at + 1) }
-        ensures rows { OnOk result (rows_left plan.now self.new ≡ rows_left plan.now self.old) }
+        ensures rows { (p : Plan) → StandsAt p self.old (skip_step count)
+            → OnOk result (rows_left p self.new ≡ rows_left p self.old) }
         ensures inputs { env_inputs self.new ≡ env_inputs self.old }
     {
-        let _plan = plan;
         self.at += 1;
         self.skip = count;
         Ok(())
     }
 
     /// A name for the newest thing.
-    fn bind(&mut self, plan: &Plan, name: Sym) -> Result<(), Stop>
-        requires stands { StandsAt plan.now self.old (bind_step name.0) }
-        requires more { self.old.at < length plan.now.steps.items }
-        ensures step { StepAnswer result plan.now self.old self.new }
+    fn bind(&mut self, name: Sym) -> Result<(), Stop>
+        requires next { IsNext self.old (bind_step name.0) }
+        requires more { self.old.at < 2 ^ 63 }
+        ensures step { (p : Plan) → StandsAt p self.old (bind_step name.0)
+            → StepAnswer result p self.old self.new }
         ensures at { OnOk result (self.new.at ≡ self.old.at + 1) }
-        ensures rows { OnOk result (rows_left plan.now self.new ≡ rows_left plan.now self.old) }
+        ensures rows { (p : Plan) → StandsAt p self.old (bind_step name.0)
+            → OnOk result (rows_left p self.new ≡ rows_left p self.old) }
         ensures inputs { env_inputs self.new ≡ env_inputs self.old }
     {
-        let _plan = plan;
         let x = pop(&mut self.stack);
         match self.names.bind(name, x) {
             Ok(()) => {
@@ -184,31 +183,33 @@ impl<'a> Env<'a> {
     }
 
     /// Without the newest name.
-    fn unbind(&mut self, plan: &Plan) -> Result<(), Stop>
-        requires stands { StandsAt plan.now self.old unbind_step }
-        requires more { self.old.at < length plan.now.steps.items }
-        ensures step { StepAnswer result plan.now self.old self.new }
+    fn unbind(&mut self) -> Result<(), Stop>
+        requires next { IsNext self.old unbind_step }
+        requires more { self.old.at < 2 ^ 63 }
+        ensures step { (p : Plan) → StandsAt p self.old unbind_step
+            → StepAnswer result p self.old self.new }
         ensures at { OnOk result (self.new.at ≡ self.old.at + 1) }
-        ensures rows { OnOk result (rows_left plan.now self.new ≡ rows_left plan.now self.old) }
+        ensures rows { (p : Plan) → StandsAt p self.old unbind_step
+            → OnOk result (rows_left p self.new ≡ rows_left p self.old) }
         ensures inputs { env_inputs self.new ≡ env_inputs self.old }
     {
-        let _plan = plan;
         self.names.unbind();
         self.at += 1;
         Ok(())
     }
 
     /// A step that works on the stack alone.
-    fn work(&mut self, plan: &Plan, step: Step, alloc: Global) -> Result<(), Stop>
-        requires stands { StandsAt plan.now self.old (view_step step) }
-        requires more { self.old.at < length plan.now.steps.items }
+    fn work(&mut self, step: Step, alloc: Global) -> Result<(), Stop>
+        requires next { IsNext self.old (view_step step) }
+        requires more { self.old.at < 2 ^ 63 }
         requires form { IsWork (view_step step) }
-        ensures step { StepAnswer result plan.now self.old self.new }
+        ensures step { (p : Plan) → StandsAt p self.old (view_step step.entry)
+            → StepAnswer result p self.old self.new }
         ensures at { OnOk result (self.new.at ≡ self.old.at + 1) }
-        ensures rows { OnOk result (rows_left plan.now self.new ≡ rows_left plan.now self.old) }
+        ensures rows { (p : Plan) → StandsAt p self.old (view_step step.entry)
+            → OnOk result (rows_left p self.new ≡ rows_left p self.old) }
         ensures inputs { env_inputs self.new ≡ env_inputs self.old }
     {
-        let _plan = plan;
         match apply(step, &mut self.stack, alloc) {
             Ok(()) => {
                 self.at += 1;
@@ -225,14 +226,14 @@ impl<'a> Env<'a> {
         node: &Expr,
         at: LoopId,
         alloc: Global,
-    ) -> Result<(), Stop>
+    ) -> Result<Next, Stop>
         requires { StandsAt plan.now self.old (run_loop node.now at.0) }
-        ensures at { StandAnswer result plan.now self.new at }
+        ensures next { NextAnswer result plan.now self.new }
         ensures place { self.new.at ≡ self.old.at }
         ensures rows { rows_left plan.now self.new ≡ rows_left plan.now self.old }
         ensures inputs { env_inputs self.new ≡ env_inputs self.old }
+        ensures none { IfOk result (LeavesNone plan.now self.new) }
     {
-        let _at = at;
         match count(
             node,
             plan.program,
@@ -243,7 +244,7 @@ impl<'a> Env<'a> {
         ) {
             Ok(rows) => {
                 self.rows = rows;
-                Ok(())
+                Ok(Next::Loop(at))
             }
             Err(stop) => Err(stop),
         }

@@ -11,7 +11,7 @@ ghost use Rattle.weld_tile_parts.specs.Kept.{IsTileOf};
 ghost use Rattle.weld_tile_parts.specs.Parts.{part_thing, part_evaluation};
 ghost use Rattle.weld_exec.specs.Stacked.{HasPile};
 ghost use Rattle.weld_meaning.specs.Thing.{bare_thing as bare_of};
-ghost use Rattle.weld_exec.specs.Run.{AtLoop, evaluation_of, rows_at, program_meaning, TileAnswer, PieceAnswer};
+ghost use Rattle.weld_exec.specs.Run.{AtLoop, IsAtALoop, evaluation_of, rows_at, program_meaning, TileAnswer, PieceAnswer};
 
 use crate::env::{Env, loop_at};
 use crate::evaluate::{parameters, within};
@@ -43,12 +43,12 @@ pub fn tile_part(
     ensures action { TileAnswer result (evaluation_of plan.now env.now) tile }
     ensures means { OnFault result (program_meaning plan.now env.now ≡ fault) }
 {
-    let mut part = match bare_part(plan, env, at, tile, alloc) {
+    let mut part = match bare_part(plan, env, tile, alloc) {
         Ok(part) => part,
         Err(_) => return Err(Stop::Memory),
     };
-    match run_in(alloc, plan, env, at, tile, &mut part) {
-        Ok(()) => Ok(part_of(plan, env, at, tile, part)),
+    match run_in(alloc, plan, env, tile, &mut part) {
+        Ok(()) => Ok(part_of(plan, env, tile, part)),
         Err(stop) => {
             let_go(part);
             Err(stop)
@@ -78,17 +78,10 @@ pub fn run_tile(
 
 /// The builder that has nothing merged, of the loop at which the run stands, with room for what the rows of a tile append to it
 /// where that is one item for each row.
-pub fn bare_part(
-    plan: &Plan,
-    env: &Env,
-    at: LoopId,
-    tile: Tile,
-    alloc: Global,
-) -> Result<Owned, AllocError>
-    requires { AtLoop plan.now env.now at }
+pub fn bare_part(plan: &Plan, env: &Env, tile: Tile, alloc: Global) -> Result<Owned, AllocError>
+    requires { IsAtALoop plan.now env.now }
     ensures { IfOk result (λ part. thing_of part ≡ bare_of (evaluation_of plan.now env.now).start) }
 {
-    let _at = at;
     match &env.stack {
         Fields::And(start, _) => bare_with_room(loop_at(plan, env.at), start, tile, alloc),
         Fields::End => unreachable!(),
@@ -117,18 +110,16 @@ pub fn run_in(
     alloc: Global,
     plan: &Plan,
     env: &Env,
-    at: LoopId,
     tile: Tile,
     part: &mut Owned,
 ) -> Result<(), Stop>
-    requires at { AtLoop plan.now env.now at }
+    requires at { IsAtALoop plan.now env.now }
     requires holds { HoldsRange (evaluation_of plan.now env.now).node
         (evaluation_of plan.now env.now).names (evaluation_of plan.now env.now).lists tile.lo
         tile.hi (thing_of part.old) }
     ensures { RangeAnswer result (evaluation_of plan.now env.now) tile.lo tile.hi
         (thing_of part.old) (thing_of part.new) }
 {
-    let _at = at;
     let node = loop_at(plan, env.at);
     let base = parameters(plan.program, env.inputs);
     let frame = within(&env.names, &base);
@@ -170,8 +161,8 @@ fn let_go(_builder: Owned) {}
 
 /// The part of rows of the loop at which the run stands, which is what they make of the builder that has nothing merged. It
 /// takes no memory.
-pub fn part_of(plan: &Plan, env: &Env, at: LoopId, tile: Tile, thing: Owned) -> TilePart
-    requires at { AtLoop plan.now env.now at }
+pub fn part_of(plan: &Plan, env: &Env, tile: Tile, thing: Owned) -> TilePart
+    requires at { IsAtALoop plan.now env.now }
     requires ordered { tile.lo ≤ tile.hi }
     requires within { tile.hi ≤ rows_at env.now }
     requires action { IsAction (evaluation_of plan.now env.now) tile.lo tile.hi (thing_of thing) }
@@ -179,7 +170,6 @@ pub fn part_of(plan: &Plan, env: &Env, at: LoopId, tile: Tile, thing: Owned) -> 
     ensures thing { part_thing result ≡ thing_of thing }
     ensures evaluation { part_evaluation result ≡ evaluation_of plan.now env.now }
 {
-    let _at = at;
     part_in(plan, env, tile, thing)
 }
 

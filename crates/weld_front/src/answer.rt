@@ -1,10 +1,11 @@
-ghost use Rattle.std.specs.Prelude.{◌≡◌, ◌<◌, IfOk, map};
+ghost use Rattle.std.specs.Prelude.{◌≡◌, IfOk, map};
 ghost use Rattle.std.specs.String.{string_bytes};
 ghost use Rattle.weld_data.specs.View.{view_val};
 ghost use Rattle.weld_tree.specs.HasValue.{HasValue};
 ghost use Rattle.weld_front.specs.Concluding.{IsTold};
 ghost use Rattle.weld_front.specs.Texts.{refusal_text, script_refusal_text, unfit_text, value_text, report_text, ok_text, fault_text};
 
+use crate::asked::Asked;
 use crate::report::push_report;
 use crate::status::Status;
 use std::alloc::{AllocError, Global};
@@ -99,19 +100,18 @@ pub(crate) fn unfit(alloc: Global, number: u64, code: Code) -> Result<Answer, Al
     ))
 }
 
-/// A value's text, written by so many workers.
+/// A value's text, written by as many workers as are asked for.
 fn shown(
     rt: &(impl Threads + Sync),
     alloc: Global,
     value: &Val,
     ty: &Ty,
-    workers: u32,
+    asked: Asked,
 ) -> Result<Text, AllocError>
-    requires typed { HasValue ty.now (view_val value.now) }
-    requires some_worker { 0 < workers }
+    requires { HasValue ty.now (view_val value.now) }
     ensures { IfOk result (λ text. text ≡ value_text ty.now (view_val value.now)) }
 {
-    let mut text = write_value(rt, alloc, value, ty, workers)?;
+    let mut text = write_value(rt, alloc, value, ty, asked.options.workers)?;
     text.push(b'\n')?;
     Ok(text)
 }
@@ -123,19 +123,17 @@ pub(crate) fn done(
     alloc: Global,
     value: &Val,
     ty: &Ty,
-    workers: u32,
-    report: bool,
+    asked: Asked,
     loops: u64,
     note: RunNote,
 ) -> Result<Answer, AllocError>
-    requires typed { HasValue ty.now (view_val value.now) }
-    requires some_worker { 0 < workers }
+    requires { HasValue ty.now (view_val value.now) }
     ensures status { IfOk result (λ answer. answer.status ≡ Status.Done) }
-    ensures text { IfOk result (λ answer. IsTold report (λ lines. lines ≡ report_text loops note)
+    ensures text { IfOk result (λ answer. IsTold asked.options.report (λ lines. lines ≡ report_text loops note)
         (value_text ty.now (view_val value.now)) answer.text) }
 {
-    let mut text = shown(rt, alloc, value, ty, workers)?;
-    if report {
+    let mut text = shown(rt, alloc, value, ty, asked)?;
+    if asked.options.report {
         push_report(alloc, &mut text, loops, note)?;
     }
     Ok(Answer {

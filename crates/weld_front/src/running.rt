@@ -1,4 +1,4 @@
-ghost use Rattle.std.specs.Prelude.{◌≡◌, ◌<◌, IfOk, IfErr};
+ghost use Rattle.std.specs.Prelude.{◌≡◌, IfOk, IfErr};
 ghost use Rattle.weld_data.specs.View.{view_val};
 ghost use Rattle.weld_tree.specs.Program.{loops};
 ghost use Rattle.weld_inputs.specs.Arguments.{Arguments, IsUnfit, Tells};
@@ -92,17 +92,7 @@ fn run_on<R: Threads + Sync, G: Gate>(
     match run_program(rt, alloc, program, &arguments, asked, gate) {
         Ok((value, note)) => {
             drop(arguments);
-            let options = asked.options;
-            done(
-                rt,
-                alloc,
-                &value,
-                ty,
-                options.workers,
-                options.report,
-                loops,
-                note,
-            )
+            done(rt, alloc, &value, ty, asked, loops, note)
         }
         Err(Stop::Fault) => fault(alloc),
         Err(Stop::Memory) => Err(AllocError),
@@ -115,14 +105,14 @@ fn take_arguments(
     alloc: Global,
     program: &Accepted,
     job: Job,
-    workers: u32,
+    asked: Asked,
 ) -> Result<Vals, DataStop>
-    requires fit { ParamsFit program.now.params }
-    requires some_worker { 0 < workers }
+    requires { ParamsFit program.now.params }
     ensures arguments { IfOk result (Arguments program.now.params job) }
     ensures typed { IfOk result (ArgumentsFit program.now.params) }
     ensures unfit { IfErr result (Tells (IsUnfit program.now.params job)) }
 {
+    let workers = asked.options.workers;
     read_arguments(rt, alloc, &program.program().params, &job, workers)
 }
 
@@ -141,7 +131,7 @@ fn run_job<R: Threads + Sync, G: Gate>(
         answer.status answer.text) }
 {
     let Checked { program, ty } = checked;
-    match take_arguments(rt, alloc, &program, job, asked.options.workers) {
+    match take_arguments(rt, alloc, &program, job, asked) {
         Ok(arguments) => run_on(rt, alloc, program, &ty, arguments, asked, gate),
         Err(DataStop::Unfit(number, code)) => unfit(alloc, number, code),
         Err(DataStop::Memory) => Err(AllocError),

@@ -1,4 +1,4 @@
-ghost use Rattle.std.specs.Prelude.{◌≡◌, ◌<◌, IfOk, IfErr, MatchOption};
+ghost use Rattle.std.specs.Prelude.{◌≡◌, IfOk, IfErr, MatchOption};
 ghost use Rattle.weld_data.specs.View.{view_val};
 ghost use Rattle.weld_meaning.specs.Meaning.{ArgumentsFit, meaning};
 ghost use Rattle.weld_check_types.specs.Notes.{ProgramIsNoted};
@@ -123,17 +123,7 @@ fn conclude_script<R: Threads + Sync, G: Gate>(
     match run_gathered(rt, alloc, program, &inputs, asked, gate) {
         Ok((value, note)) => {
             drop(inputs);
-            let options = asked.options;
-            done(
-                rt,
-                alloc,
-                &value,
-                &ty,
-                options.workers,
-                options.report,
-                loops,
-                note,
-            )
+            done(rt, alloc, &value, &ty, asked, loops, note)
         }
         Err(Stop::Fault) => fault(alloc),
         Err(Stop::Memory) => Err(AllocError),
@@ -146,14 +136,13 @@ fn take_inputs(
     alloc: Global,
     script: &Script,
     job: Job,
-    workers: u32,
+    asked: Asked,
 ) -> Result<Vals, DataStop>
-    requires some_worker { 0 < workers }
     ensures inputs { IfOk result (Inputs (declared_of script.now.made) job) }
     ensures typed { IfOk result (AreInputs (declared_of script.now.made)) }
     ensures unfit { IfErr result (Tells (IsUnfit (declared_of script.now.made) job)) }
 {
-    read_inputs(rt, alloc, script, &job, workers)
+    read_inputs(rt, alloc, script, &job, asked.options.workers)
 }
 
 /// What a script is answered with on the data of the job, which is let go before the program is run.
@@ -168,7 +157,7 @@ fn answer_script<R: Threads + Sync, G: Gate>(
     ensures { IfOk result (λ answer. ScriptAnswers asked.options script.now job answer.status
         answer.text) }
 {
-    match take_inputs(rt, alloc, script, job, asked.options.workers) {
+    match take_inputs(rt, alloc, script, job, asked) {
         Ok(inputs) => conclude_script(rt, alloc, script, inputs, asked, gate),
         Err(DataStop::Unfit(number, code)) => unfit(alloc, number, code),
         Err(DataStop::Memory) => Err(AllocError),

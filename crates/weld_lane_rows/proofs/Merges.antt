@@ -25,7 +25,7 @@ use Rattle.weld_acts.specs.Ranges.{HoldsRange, range_over}
 use Rattle.weld_acts.proofs.RangeSteps.{range_row, one_of_range, none_left}
 use Rattle.weld_lanes.specs.Answers.{at}
 use Rattle.weld_lane_form.specs.Bodies.{TakesNumber}
-use Rattle.weld_lane_rows.specs.Rows.{AreFrom, MergesRows}
+use Rattle.weld_lane_rows.specs.Rows.{AreFrom, MergesRows, IsTaker, merge_them}
 
 -- ---- builders that take numbers
 
@@ -74,12 +74,6 @@ part_takes (groups_part m) (total t o) k h e = absurd h
 part_takes (groups_part m) (keyed s t o) k h e = absurd h
 part_takes (groups_part m) (cells t o) k h e = absurd h
 
--- a builder that takes numbers of the kind
-record IsTaker (s : Thing) (k : Kind) : Type 0 where
-  pub part : Part
-  pub is_part : s ≡ building part
-  pub takes_numbers : TakesNumbers part k
-
 thing_takes : (s : Thing) (t : TypeTree) (k : Kind) (x : ℤ) → HasThing s t → TakesNumber k x t → IsTaker s k
 thing_takes s t k x has item = by s (subst (HasThing s) item.is_builder has)
   where
@@ -103,14 +97,15 @@ row_item n env lists k g from to i s h m low less =
     let row = range_row n env lists i to s i s (row_in lists i) (record { holds = later; same = refl }) (row_of_rows lists h.rows i h.are there) in
     record { of = row.fit.answer; has = row.has; item = m.fits i s row.fit less row.has row.row }
 
-is_taker : (n : ExprTree) (env : Env) (lists : List (List Value)) (k : Kind) (g : ℕ → ℤ) (from to : ℕ) (s : Thing) → HoldsRange n env lists from to s → MergesRows n env lists k g to → from < to → IsTaker s k
+-- a builder that rows are merged into takes them
+pub is_taker : (n : ExprTree) (env : Env) (lists : List (List Value)) (k : Kind) (g : ℕ → ℤ) (from to : ℕ) (s : Thing) → HoldsRange n env lists from to s → MergesRows n env lists k g to → from < to → IsTaker s k
 is_taker n env lists k g from to s h m less = let r = row_item n env lists k g from to from s h m (omega arith) less in thing_takes s r.of k (g from) r.has r.item
 
 all_in_range : (k : Kind) (xs : List ℤ) → ((j : ℕ) → j < length xs → InRange k (at xs j)) → AllInRange k xs
 all_in_range k [] h = tt
 all_in_range k (x ∷ xs) h = (h 0 (omega arith), all_in_range k xs (λ j less. h (suc j) (omega arith)))
 
-numbers_in_range : (n : ExprTree) (env : Env) (lists : List (List Value)) (k : Kind) (g : ℕ → ℤ) (from to : ℕ) (s : Thing) (xs : List ℤ) → HoldsRange n env lists from to s → MergesRows n env lists k g to → length xs ≡ to - from → AreFrom g from (to - from) xs → AllInRange k xs
+pub numbers_in_range : (n : ExprTree) (env : Env) (lists : List (List Value)) (k : Kind) (g : ℕ → ℤ) (from to : ℕ) (s : Thing) (xs : List ℤ) → HoldsRange n env lists from to s → MergesRows n env lists k g to → length xs ≡ to - from → AreFrom g from (to - from) xs → AllInRange k xs
 numbers_in_range n env lists k g from to s xs h m long are =
     all_in_range k xs
     (λ j less.
@@ -141,12 +136,15 @@ left_merged (suc c) n env lists rows k g from to p (x ∷ xs) are within m end h
     ∙ rest
     ∙ sym (ap (λ (o : Outcome Part). map_out building (and_then o (λ q. merge_all q (map (number k) xs)))) one.1)
 
-piece_merged : (n : ExprTree) (env : Env) (lists : List (List Value)) (k : Kind) (g : ℕ → ℤ) (from to : ℕ) (s : Thing) (p q : Part) (xs : List ℤ) → HoldsRange n env lists from to s → MergesRows n env lists k g to → from ≤ to
-    → s ≡ building p → TakesNumbers p k → length xs ≡ to - from → AreFrom g from (to - from) xs → merge_all p (map (number k) xs) ≡ done q → range_over n env lists from to s ≡ done (building q)
-piece_merged n env lists k g from to s p q xs h m low is t long are all =
-    ap (range_over n env lists from to) is
-    ∙ left_merged (to - from) n env lists h.rows k g from to p xs h.are h.within m (omega arith) t long are
-    ∙ ap (map_out building) all
+-- what the rows come to is what the builder comes to that their numbers are merged into
+pub rows_merged : (n : ExprTree) (env : Env) (lists : List (List Value)) (k : Kind) (g : ℕ → ℤ) (from to : ℕ) (s t : Thing) (xs : List ℤ) → HoldsRange n env lists from to s → MergesRows n env lists k g to → from < to
+    → length xs ≡ to - from → AreFrom g from (to - from) xs → merge_them s (map (number k) xs) ≡ done t → range_over n env lists from to s ≡ done t
+rows_merged n env lists k g from to s t xs h m less long are q =
+    let taker = is_taker n env lists k g from to s h m less in
+    ap (range_over n env lists from to) taker.is_part
+    ∙ left_merged (to - from) n env lists h.rows k g from to taker.part xs h.are h.within m (omega arith) taker.takes_numbers long are
+    ∙ sym (ap (λ (u : Thing). merge_them u (map (number k) xs)) taker.is_part)
+    ∙ q
 
 -- ---- as the code has it
 
@@ -156,19 +154,13 @@ part_of (plain v) = list_part []
 part_of (building p) = p
 part_of (several ts) = list_part []
 
-taken : (s : Thing) (k : Kind) (p : Part) → IsTaker s k → s ≡ building p → TakesNumbers p k
-taken s k p t is = subst (λ (q : Part). TakesNumbers q k) (ap part_of (sym t.is_part ∙ is)) t.takes_numbers
+pub part_taken : (s : Thing) (k : Kind) (p : Part) → IsTaker s k → s ≡ building p → TakesNumbers p k
+part_taken s k p t is = subst (λ (q : Part). TakesNumbers q k) (ap part_of (sym t.is_part ∙ is)) t.takes_numbers
 
-pub piece_taken : (n : ExprTree) (env : Env) (lists : List (List Value)) (k m : Kind) (g : ℕ → ℤ) (from to : ℕ) (s : Thing) (p : Part) → m ≡ k → HoldsRange n env lists from to s → MergesRows n env lists k g to → from < to → s ≡ building p → TakesNumbers p m
-piece_taken n env lists k m g from to s p e h r less is = subst (TakesNumbers p) (sym e) (taken s k p (is_taker n env lists k g from to s h r less) is)
-
-pub not_another : (n : ExprTree) (env : Env) (lists : List (List Value)) (k : Kind) (g : ℕ → ℤ) (from to : ℕ) (b : Owned) → HoldsRange n env lists from to (thing_of b) → MergesRows n env lists k g to → from < to → ((x : Part) → b ≡ owned.Built x → ⊥) → ⊥
-not_another n env lists k g from to b h r less other = let t = is_taker n env lists k g from to (thing_of b) h r less in by b t.is_part other
-  where
-    by : (o : Owned) → thing_of o ≡ building (is_taker n env lists k g from to (thing_of b) h r less).part → ((x : Part) → o ≡ owned.Built x → ⊥) → ⊥
-    by (owned.Value v) e q = let no : ⊥ = cc in no
-    by (owned.Built p) e q = q p refl
-    by (owned.Several fs) e q = let no : ⊥ = cc in no
+pub not_another : (b : Owned) (k : Kind) → IsTaker (thing_of b) k → ((x : Part) → b ≡ owned.Built x → ⊥) → ⊥
+not_another (owned.Value v) k t other = let e = t.is_part in let no : ⊥ = cc in no
+not_another (owned.Built p) k t other = other p refl
+not_another (owned.Several fs) k t other = let e = t.is_part in let no : ⊥ = cc in no
 
 pub never_faults : {T : Type 0} (r : Result T Stop) (stop : Stop) (p q : Part) (k : Kind) (xs : List ℤ) → TakesNumbers p k → MergeAnswer r (merge_all p (map (number k) xs)) q → r ≡ Err stop → stop ≡ Fault → ⊥
 never_faults {T} r stop p q k xs t a is faults =
@@ -178,15 +170,10 @@ never_faults {T} r stop p q k xs t a is faults =
     let no : ⊥ = cc in
     no
 
-pub piece_done : {T : Type 0} (r : Result T Stop) (x : T) (n : ExprTree) (env : Env) (lists : List (List Value)) (k m : Kind) (g : ℕ → ℤ) (from to : ℕ) (s : Thing) (p q : Part) (xs : List ℤ) → r ≡ Ok x → m ≡ k → MergeAnswer r (merge_all p (map (number m) xs)) q
-    → HoldsRange n env lists from to s → MergesRows n env lists k g to → from < to → s ≡ building p → length xs ≡ to - from → AreFrom g from (to - from) xs → range_over n env lists from to s ≡ done (building q)
-piece_done r x n env lists k m g from to s p q xs is e a h rows less built long are =
-    let all : MergeAnswer (Ok x) (merge_all p (map (number m) xs)) q = subst (λ (y : Result _ Stop). MergeAnswer y (merge_all p (map (number m) xs)) q) is a in
-    piece_merged n env lists k g from to s p q xs h rows (omega arith) built (taken s k p (is_taker n env lists k g from to s h rows less) built) long are
-    (ap (λ (j : Kind). merge_all p (map (number j) xs)) (sym e) ∙ all)
-
-pub piece_in_range : (n : ExprTree) (env : Env) (lists : List (List Value)) (k m : Kind) (g : ℕ → ℤ) (from to : ℕ) (s : Thing) (xs : List ℤ) → m ≡ k → HoldsRange n env lists from to s → MergesRows n env lists k g to → length xs ≡ to - from → AreFrom g from (to - from) xs → AllInRange m xs
-piece_in_range n env lists k m g from to s xs e h r long are = subst (λ (j : Kind). AllInRange j xs) (sym e) (numbers_in_range n env lists k g from to s xs h r long are)
+pub merged_so : {T : Type 0} (r : Result T Stop) (x : T) (s : Thing) (p q : Part) (k : Kind) (xs : List ℤ) → r ≡ Ok x → s ≡ building p → MergeAnswer r (merge_all p (map (number k) xs)) q → merge_them s (map (number k) xs) ≡ done (building q)
+merged_so r x s p q k xs is built a =
+    let all : MergeAnswer (Ok x) (merge_all p (map (number k) xs)) q = subst (λ (y : Result _ Stop). MergeAnswer y (merge_all p (map (number k) xs)) q) is a in
+    ap (λ (u : Thing). merge_them u (map (number k) xs)) built ∙ ap (map_out building) all
 
 -- ---- numbers in the width of their kind
 

@@ -3,8 +3,10 @@ use Rattle.std.specs.Prelude.{◌≡◌, ℕ, ◌<◌, ◌+◌, ℤ, List, map}
 use Rattle.weld_data.specs.declared.kind.Kind.{Kind}
 use Rattle.weld_data.specs.Value.{Value, number}
 use Rattle.weld_tree.specs.ExprTree.{ExprTree}
-use Rattle.weld_builders.specs.Outcome.{done}
-use Rattle.weld_meaning.specs.Thing.{Thing, plain}
+use Rattle.weld_builders.specs.Outcome.{Outcome, done, stuck, map_out}
+use Rattle.weld_builders.specs.Part.{Part}
+use Rattle.weld_built.specs.Merges.{merge_all, TakesNumbers}
+use Rattle.weld_meaning.specs.Thing.{Thing, plain, building, several}
 use Rattle.weld_meaning.specs.ThingType.{HasThing}
 use Rattle.weld_meaning.specs.Evaluation.{Env, merged}
 use Rattle.weld_eval.specs.Fit.{IsFit}
@@ -26,3 +28,15 @@ pub record MergesRows (n : ExprTree) (env : Env) (lists : List (List Value)) (k 
 -- so many numbers are those that the function gives from a place on
 pub record AreFrom (f : ℕ → ℤ) (from count : ℕ) (xs : List ℤ) : Type 0 where
   pub each : (j : ℕ) → j < count → at xs j ≡ f (from + j)
+
+-- a builder that takes numbers of the kind
+pub record IsTaker (s : Thing) (k : Kind) : Type 0 where
+  pub part : Part
+  pub is_part : s ≡ building part
+  pub takes_numbers : TakesNumbers part k
+
+-- what a builder comes to that values are merged into, one after another
+abbrev pub merge_them : Thing → List Value → Outcome Thing
+merge_them (plain v) vs = stuck
+merge_them (building p) vs = map_out building (merge_all p vs)
+merge_them (several ts) vs = stuck

@@ -1,15 +1,16 @@
 //! Pieces of the rows of a loop: the numbers of each are worked out, and merged as one list.
 
 ghost use Rattle.std.specs.Prelude.{◌≡◌, ◌-◌, ◌<◌, ◌≤◌, length, map, OnOk};
-ghost use Rattle.weld_data.specs.Kind.{IsNarrow};
+ghost use Rattle.weld_data.specs.Value.{number as value_of};
 ghost use Rattle.weld_builders.specs.Outcome.{done};
+ghost use Rattle.weld_builders.specs.Range.{AllInRange};
 ghost use Rattle.weld_acts.specs.Ranges.{HoldsRange, range_over};
 ghost use Rattle.weld_eval.specs.FrameView.{env_of};
 ghost use Rattle.weld_eval.specs.LegsView.{lists_of};
 ghost use Rattle.weld_eval.specs.ThingView.{thing_of};
 ghost use Rattle.weld_lanes.specs.Answers.{room_of};
 ghost use Rattle.weld_lanes.specs.Blocks.{AreConstants};
-ghost use Rattle.weld_lane_rows.specs.Rows.{answer_at, AreFrom, MergesRows};
+ghost use Rattle.weld_lane_rows.specs.Rows.{answer_at, AreFrom, MergesRows, IsTaker, merge_them};
 
 use crate::words::{Word, merge_numbers};
 use std::alloc::{AllocError, Global};
@@ -97,9 +98,7 @@ fn run_in_room<L: Word>(
         let end = piece_end(reached, to);
         let numbers = piece_numbers(&*lanes, constants, room, reached, end);
         let own = &mut words[..end - reached];
-        merge_piece(
-            node, frame, legs, lanes, numbers, own, reached, end, builder,
-        )?;
+        merge_piece(numbers, own, builder)?;
         reached = end;
     }
     Ok(())
@@ -149,35 +148,18 @@ fn piece_numbers<'a, L: Word>(
     )
 }
 
-/// Merges the numbers of a piece.
+/// Merges numbers into a builder that takes numbers of their kind.
 fn merge_piece<L: Word>(
-    node: &Expr,
-    frame: &Frame,
-    legs: &Legs,
-    lanes: &Lanes<L>,
     numbers: &[L],
     room: &mut [i64],
-    from: usize,
-    to: usize,
     builder: &mut Owned,
 ) -> Result<(), AllocError>
-    requires holds { HoldsRange node.now (env_of frame.now) (lists_of legs.now) from to
-        (thing_of builder.old) }
-    requires some { from < to }
-    requires merges { MergesRows node.now (env_of frame.now) (lists_of legs.now) L.kind
-        (answer_at L.number L.kind lanes.now.program.now lanes.now.uniforms.now lanes.now.first.now
-        lanes.now.second.now) to }
-    requires long { length numbers.now ≡ to - from }
-    requires room { length room.old ≡ to - from }
-    requires are { AreFrom (answer_at L.number L.kind lanes.now.program.now lanes.now.uniforms.now
-        lanes.now.first.now lanes.now.second.now) from (to - from) (map L.number numbers.now) }
-    ensures { OnOk result (range_over node.now (env_of frame.now) (lists_of legs.now) from to
-        (thing_of builder.old) ≡ done (thing_of builder.new)) }
+    requires room { length numbers.now ≡ length room.old }
+    requires in_range { AllInRange L.kind (map L.number numbers.now) }
+    requires takes { IsTaker (thing_of builder.old) L.kind }
+    ensures { OnOk result (merge_them (thing_of builder.old) (map (value_of L.kind)
+        (map L.number numbers.now)) ≡ done (thing_of builder.new)) }
 {
-    let _node = node;
-    let _frame = frame;
-    let _legs = legs;
-    let _lanes = lanes;
     match builder {
         Owned::Built(built) => match merge_numbers(built, numbers, room) {
             Ok(()) => Ok(()),

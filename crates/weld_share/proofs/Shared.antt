@@ -140,7 +140,7 @@ plan_sync ℓ = search (Crossing.crosses, program_sync, step_sync, sendable) dep
 pub tiled_sync : (ℓ κ : NamedLft) (G : RattleType) → IsSync G → IsSync (Tiled.the_row ℓ κ G)
 tiled_sync ℓ κ G s =
     declared_sync (Tiled.the_type ℓ κ G)
-    (Globals.the_sync, (as_row_sync (shr_ref_field ℓ (Plan.the_row κ) tt) (shr_sync _ _ _ (plan_sync κ)), (as_row_sync (shr_ref_field ℓ (Env.the_row κ) tt) (shr_sync _ _ _ (env_sync κ)), (LoopIds.the_sync, (as_row_sync (row_field (ShrRef ℓ.mir ℓ.lft G)) (shr_sync _ _ _ s), tt)))))
+    (Globals.the_sync, (as_row_sync (shr_ref_field ℓ (Plan.the_row κ) tt) (shr_sync _ _ _ (plan_sync κ)), (as_row_sync (shr_ref_field ℓ (Env.the_row κ) tt) (shr_sync _ _ _ (env_sync κ)), (as_row_sync (row_field (ShrRef ℓ.mir ℓ.lft G)) (shr_sync _ _ _ s), tt))))
 
 -- and see them
 pub stretch_sync : (ℓ : NamedLft) → IsSync (Stretch.the_row ℓ)

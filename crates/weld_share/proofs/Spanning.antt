@@ -1,16 +1,15 @@
 -- Stretches that are shared: where they begin, and what is made of them.
-use Rattle.std.proofs.Common.{◌≡◌, ℕ, zero, suc, ◌+◌, ◌-◌, ◌<◌, ◌≤◌, List, [], ◌∷◌, ◌++◌, length, get_or, Err, Result, le_refl, refl, sym, ap, ◌∙◌, subst, add-one, arith}
+use Rattle.std.proofs.Common.{◌≡◌, ℕ, zero, suc, ◌+◌, ◌-◌, ◌<◌, ◌≤◌, List, [], ◌∷◌, ◌++◌, length, take, drop, get_or, Err, Result, le_refl, refl, sym, ap, ◌∙◌, subst, add-one, arith}
 use Rattle.weld_data.specs.declared.stop.Stop.{Stop}
 use Rattle.weld_data.specs.declared.stop.Stop.TheVariants.{Fault, Memory}
 use Rattle.weld_builders.specs.Outcome.{done, fault, and_then}
-use Rattle.weld_meaning.specs.declared.loop_id.LoopId.{LoopId}
 use Rattle.weld_meaning.specs.Thing.{Thing, bare_thing}
 use Rattle.weld_acts.specs.Ranges.{Evaluation, HoldsRange, RangeAnswer, IsAction, range_over}
 use Rattle.weld_acts.proofs.RangeLaw.{range_has, range_splits}
 use Rattle.weld_acts.proofs.RangeSteps.{none_left}
 use Rattle.weld_tiles.specs.Tiling.{IsRun}
 use Rattle.weld_plan.specs.declared.plan.Plan.{Plan}
-use Rattle.weld_exec.specs.Run.{evaluation_of, rows_at, program_meaning, AtLoop}
+use Rattle.weld_exec.specs.Run.{evaluation_of, rows_at, program_meaning, IsAtALoop}
 use Rattle.weld_exec.specs.declared.env.Env.{Env as State}
 use Rattle.weld_exec.proofs.Tiling.{bare_ready, tile_means}
 use Rattle.weld_board.specs.declared.workers.span.Span.{Span}
@@ -18,7 +17,7 @@ use Rattle.weld_board.specs.Spans.{AreSpans, OnFault}
 use Rattle.weld_share.specs.declared.stretch.Stretch.{Stretch}
 use Rattle.weld_share.specs.Stretches.{IsStretch, AreStretches}
 use Rattle.weld_share.specs.Shared.{first_row, row_from, row_of, AreShared, HasMade}
-use Rattle.weld_share.proofs.Following.{ends_behind}
+use Rattle.weld_share.proofs.Following.{ends_behind, parted_stretches}
 
 -- the stretch of a number
 abbrev pub no_stretch : Stretch
@@ -110,6 +109,16 @@ behind_all n lo rows end at ss behind run some all is =
     let rest = behind_at n (first_row ss) rows ss behind (from_first n lo rows ss behind run some) in
     (rest.0, subst (λ k. AreStretches rest.0 k rows behind) (sym (is ∙ ap (row_of ss) all)) rest.1)
 
+-- the same of the first so many stretches
+pub batch_shared : (n lo rows k : ℕ) (left batch : List Stretch) → AreStretches n lo rows left → batch ≡ take k left → AreShared rows batch
+batch_shared n lo rows k left batch run is = (n, lo, drop k left, parted_stretches n lo rows k left batch run is)
+
+pub batch_begins : (n lo rows k : ℕ) (left batch : List Stretch) → AreStretches n lo rows left → batch ≡ take k left → 0 < length batch → lo ≡ row_of batch 0
+batch_begins n lo rows k left batch run is some = end_first n lo rows batch (drop k left) (parted_stretches n lo rows k left batch run is) some
+
+pub batch_behind : (n lo rows end k : ℕ) (left batch : List Stretch) → AreStretches n lo rows left → batch ≡ take k left → 0 < length batch → end ≡ row_of batch (length batch) → (m : ℕ) × AreStretches m end rows (drop k left)
+batch_behind n lo rows end k left batch run is some ends = behind_all n lo rows end (length batch) batch (drop k left) (parted_stretches n lo rows k left batch run is) some refl ends
+
 -- where no span is left, the last has been entered
 pub none_spanned : {P : Type 0} (made : ℕ → ℕ → P → Type 0) (at n : ℕ) (xs : List (Span P)) → length xs ≡ 0 → AreSpans made at n xs → at ≡ n
 none_spanned made at n [] none are = are
@@ -117,7 +126,7 @@ none_spanned made at n (x ∷ xs) none are = absurd (omega arith)
 
 -- ---- what is made of them
 
-module _ (p : Plan) (e : State) (at : LoopId) (ss : List Stretch) (h : AtLoop p e at) (are : AreShared (rows_at e) ss) where
+module _ (p : Plan) (e : State) (ss : List Stretch) (h : IsAtALoop p e) (are : AreShared (rows_at e) ss) where
   pub bare_made : (job : ℕ) (s : Thing) → job < length ss → s ≡ bare_thing (evaluation_of p e).start → HasMade p e ss job job s
   bare_made job s low is =
       let ev : Evaluation = evaluation_of p e in
@@ -125,8 +134,8 @@ module _ (p : Plan) (e : State) (at : LoopId) (ss : List Stretch) (h : AtLoop p 
       record {
         ordered = le_refl job;
         within = omega arith;
-        action = none_left ev.node ev.names ev.lists h.holds.rows (row_of ss job) (bare_thing ev.start) h.holds.are ∙ ap done (sym is);
-        holds = bare_ready p e at s (row_of ss job) (rows_at e) h high (le_refl (rows_at e)) is;
+        action = none_left ev.node ev.names ev.lists h.stands.holds.rows (row_of ss job) (bare_thing ev.start) h.stands.holds.are ∙ ap done (sym is);
+        holds = bare_ready p e h.at s (row_of ss job) (rows_at e) h.stands high (le_refl (rows_at e)) is;
       }
 
   pub can_run : (first job : ℕ) (d : Stretch) (s : Thing) → job < length ss → HasMade p e ss first job s
@@ -187,5 +196,5 @@ module _ (p : Plan) (e : State) (at : LoopId) (ss : List Stretch) (h : AtLoop p 
       let there = stretch_at (rows_at e) ss are (omega arith) job d low in
       let some = there.some in
       let up = rises (rows_at e) ss are (omega arith) first job made.ordered in
-      tile_means p e at (row_of ss first) (row_of ss (suc job)) h (omega arith) there.within (splits first job d s low made ∙ q)
+      tile_means p e h.at (row_of ss first) (row_of ss (suc job)) h.stands (omega arith) there.within (splits first job d s low made ∙ q)
   stretch_faults T U Memory first job d s u start low made q = tt

@@ -5,7 +5,6 @@ use Rattle.weld_data.specs.declared.stop.Stop.{Stop}
 use Rattle.weld_data.specs.declared.stop.Stop.TheVariants.{Fault, Memory}
 use Rattle.weld_tree.specs.ExprTree.{ExprTree}
 use Rattle.weld_builders.specs.Outcome.{done, and_then}
-use Rattle.weld_meaning.specs.declared.loop_id.LoopId.{LoopId}
 use Rattle.weld_meaning.specs.Thing.{Thing, bare_thing}
 use Rattle.weld_meaning.specs.Evaluation.{Env}
 use Rattle.weld_acts.specs.Ranges.{HoldsRange, RangeAnswer, range_over}
@@ -15,7 +14,7 @@ use Rattle.weld_tiles.specs.declared.tile.Tile.{Tile}
 use Rattle.weld_tiles.specs.Tiling.{IsRun}
 use Rattle.weld_tile_parts.specs.declared.piece.TilePart.{TilePart}
 use Rattle.weld_plan.specs.declared.plan.Plan.{Plan}
-use Rattle.weld_exec.specs.Run.{evaluation_of, rows_at, AtLoop}
+use Rattle.weld_exec.specs.Run.{evaluation_of, rows_at, IsAtALoop}
 use Rattle.weld_exec.specs.declared.env.Env.{Env as State}
 use Rattle.weld_exec.proofs.Tiling.{bare_stops}
 use Rattle.weld_share.specs.Mapped.{IsAnswer}
@@ -102,7 +101,7 @@ run_ends n env lists lo hi start s ts i more h =
     range_ends n env lists lo hi start h.at s h.runs (omega arith)
 
 -- a stretch that stopped answers so
-pub stretch_stops : (T U : Type 0) (stop : Stop) (p : Plan) (e : State) (at : LoopId) (s : Stretch) (y : Thing) → AtLoop p e at → IsStretchOf (rows_at e) s
+pub stretch_stops : (T U : Type 0) (stop : Stop) (p : Plan) (e : State) (s : Stretch) (y : Thing) → IsAtALoop p e → IsStretchOf (rows_at e) s
     → RangeAnswer {T = T} (Err stop) (evaluation_of p e) s.whole.lo s.whole.hi (bare_thing (evaluation_of p e).start) y → IsAnswer p e s.whole (Err stop)
-stretch_stops T U Fault p e at s y h of q = bare_stops T TilePart Fault p e at (bare_thing (evaluation_of p e).start) y s.whole.lo s.whole.hi h (run_ordered of.0.0 s.whole.lo s.whole.hi s.tiles.now of.0.1) of.1 refl q
-stretch_stops T U Memory p e at s y h of q = tt
+stretch_stops T U Fault p e s y h of q = bare_stops T TilePart Fault p e h.at (bare_thing (evaluation_of p e).start) y s.whole.lo s.whole.hi h.stands (run_ordered of.0.0 s.whole.lo s.whole.hi s.tiles.now of.0.1) of.1 refl q
+stretch_stops T U Memory p e s y h of q = tt

@@ -5,6 +5,7 @@
 pub mod mapped;
 pub mod note;
 mod parallel;
+pub mod share;
 mod sharing;
 mod stretch;
 mod tiled;

@@ -12,6 +12,7 @@ ghost use Rattle.weld_sizes.specs.Sized.{sized_marks};
 ghost use Rattle.weld_share.specs.Counts.{IsNote};
 
 use crate::note::RunNote;
+use crate::share::Sharing;
 use crate::tiled::run_loop;
 use crate::way::Way;
 use std::alloc::Global;
@@ -43,7 +44,8 @@ pub fn run_mapped<G: Gate>(
     ensures value { Answers (λ r. view_val r.0) result (meaning plan.now.program.now inputs.now) }
     ensures note { IfOk result (λ r. IsNote plan.now.program.now inputs.now cut r.1) }
 {
-    run_by(rt, alloc, plan, inputs, workers, cut, gate, Way::Mapped)
+    let sharing = Sharing { workers, cut };
+    run_by(rt, alloc, plan, inputs, sharing, gate, Way::Mapped)
 }
 
 /// The same, in one way or the other.
@@ -52,18 +54,14 @@ fn run_by<G: Gate>(
     alloc: Global,
     plan: &Plan,
     inputs: &Vals,
-    workers: u32,
-    cut: u32,
+    sharing: Sharing,
     gate: &G,
     way: Way,
 ) -> Result<(Val, RunNote), Stop>
     requires plan { IsPlan plan.now }
     requires fit { ArgumentsFit plan.now.program.now.params inputs.now }
-    requires some_worker { 1 ≤ workers }
-    requires workers { workers ≤ 64 }
-    requires cut { 1 ≤ cut }
     ensures value { Answers (λ r. view_val r.0) result (meaning plan.now.program.now inputs.now) }
-    ensures note { IfOk result (λ r. IsNote plan.now.program.now inputs.now cut r.1) }
+    ensures note { IfOk result (λ r. IsNote plan.now.program.now inputs.now sharing.cut r.1) }
 {
     let mut env = match Env::new(alloc, plan, inputs) {
         Ok(env) => env,
@@ -74,7 +72,7 @@ fn run_by<G: Gate>(
         match env.advance(plan, alloc) {
             Ok(Next::Done(value)) => return Ok((value, note)),
             Ok(Next::Loop(at)) => match run_loop(
-                rt, alloc, plan, &mut env, at, workers, cut, gate, way,
+                rt, alloc, plan, &mut env, at, sharing, gate, way,
             ) {
                 Ok((tiles, rows)) => {
                     note.tiles += tiles as u128;
@@ -128,5 +126,6 @@ pub fn run_plan<G: Gate>(
     ensures value { Answers (λ r. view_val r.0) result (meaning plan.now.program.now inputs.now) }
     ensures note { IfOk result (λ r. IsNote plan.now.program.now inputs.now cut r.1) }
 {
-    run_by(rt, alloc, plan, inputs, workers, cut, gate, Way::Shared)
+    let sharing = Sharing { workers, cut };
+    run_by(rt, alloc, plan, inputs, sharing, gate, Way::Shared)
 }

@@ -5,6 +5,8 @@ ghost use Rattle.weld_tiles.specs.Tiling.{IsRun, IsTiling};
 ghost use Rattle.weld_tiles.specs.declared.tile.Tile.{Tile};
 ghost use Rattle.weld_share.specs.Stretches.{AreStretches};
 
+use crate::share::Sharing;
+use crate::way::Way;
 use std::alloc::{AllocError, Global};
 use weld_tiles::Tile;
 
@@ -21,22 +23,19 @@ pub(crate) struct Stretch<'a> {
     pub(crate) tiles: &'a [Tile],
 }
 
-/// How many tiles a stretch has, of so many tiles that have so many rows together: each of the workers is to have so many
-/// stretches of each batch, and all of about the same length. A lone worker has all in one, so that nothing is joined. It takes no
-/// memory.
-fn stretch_len(tiles: usize, rows: u64, workers: u32, each: u32) -> usize
-    requires some_worker { 1 ≤ workers }
-    requires workers { workers ≤ 64 }
-    requires some_each { 1 ≤ each }
-    requires each { each ≤ 64 }
+/// How many tiles a stretch has, of so many tiles that have so many rows together: each of the workers is to have as many
+/// stretches of each batch as the way says, and all of about the same length. A lone worker has all in one, so that nothing is
+/// joined. It takes no memory.
+fn stretch_len(tiles: usize, rows: u64, sharing: Sharing, way: Way) -> usize
     ensures { 1 ≤ result }
 {
+    let workers = sharing.workers;
     if workers == 1 {
         return tiles.max(1);
     }
     let batches = rows.div_ceil(STRETCH_ROWS * u64::from(workers)).max(1);
     let batch = tiles.div_ceil(batches as usize);
-    batch.div_ceil((workers * each) as usize).max(1)
+    batch.div_ceil((workers * way.each()) as usize).max(1)
 }
 
 /// The tiles of a loop's rows as stretches.
@@ -44,17 +43,13 @@ pub(crate) fn stretches<'a>(
     alloc: Global,
     tiles: &'a [Tile],
     rows: u64,
-    workers: u32,
-    each: u32,
+    sharing: Sharing,
+    way: Way,
 ) -> Result<Vec<Stretch<'a>>, AllocError>
-    requires tiling { IsTiling tiles.now rows }
-    requires some_worker { 1 ≤ workers }
-    requires workers { workers ≤ 64 }
-    requires some_each { 1 ≤ each }
-    requires each { each ≤ 64 }
+    requires { IsTiling tiles.now rows }
     ensures { IfOk result (λ list. AreStretches 0 0 rows list.items) }
 {
-    let len = stretch_len(tiles.len(), rows, workers, each);
+    let len = stretch_len(tiles.len(), rows, sharing, way);
     let mut list = Vec::new(alloc);
     let mut left = tiles;
     let mut lo = 0;

@@ -1,20 +1,19 @@
 //! One loop, by stretches of tiles that are run apart.
 
-ghost use Rattle.std.specs.Prelude.{◌≡◌, ◌∷◌, ◌≤◌, ◌<◌, ◌+◌, ◌^◌, ◌++◌, ℕ, IfOk, OnOk, All};
+ghost use Rattle.std.specs.Prelude.{◌≡◌, ◌∷◌, ◌≤◌, ◌<◌, ◌+◌, ◌^◌, length, drop, Err, IfOk, IsOkAnd, OnOk, All};
 ghost use Rattle.weld_builders.specs.Outcome.{fault};
 ghost use Rattle.weld_eval.specs.Answers.{OnFault};
 ghost use Rattle.weld_tiles.specs.Tiling.{Follows, IsTiling};
-ghost use Rattle.weld_tiles.specs.declared.tile.Tile.{Tile};
-ghost use Rattle.weld_tile_parts.specs.Parts.{joined_evaluation, IsWhole};
-ghost use Rattle.weld_exec.specs.Run.{env_inputs, program_meaning, IsReady, left_of, evaluation_of, rows_at, rows_left, AtLoop, TileAnswer};
+ghost use Rattle.weld_tile_parts.specs.Parts.{part_evaluation, joined_evaluation, IsWhole};
+ghost use Rattle.weld_exec.specs.Run.{env_inputs, program_meaning, IsReady, left_of, evaluation_of, rows_at, rows_left, AtLoop, IsAtALoop};
 ghost use Rattle.weld_share.specs.Counts.{AreCut};
-ghost use Rattle.weld_share.specs.Mapped.{IsAnswer, AreAnswers};
+ghost use Rattle.weld_share.specs.Mapped.{IsAnswer};
 ghost use Rattle.weld_share.specs.Stretches.{IsStretchOf, AreStretches};
 
 use crate::parallel::{RunsStretches, map_stretches};
+use crate::share::Sharing;
 use crate::sharing::share_stretches;
 use crate::stretch::{Stretch, stretches};
-use crate::told::{Tells, run_told};
 use crate::way::Way;
 use std::alloc::Global;
 use std::thread::Threads;
@@ -32,85 +31,42 @@ pub(crate) struct Tiled<'a, 'b, G> {
     pub(crate) alloc: Global,
     pub(crate) plan: &'a Plan<'b>,
     pub(crate) env: &'a Env<'b>,
-    pub(crate) at: LoopId,
     pub(crate) gate: &'a G,
 }
 
-impl<'a, 'b, G: Gate> Tells for Tiled<'a, 'b, G> {
-    ghost has_told = { λ r n. G.told r.gate.now n };
-}
-
 impl<'a, 'b, G: Gate> RunsStretches for Tiled<'a, 'b, G> {
-    ghost takes = { λ r s. AtLoop r.plan.now r.env.now r.at × IsStretchOf (rows_at r.env.now) s };
+    ghost takes = { λ r s. IsAtALoop r.plan.now r.env.now × IsStretchOf (rows_at r.env.now) s };
 
     ghost answers = { λ r s answer. IsAnswer r.plan.now r.env.now s.whole answer };
 
     fn run(&self, stretch: &Stretch) -> Result<TilePart, Stop> {
         let whole = stretch.whole;
-        let mut part = match bare_part(self.plan, self.env, self.at, whole, self.alloc) {
+        let mut part = match bare_part(self.plan, self.env, whole, self.alloc) {
             Ok(part) => part,
             Err(_) => return Err(Stop::Memory),
         };
         for tile in stretch.tiles {
             self.gate.before(tile.number);
-            match run_told(
-                self, self.alloc, self.plan, self.env, self.at, *tile, &mut part,
-            ) {
+            match self.run_told(*tile, &mut part) {
                 Ok(()) => {}
                 Err(stop) => return Err(stop),
             }
         }
-        Ok(part_of(self.plan, self.env, self.at, stretch.whole, part))
+        Ok(part_of(self.plan, self.env, stretch.whole, part))
     }
-}
-
-/// Joins what stretches have made, in their order, to the builder that has come to the first of them. The first stop in that
-/// order is the answer. `behind` are the stretches that come after these.
-fn enter_all(
-    plan: &Plan,
-    env: &Env,
-    answers: Vec<Result<TilePart, Stop>>,
-    behind: &[Stretch],
-    mut joined: Joined,
-) -> Result<Joined, Stop>
-    requires whole { IsWhole joined }
-    requires evaluation { joined_evaluation joined ≡ evaluation_of plan.now env.now }
-    requires answers { AreAnswers plan.now env.now joined.next joined.end (rows_at env.now)
-        behind.now answers.items }
-    ensures whole { IfOk result (λ j. IsWhole j) }
-    ensures evaluation { IfOk result (λ j. joined_evaluation j ≡ evaluation_of plan.now env.now) }
-    ensures behind { IfOk result (λ j. AreStretches j.next j.end (rows_at env.now) behind.now) }
-    ensures fault { OnFault result (program_meaning plan.now env.now ≡ fault) }
-{
-    let _behind = behind;
-    for answer in answers {
-        match enter_one(plan, env, answer, &mut joined) {
-            Ok(()) => {}
-            Err(stop) => return Err(stop),
-        }
-    }
-    Ok(joined)
 }
 
 /// Joins what the next stretch has made.
-fn enter_one(
-    plan: &Plan,
-    env: &Env,
-    answer: Result<TilePart, Stop>,
-    into: &mut Joined,
-) -> Result<(), Stop>
+fn enter_one(answer: Result<TilePart, Stop>, into: &mut Joined) -> Result<(), Stop>
     requires whole { IsWhole into.old }
-    requires evaluation { joined_evaluation into.old ≡ evaluation_of plan.now env.now }
-    requires answer { (t : Tile) × Follows t into.old.next into.old.end
-        × IsAnswer plan.now env.now t answer }
+    requires follows { IfOk answer (λ part. Follows part.tile into.old.next into.old.end) }
+    requires evaluation { IfOk answer (λ part. part_evaluation part ≡ joined_evaluation into.old) }
     ensures whole { OnOk result (IsWhole into.new) }
     ensures evaluation { joined_evaluation into.new ≡ joined_evaluation into.old }
-    ensures on { (t : Tile) → IsAnswer plan.now env.now t answer
-        → OnOk result ((into.new.next ≡ t.number + 1) × (into.new.end ≡ t.hi)) }
-    ensures fault { OnFault result (program_meaning plan.now env.now ≡ fault) }
+    ensures on { OnOk result (IsOkAnd answer (λ part. (into.new.next ≡ part.tile.number + 1)
+        × (into.new.end ≡ part.tile.hi))) }
+    ensures fault { OnFault result (answer ≡ Err Stop.Fault) }
 {
-    let _plan = plan;
-    let _env = env;
     let part = match answer {
         Ok(part) => part,
         Err(stop) => return Err(stop),
@@ -129,26 +85,22 @@ pub(crate) fn run_loop<G: Gate>(
     plan: &Plan,
     env: &mut Env,
     at: LoopId,
-    workers: u32,
-    cut: u32,
+    sharing: Sharing,
     gate: &G,
     way: Way,
 ) -> Result<(usize, u64), Stop>
-    requires at { AtLoop plan.now env.old at }
-    requires some_worker { 1 ≤ workers }
-    requires workers { workers ≤ 64 }
-    requires cut { 1 ≤ cut }
+    requires { AtLoop plan.now env.old at }
     ensures ready { OnOk result (IsReady plan.now env.new) }
     ensures left { OnOk result (left_of plan.now env.new < left_of plan.now env.old) }
     ensures inputs { env_inputs env.new ≡ env_inputs env.old }
     ensures rows { IfOk result (λ r. rows_left plan.now env.old
         ≡ r.1 ∷ rows_left plan.now env.new) }
-    ensures tiles { IfOk result (λ r. AreCut cut r.1 r.0) }
+    ensures tiles { IfOk result (λ r. AreCut sharing.cut r.1 r.0) }
     ensures few { IfOk result (λ r. r.1 < 2 ^ 64) }
     ensures fault { OnFault result (program_meaning plan.now env.old ≡ fault) }
 {
     let rows = env.rows_of(plan, at);
-    let list = match tiles(alloc, rows, cut) {
+    let list = match tiles(alloc, rows, sharing.cut) {
         Ok(list) => list,
         Err(_) => return Err(Stop::Memory),
     };
@@ -159,7 +111,7 @@ pub(crate) fn run_loop<G: Gate>(
         &*env,
         at,
         list.as_slice(),
-        workers,
+        sharing,
         gate,
         way,
     ) {
@@ -173,6 +125,7 @@ pub(crate) fn run_loop<G: Gate>(
 }
 
 /// The builder of the loop at which the run stands, joined with what the tiles of its rows make.
+#[tactic(auto, using(weld_exec::proofs::Tiling::at_a_loop))]
 fn join_tiles<G: Gate>(
     rt: &(impl Threads + Sync),
     alloc: Global,
@@ -180,20 +133,18 @@ fn join_tiles<G: Gate>(
     env: &Env,
     at: LoopId,
     tiles: &[Tile],
-    workers: u32,
+    sharing: Sharing,
     gate: &G,
     way: Way,
 ) -> Result<Joined, Stop>
     requires at { AtLoop plan.now env.now at }
     requires tiling { IsTiling tiles.now (rows_at env.now) }
-    requires some_worker { 1 ≤ workers }
-    requires workers { workers ≤ 64 }
     ensures whole { IfOk result (λ j. IsWhole j) }
     ensures evaluation { IfOk result (λ j. joined_evaluation j ≡ evaluation_of plan.now env.now) }
     ensures all { IfOk result (λ j. j.end ≡ rows_at env.now) }
     ensures fault { OnFault result (program_meaning plan.now env.now ≡ fault) }
 {
-    let stretches = match stretches(alloc, tiles, env.rows_of(plan, at), workers, way.each()) {
+    let stretches = match stretches(alloc, tiles, env.rows_of(plan, at), sharing, way) {
         Ok(stretches) => stretches,
         Err(_) => return Err(Stop::Memory),
     };
@@ -205,75 +156,83 @@ fn join_tiles<G: Gate>(
         alloc,
         plan,
         env,
-        at,
         gate,
     };
     match way {
-        Way::Mapped => join_stretches(rt, alloc, &run, &stretches, workers as usize, start),
-        Way::Shared => share_stretches(rt, alloc, &run, &stretches, workers, start),
+        Way::Mapped => join_stretches(rt, alloc, &run, &stretches, sharing, start),
+        Way::Shared => share_stretches(rt, alloc, &run, &stretches, sharing, start),
     }
 }
 
-/// The builder at the start, joined with what stretches make, of which so many are run before what they make is joined.
+/// The builder at the start, joined with what stretches make, of which as many as there are workers are run before what they
+/// make is joined.
 fn join_stretches<G: Gate>(
     rt: &(impl Threads + Sync),
     alloc: Global,
     run: &Tiled<G>,
     stretches: &[Stretch],
-    batch_len: usize,
+    sharing: Sharing,
     start: Joined,
 ) -> Result<Joined, Stop>
-    requires at { AtLoop run.now.plan.now run.now.env.now run.now.at }
+    requires at { IsAtALoop run.now.plan.now run.now.env.now }
     requires whole { IsWhole start }
     requires evaluation { joined_evaluation start ≡ evaluation_of run.now.plan.now run.now.env.now }
     requires stretches { AreStretches start.next start.end (rows_at run.now.env.now) stretches.now }
-    requires some { 1 ≤ batch_len }
     ensures whole { IfOk result (λ j. IsWhole j) }
     ensures evaluation { IfOk result (λ j. joined_evaluation j
         ≡ evaluation_of run.now.plan.now run.now.env.now) }
     ensures all { IfOk result (λ j. j.end ≡ rows_at run.now.env.now) }
     ensures fault { OnFault result (program_meaning run.now.plan.now run.now.env.now ≡ fault) }
 {
+    let batch_len = sharing.workers as usize;
     let mut joined = start;
     let mut at = 0;
     'batches: while at < stretches.len() {
         let (_, left) = stretches.split_at(at);
-        let (batch, behind) = left.split_at(left.len().min(batch_len));
-        joined = match join_batch(rt, alloc, run, batch, behind, joined) {
+        let len = left.len().min(batch_len);
+        joined = match join_batch(rt, alloc, run, left, len, joined) {
             Ok(joined) => joined,
             Err(stop) => return Err(stop),
         };
-        at += batch.len();
+        at += len;
     }
     Ok(joined)
 }
 
-/// The builder that has come to the first of some stretches, joined with what these make. `behind` are the stretches that come
-/// after them.
+/// The builder that has come to the first of some stretches, joined with what so many of them make, in their order. The first
+/// stop in that order is the answer.
 #[tactic(auto, using(crate::proofs::Following::batch_answers))]
 fn join_batch<G: Gate>(
     rt: &(impl Threads + Sync),
     alloc: Global,
     run: &Tiled<G>,
-    batch: &[Stretch],
-    behind: &[Stretch],
-    joined: Joined,
+    left: &[Stretch],
+    len: usize,
+    mut joined: Joined,
 ) -> Result<Joined, Stop>
-    requires at { AtLoop run.now.plan.now run.now.env.now run.now.at }
+    requires at { IsAtALoop run.now.plan.now run.now.env.now }
     requires whole { IsWhole joined }
     requires evaluation { joined_evaluation joined ≡ evaluation_of run.now.plan.now
         run.now.env.now }
-    requires stretches { AreStretches joined.next joined.end (rows_at run.now.env.now)
-        (batch.now ++ behind.now) }
+    requires stretches { AreStretches joined.next joined.end (rows_at run.now.env.now) left.now }
+    requires enough { len ≤ length left.now }
     ensures whole { IfOk result (λ j. IsWhole j) }
     ensures evaluation { IfOk result (λ j. joined_evaluation j
         ≡ evaluation_of run.now.plan.now run.now.env.now) }
     ensures behind { IfOk result (λ j. AreStretches j.next j.end (rows_at run.now.env.now)
-        behind.now) }
+        (drop len left.now)) }
     ensures fault { OnFault result (program_meaning run.now.plan.now run.now.env.now ≡ fault) }
 {
-    match map_stretches(rt, alloc, run, batch) {
-        Ok(answers) => enter_all(run.plan, run.env, answers, behind, joined),
-        Err(_) => Err(Stop::Memory),
+    let (batch, _) = left.split_at(len);
+    let answers = match map_stretches(rt, alloc, run, batch) {
+        Ok(answers) => answers,
+        Err(_) => return Err(Stop::Memory),
+    };
+    for answer in answers {
+        match enter_one(answer, &mut joined) {
+            Ok(()) => {}
+            Err(stop) => return Err(stop),
+        }
     }
+    Ok(joined)
 }

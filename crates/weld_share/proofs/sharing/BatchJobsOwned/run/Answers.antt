@@ -1,6 +1,5 @@
 use denote.Builtin.{unit}
 use Rattle.std.proofs.Common.{◌≡◌, ◌<◌, ◌≤◌, ◌+◌, ℕ, List, drop, get_or, length, refl, sym, ap, subst, ◌∙◌, arith}
-use Rattle.weld_meaning.specs.declared.loop_id.LoopId.{LoopId}
 use Rattle.weld_meaning.specs.Thing.{Thing}
 use Rattle.weld_acts.specs.Ranges.{Evaluation}
 use Rattle.weld_eval.specs.ThingView.{thing_of}
@@ -18,20 +17,18 @@ pub loop-tile-init : goal.loop-tile-init
 loop-tile-init g c =
     let p : Plan = c.args.self.now.run.now.plan.now in
     let e : State = c.args.self.now.run.now.env.now in
-    let at : LoopId = c.args.self.now.run.now.at in
     let ss : List Stretch = c.args.self.now.stretches.now in
     let s : Stretch = stretch_of ss c.args.job in
     let ev : Evaluation = evaluation_of p e in
     let none : Tile = record { number = 0; lo = 0; hi = 0 } in
     let is = (stretch_at (rows_at e) ss c.requires.ready.1 (let low = c.requires.job in omega arith) c.args.job no_stretch c.requires.job).is in
     run_starts ev.node ev.names ev.lists is.0 s.whole.lo s.whole.hi s.tiles.now (thing_of c.args.part.now) is.1
-    (can_run p e at ss c.requires.ready.0 c.requires.ready.1 c.args._first c.args.job no_stretch (thing_of c.args.part.now) c.requires.job c.requires.made)
+    (can_run p e ss c.requires.ready.0 c.requires.ready.1 c.args._first c.args.job no_stretch (thing_of c.args.part.now) c.requires.job c.requires.made)
 
 pub run_told-requires-clause-holds : goal.run_told-requires-clause-holds
 run_told-requires-clause-holds g c =
     let p : Plan = c.args.self.now.run.now.plan.now in
     let e : State = c.args.self.now.run.now.env.now in
-    let at : LoopId = c.args.self.now.run.now.at in
     let ss : List Stretch = c.args.self.now.stretches.now in
     let s : Stretch = stretch_of ss c.args.job in
     let ev : Evaluation = evaluation_of p e in
@@ -42,7 +39,6 @@ pub loop-tile-preserved : goal.loop-tile-preserved
 loop-tile-preserved g c =
     let p : Plan = c.args.self.now.run.now.plan.now in
     let e : State = c.args.self.now.run.now.env.now in
-    let at : LoopId = c.args.self.now.run.now.at in
     let ss : List Stretch = c.args.self.now.stretches.now in
     let s : Stretch = stretch_of ss c.args.job in
     let ev : Evaluation = evaluation_of p e in
@@ -53,22 +49,20 @@ pub returns-in-Err-clause-fault : goal.returns-in-Err-clause-fault
 returns-in-Err-clause-fault g c =
     let p : Plan = c.args.self.now.run.now.plan.now in
     let e : State = c.args.self.now.run.now.env.now in
-    let at : LoopId = c.args.self.now.run.now.at in
     let ss : List Stretch = c.args.self.now.stretches.now in
     let s : Stretch = stretch_of ss c.args.job in
     let ev : Evaluation = evaluation_of p e in
     let none : Tile = record { number = 0; lo = 0; hi = 0 } in
-    stretch_faults p e at ss c.requires.ready.0 c.requires.ready.1 unit.Denot unit.Denot c.in-Err.stop c.args._first c.args.job no_stretch (thing_of c.args.part.now) (thing_of c.run_told.new.part) ev.start c.requires.job c.requires.made
+    stretch_faults p e ss c.requires.ready.0 c.requires.ready.1 unit.Denot unit.Denot c.in-Err.stop c.args._first c.args.job no_stretch (thing_of c.args.part.now) (thing_of c.run_told.new.part) ev.start c.requires.job c.requires.made
     (tile_stops unit.Denot unit.Denot c.in-Err.stop ev.node ev.names ev.lists s.whole.lo s.whole.hi (thing_of c.args.part.now) (thing_of c.loop-tile.part) (thing_of c.run_told.new.part) (thing_of c.run_told.new.part) ev.start (get_or s.tiles.now c.loop-tile.tile-index none) (drop (c.loop-tile.tile-index + 1) s.tiles.now) (run_at ev.node ev.names ev.lists s.whole.lo s.whole.hi (thing_of c.args.part.now) (thing_of c.loop-tile.part) s.tiles.now c.loop-tile.tile-index none c.loop-tile-test.true c.loop-tile.invariant) c.in-Err.ensures)
 
 pub returns-clause-made : goal.returns-clause-made
 returns-clause-made g c =
     let p : Plan = c.args.self.now.run.now.plan.now in
     let e : State = c.args.self.now.run.now.env.now in
-    let at : LoopId = c.args.self.now.run.now.at in
     let ss : List Stretch = c.args.self.now.stretches.now in
     let s : Stretch = stretch_of ss c.args.job in
     let ev : Evaluation = evaluation_of p e in
     let none : Tile = record { number = 0; lo = 0; hi = 0 } in
-    more_made p e at ss c.requires.ready.0 c.requires.ready.1 c.args._first c.args.job no_stretch (thing_of c.args.part.now) (thing_of c.loop-tile.part) c.requires.job c.requires.made
+    more_made p e ss c.requires.ready.0 c.requires.ready.1 c.args._first c.args.job no_stretch (thing_of c.args.part.now) (thing_of c.loop-tile.part) c.requires.job c.requires.made
     (run_ends ev.node ev.names ev.lists s.whole.lo s.whole.hi (thing_of c.args.part.now) (thing_of c.loop-tile.part) s.tiles.now c.loop-tile.tile-index c.loop-tile-test.false c.loop-tile.invariant)
