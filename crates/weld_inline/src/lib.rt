@@ -9,5 +9,6 @@ mod redex;
 mod rule;
 mod spots;
 
+pub use loops_within::has_loop;
 pub use pass::inline_lets;
 pub use rule::Lets;

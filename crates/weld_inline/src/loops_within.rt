@@ -6,9 +6,9 @@ ghost use Rattle.weld_tree.specs.ExprTree.{pack_exprs};
 
 use weld_tree::{Expr, Exprs, Form};
 
-/// Whether a `for` or an `iterate` stands in the expression.
+/// Whether a `for` or an `iterate` stands in the expression. It takes no memory.
 #[cycle(loops)]
-pub(crate) fn has_loop(e: &Expr) -> bool
+pub fn has_loop(e: &Expr) -> bool
     ensures { result ≡ has_loop e.now }
 {
     match &e.form {

@@ -7,7 +7,7 @@ use Rattle.weld_tree.specs.declared.binder.Binder.{Binder}
 use Rattle.weld_tree.specs.declared.known.Known.TheVariants.{Blank, Is}
 use Rattle.weld_tree.specs.declared.place.Place.{Place}
 use Rattle.weld_tree.specs.TypeTree.{TypeTree, scalar, list, total}
-use Rattle.weld_tree.specs.ExprTree.{At, ExprTree, leaf, one, two, three, many, let_in, loop, ExprTrees, no_exprs, more_exprs, whole, LegTrees, no_legs, more_legs, name, fresh, field, finish, merge, if_else, make_struct}
+use Rattle.weld_tree.specs.ExprTree.{At, ExprTree, leaf, one, two, three, many, let_in, loop, no_exprs, more_exprs, whole, LegTrees, no_legs, more_legs, name, fresh, field, finish, merge, if_else, make_struct}
 use Rattle.weld_vertical.specs.Sinking.{is_consumer}
 use Rattle.weld_vertical_struct.specs.Parting.{opened}
 use Rattle.weld_vertical_struct.specs.Held.{is_held, held_fused}
@@ -76,13 +76,20 @@ in_an_arm = refl
 a_pair_of_a_pairs_parts : is_held (summing (behind (pair (use_of 2) sum) (let_in node (binder 12) (pair (merged (part 9 1) (use_of 4)) (part 9 0)) (merged (part 12 1) (one node finish (part 12 0)))))) ≡ true
 a_pair_of_a_pairs_parts = refl
 
+-- `let s9 = {merge(b2, x4), merger}; let t10 = result(s9.$1); s9.$0`
+no_name_in_the_pair : is_held (summing (behind (pair (merged (use_of 2) (use_of 4)) sum) (let_in node (binder 10) (one node finish (part 9 1)) (part 9 0)))) ≡ true
+no_name_in_the_pair = refl
+
+the_merge_second : is_held (summing (behind (pair sum (merged (use_of 2) (use_of 4))) (let_in node (binder 10) (one node finish (part 9 0)) (part 9 1)))) ≡ true
+the_merge_second = refl
+
 -- ---- which stay
+
+a_merge_in_two_arms_stays : is_held (summing (behind (pair (merged (use_of 2) (use_of 4)) sum) (let_in node (binder 10) (one node finish (part 9 1)) (three node if_else (use_of 11) (part 9 0) (part 9 0))))) ≡ false
+a_merge_in_two_arms_stays = refl
 
 the_whole_pair_stays : is_held (summing (behind (pair (use_of 2) sum) (let_in node (binder 12) (use_of 9) (merged (part 12 0) (one node finish (part 12 1)))))) ≡ false
 the_whole_pair_stays = refl
-
-no_name_in_the_pair_stays : is_held (summing (behind (pair (merged (use_of 2) (use_of 4)) sum) (let_in node (binder 10) (one node finish (part 9 1)) (part 9 0)))) ≡ false
-no_name_in_the_pair_stays = refl
 
 a_name_used_besides_stays : is_held (summing (behind (pair (use_of 2) sum) (let_in node (binder 10) (use_of 2) (sums 1 0)))) ≡ false
 a_name_used_besides_stays = refl
@@ -112,5 +119,5 @@ both_as_one : held_fused (summing (behind (pair (use_of 2) sum) (sums 1 0)))
 both_as_one = refl
 
 -- `let s9 = merger; let t10 = merge(s9, x4); merge(b2, result(t10))`
-taken_apart : opened 3 (behind (pair (use_of 2) sum) (sums 1 0)) ≡ behind sum (let_in node (binder 10) (merged (use_of 9) (use_of 4)) (merged (use_of 2) (one node finish (use_of 10))))
+taken_apart : opened 2 8 3 (behind (pair (use_of 2) sum) (sums 1 0)) ≡ behind sum (let_in node (binder 10) (merged (use_of 9) (use_of 4)) (merged (use_of 2) (one node finish (use_of 10))))
 taken_apart = refl

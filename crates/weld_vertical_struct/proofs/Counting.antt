@@ -1,8 +1,6 @@
 -- With the names of a pair's parts for the pair, binders, loops and legs stay; and where the pair is used by its parts.
-use Rattle.std.proofs.Common.{◌≡◌, ◌≢◌, ℕ, ◌+◌, ◌==◌, if◌then◌else◌, Bool, true, false, not, ◌&&◌, ◌||◌, [], ◌∷◌, ◌++◌, Option, Some, None, refl, ap, sym, subst, ◌∙◌, ◌⊎◌, inl, inr, eq-eqb, ne_eqb, eqb-true, arith, ◌<◌}
-use Rattle.std.proofs.lemmas.Bool.{cases_eq}
-use Rattle.weld_tree.specs.declared.binder.Binder.{Binder}
-use Rattle.weld_tree.specs.ExprTree.{At, ExprTree, leaf, one, two, three, many, let_in, loop, iterate, ExprTrees, no_exprs, more_exprs, LegTree, whole, strided, LegTrees, no_legs, more_legs, Leaf, int, truth, chars, name, fresh, One, field}
+use Rattle.std.proofs.Common.{◌≡◌, ◌≢◌, ℕ, ◌+◌, ◌==◌, if◌then◌else◌, Bool, true, false, not, ◌&&◌, ◌||◌, [], ◌∷◌, ◌++◌, Option, Some, None, refl, sym, ◌∙◌, ◌⊎◌, inl, inr, eq-eqb, eqb-true, arith}
+use Rattle.weld_tree.specs.ExprTree.{At, ExprTree, leaf, one, two, three, many, let_in, loop, iterate, ExprTrees, no_exprs, more_exprs, LegTree, whole, strided, LegTrees, no_legs, more_legs, Leaf, int, truth, chars, name, fresh, One}
 use Rattle.weld_tree.specs.Program.{loops, loops_in, loops_in_leg, loops_in_legs, bound, bound_in, bound_in_leg, bound_in_legs, IsWellMade, AreWellMade, LegIsWellMade, LegsAreWellMade, HasExprs, HasLegs}
 use Rattle.weld_meaning.specs.Names.{IsFree, AreFree, LegIsFree, LegsAreFree, Binds, AllBind, LegBinds, LegsBind}
 use Rattle.weld_print.specs.Spellable.{IsSpellable, AreSpellable, LegIsSpellable, LegsAreSpellable}
@@ -11,7 +9,7 @@ use Rattle.weld_substitution.specs.Uses.{is_name, uses}
 use Rattle.weld_substitution.specs.Redex.{is_field}
 use Rattle.weld_substitution.proofs.UsedNames.{used_or_free}
 use Rattle.weld_substitution.proofs.Unnamed.{binds_so}
-use Rattle.weld_vertical_struct.specs.Parting.{field_taken, parted_one, parted, all_parted, leg_parted, legs_parted, is_part, one_apart, is_unnamed, is_apart, are_apart, leg_is_apart, legs_are_apart}
+use Rattle.weld_vertical_struct.specs.Parting.{field_taken, parted_one, all_parted, leg_parted, legs_parted, is_part, one_apart, is_unnamed, is_apart, are_apart, leg_is_apart, legs_are_apart}
 use Rattle.weld_vertical_struct.proofs.Parts.{Pair, IsPartNumber, IsElse, HasNeither, part, LeafIsOfParts, OneIsOfParts, IsOfParts, AreOfParts, LegIsOfParts, LegsAreOfParts, parts, field_by}
 
 module _ (m : Pair) where

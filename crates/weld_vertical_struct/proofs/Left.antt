@@ -37,11 +37,11 @@ no_pair_left ls i h = ap (λ rest. legs_have_pair (pack_legs (map view_leg rest)
 
 -- ---- legs with their pairs taken apart
 
-packed : (ls : List LegTree) → pack_legs (map opened_leg ls) ≡ opened_legs (pack_legs ls)
-packed [] = refl
-packed (l ∷ ls) = ap (more_legs (opened_leg l)) (packed ls)
+packed : (z : ℕ) (ls : List LegTree) → pack_legs (map (opened_leg z) ls) ≡ opened_legs z (pack_legs ls)
+packed z [] = refl
+packed z (l ∷ ls) = ap (more_legs (opened_leg z l)) (packed z ls)
 
 -- what the slice was made is what the list is
-pub list_opened : (old was new : List LegTree) → was ≡ old → new ≡ map opened_leg was → pack_legs (refill old new) ≡ opened_legs (pack_legs old)
-list_opened old was new p q =
-    ap pack_legs (ap (refill old) (q ∙ ap (map opened_leg) p) ∙ refill_is old (map opened_leg old) (length-map old opened_leg)) ∙ packed old
+pub list_opened : (z : ℕ) (old was new : List LegTree) → was ≡ old → new ≡ map (opened_leg z) was → pack_legs (refill old new) ≡ opened_legs z (pack_legs old)
+list_opened z old was new p q =
+    ap pack_legs (ap (refill old) (q ∙ ap (map (opened_leg z)) p) ∙ refill_is old (map (opened_leg z) old) (length-map old (opened_leg z))) ∙ packed z old

@@ -6,11 +6,13 @@ mod Typing
 mod Counting
 mod Pairs
 mod PairRule
+mod Naming
+mod Binding
 mod Opening
 mod Weights
+mod Finding
 mod Swept
 mod Left
-mod Choosing
 mod Trying
 mod Depth
 mod Cases

@@ -1,10 +1,10 @@
 -- A `let` of a pair, one part of which is a name, may be rewritten to one of the other part.
-use Rattle.std.proofs.Common.{◌≡◌, ◌≢◌, ℕ, ◌+◌, ◌==◌, if◌then◌else◌, Bool, true, false, ◌&&◌, ◌||◌, [], ◌∷◌, ◌++◌, Option, Some, None, length, refl, ap, sym, subst, ◌∙◌, ◌⊎◌, inl, inr, eq-eqb, ne_eqb, arith, length-append}
+use Rattle.std.proofs.Common.{◌≡◌, ◌≢◌, ℕ, ◌==◌, if◌then◌else◌, Bool, true, false, ◌||◌, [], ◌∷◌, ◌++◌, Some, length, refl, ap, sym, subst, ◌∙◌, ◌⊎◌, inl, inr, eq-eqb, ne_eqb, arith, length-append}
 use Rattle.std.proofs.lemmas.Bool.{cases_eq}
 use Rattle.weld_tree.specs.declared.binder.Binder.{Binder}
 use Rattle.weld_tree.specs.TypeTree.{TypeTree, TypeTrees, struct as tuple}
 use Rattle.weld_tree.specs.ExprTree.{At, ExprTree, leaf, let_in, name}
-use Rattle.weld_tree.specs.Program.{loops, bound}
+use Rattle.weld_tree.specs.Program.{bound}
 use Rattle.weld_builders.specs.Outcome.{Outcome, done, fault, stuck, and_then, map_out}
 use Rattle.weld_meaning.specs.Environment.{Named, look_for}
 use Rattle.weld_meaning.specs.Thing.{Thing, field_of}
@@ -12,20 +12,17 @@ use Rattle.weld_meaning.specs.ThingType.{EnvFits}
 use Rattle.weld_meaning.specs.Typing.{Types, IsField, HasType}
 use Rattle.weld_meaning.specs.Evaluation.{Env, found, eval}
 use Rattle.weld_meaning.specs.Origin.{Path, Origin, known_origin, origin_of_name, origin}
-use Rattle.weld_meaning.specs.Linear.{Keeps}
-use Rattle.weld_meaning.specs.Available.{Taken, Apart, TakesAll, without, at_path, is_builder, is_builder_path, is_below, takes, Splits}
-use Rattle.weld_meaning.specs.Names.{IsFree, AgreeOn, Binds}
+use Rattle.weld_meaning.specs.Available.{Taken, without, at_path, is_builder, is_builder_path, is_below, takes}
+use Rattle.weld_meaning.specs.Names.{IsFree, AgreeOn}
 use Rattle.weld_rewriting.specs.Placed.{IsPlaced}
-use Rattle.weld_rewriting.specs.Within.{times, legs, StaysWithin}
+use Rattle.weld_rewriting.specs.Within.{times, StaysWithin}
 use Rattle.weld_rewriting.specs.Rewriting.{Rewrites}
 use Rattle.weld_rewriting.proofs.Counts.{times-append}
-use Rattle.weld_rewriting.proofs.Parts.{body_of_let}
-use Rattle.weld_substitution.proofs.Bindings.{agree_over}
-use Rattle.weld_substitution.proofs.Chains.{taken_builds, taken_named, or_true}
-use Rattle.weld_substitution.proofs.Following.{or_left, or_right, same_truth, chain_takes_it, at_path_on}
+use Rattle.weld_substitution.proofs.Chains.{taken_builds, taken_named}
+use Rattle.weld_substitution.proofs.Following.{or_right, same_truth, chain_takes_it, at_path_on}
 use Rattle.weld_vertical_struct.specs.Parting.{unnoted}
 use Rattle.weld_vertical_struct.proofs.Parts.{Pair, IsPartNumber, IsElse, part, part_first, part_other, IsOfParts, parts}
-use Rattle.weld_vertical_struct.proofs.Renaming.{to_end, root, tail, root_first, tail_first, root_behind, tail_other, tail_else, IsPartOf, ArePaired}
+use Rattle.weld_vertical_struct.proofs.Renaming.{to_end, root_first, tail_first, root_behind, tail_other, tail_else, IsPartOf, ArePaired}
 use Rattle.weld_vertical_struct.proofs.Taking.{Moved, origin_parted, taken_moved, splits_parted, keeps_parted}
 use Rattle.weld_vertical_struct.proofs.Typing.{TypesArePaired, type_parted, noted_parted, ThingsArePaired, eval_parted}
 use Rattle.weld_vertical_struct.proofs.Counting.{bound_stay, loops_stay, legs_stay, IsNamed, parted_named, parted_made, parted_spellable, not_named}

@@ -1,17 +1,16 @@
 -- What a pair is, by its parts: the same for both orders.
-use Rattle.std.proofs.Common.{◌≡◌, ℕ, zero, suc, ◌+◌, Bool, true, false, ◌&&◌, ◌||◌, if◌then◌else◌, [], ◌∷◌, ◌++◌, length, refl, ap, sym, subst, ◌∙◌, ◌⊎◌, inl, inr, arith, length-append}
-use Rattle.weld_data.specs.Value.{Value, Values, no_values, and_value, struct as struct_value}
+use Rattle.std.proofs.Common.{◌≡◌, ℕ, ◌+◌, Bool, true, false, ◌&&◌, ◌||◌, if◌then◌else◌, [], ◌++◌, length, refl, ap, sym, subst, ◌∙◌, inl, inr, arith, length-append}
 use Rattle.weld_tree.specs.TypeTree.{TypeTree, TypeTrees, struct as tuple, no_types, more_types}
-use Rattle.weld_tree.specs.ExprTree.{At, ExprTree, many, ExprTrees, no_exprs, more_exprs, make_struct}
+use Rattle.weld_tree.specs.ExprTree.{At, ExprTree, many, no_exprs, more_exprs, make_struct}
 use Rattle.weld_tree.specs.Program.{loops, bound, IsWellMade}
 use Rattle.weld_builders.specs.Outcome.{Outcome, done, fault, stuck, and_then, map_out}
 use Rattle.weld_meaning.specs.Environment.{Named}
-use Rattle.weld_meaning.specs.Thing.{Thing, plain, building, several, Things, no_things, more_things, as_values, struct_from, struct_of, field_of}
+use Rattle.weld_meaning.specs.Thing.{Thing, plain, building, several, no_things, more_things, struct_of, field_of}
 use Rattle.weld_meaning.specs.Typing.{Types, IsField, HasType, HaveTypes}
 use Rattle.weld_meaning.specs.Evaluation.{Env, eval}
-use Rattle.weld_meaning.specs.Origin.{Path, Origin, value, made, own, outer, named, struct, Origins, no_origins, more_origins, field_origin, is_value, are_values, struct_origin, named_below, origin}
+use Rattle.weld_meaning.specs.Origin.{Path, Origin, value, made, own, outer, named, struct, Origins, no_origins, more_origins, is_value, are_values, struct_origin, origin}
 use Rattle.weld_meaning.specs.Linear.{Keeps}
-use Rattle.weld_meaning.specs.Available.{Apart, field_within, takes, Splits}
+use Rattle.weld_meaning.specs.Available.{Apart, takes, Splits}
 use Rattle.weld_meaning.specs.Names.{IsFree}
 use Rattle.weld_check_types.specs.Notes.{AreNoted}
 use Rattle.weld_print.specs.Spellable.{IsSpellable}

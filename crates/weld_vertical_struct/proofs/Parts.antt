@@ -1,13 +1,13 @@
 -- Where a pair is used by its parts alone; and that what is answered comes from the parts where it came from the pair.
-use Rattle.std.proofs.Common.{◌≡◌, ◌≢◌, ℕ, zero, suc, ◌==◌, if◌then◌else◌, Bool, true, false, ◌&&◌, [], ◌∷◌, ◌++◌, Option, Some, None, option_map, refl, ap, sym, subst, ◌∙◌, ◌⊎◌, inl, inr, eq-eqb, ne_eqb, eqb-true}
+use Rattle.std.proofs.Common.{◌≡◌, ◌≢◌, ℕ, if◌then◌else◌, Bool, true, false, ◌&&◌, ◌∷◌, Option, Some, None, refl, ap, sym, subst, ◌∙◌, ◌⊎◌, inl, inr, eq-eqb, ne_eqb, eqb-true}
 use Rattle.std.proofs.lemmas.Bool.{cases_eq}
 use Rattle.weld_tree.specs.ExprTree.{At, ExprTree, leaf, one, two, three, many, let_in, loop, iterate, ExprTrees, no_exprs, more_exprs, LegTree, whole, strided, LegTrees, no_legs, more_legs, Leaf, int, truth, chars, name, fresh, One, neg, not, cast, len, field, finish, started, Two, binary, and, or, look_up, key_exists, merge, Three, if_else, select, slice, Many, make_vec, make_struct}
-use Rattle.weld_meaning.specs.Environment.{Named, look_for}
-use Rattle.weld_meaning.specs.Origin.{Path, Origin, value, made, own, outer, named, struct, Origins, no_origins, more_origins, origin_at, field_origin, is_value, are_values, struct_origin, known_origin, origin_of_name, leaf_origin, one_origin, two_origin, three_origin, many_origin, origin, origins}
+use Rattle.weld_meaning.specs.Environment.{Named}
+use Rattle.weld_meaning.specs.Origin.{Origin, value, made, Origins, no_origins, more_origins, field_origin, struct_origin, origin_of_name, leaf_origin, one_origin, two_origin, three_origin, many_origin, origin, origins}
 use Rattle.weld_meaning.specs.Names.{IsFree}
 use Rattle.weld_substitution.specs.Uses.{is_name, is_use}
 use Rattle.weld_substitution.specs.Redex.{is_field}
-use Rattle.weld_vertical_struct.specs.Parting.{field_taken, part_name, parted_one, parted, all_parted, leg_parted, legs_parted, is_part}
+use Rattle.weld_vertical_struct.specs.Parting.{field_taken, part_name, parted_one, parted, all_parted, is_part}
 
 -- a pair: its name, the name that stands for its part number `i`, and the number of the other part, for which its own name stands
 pub record Pair : Type 0 where

@@ -3,7 +3,7 @@ use Rattle.std.proofs.Common.{◌≡◌, ◌≢◌, ℕ, zero, suc, ◌==◌, if
 use Rattle.std.proofs.lemmas.Bool.{cases_eq}
 use Rattle.weld_tree.specs.ExprTree.{ExprTree}
 use Rattle.weld_meaning.specs.Environment.{Named, look_for}
-use Rattle.weld_meaning.specs.Origin.{Path, Origin, value, made, own, outer, named, struct, Origins, no_origins, more_origins, origin_at, field_origin, is_value, are_values, struct_origin, known_origin, origin_of_name, origin, named_below, named_fields, by_name}
+use Rattle.weld_meaning.specs.Origin.{Path, Origin, value, made, own, outer, named, struct, Origins, no_origins, more_origins, origin_at, field_origin, is_value, are_values, struct_origin, known_origin, origin_of_name, named_below, named_fields, by_name}
 use Rattle.weld_meaning.specs.Linear.{IsNotMade, AreNotMade, ArmsAgree}
 use Rattle.weld_meaning.specs.Available.{field_within}
 use Rattle.weld_meaning.specs.Names.{AgreeOn}

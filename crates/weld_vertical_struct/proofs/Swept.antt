@@ -1,10 +1,10 @@
 -- Names for the parts of a pair: a sweep puts them there.
-use Rattle.std.proofs.Common.{◌≡◌, ℕ, ◌+◌, ◌==◌, if◌then◌else◌, Bool, true, false, not, ◌&&◌, ◌||◌, Option, Some, None, is_some, refl, ap, sym, subst, ◌∙◌, ◌⊎◌, inl, inr, eqb-true, arith}
-use Rattle.weld_tree.specs.ExprTree.{At, ExprTree, leaf, one, two, three, many, let_in, loop, iterate, ExprTrees, no_exprs, more_exprs, LegTree, whole, strided, LegTrees, no_legs, more_legs, Leaf, int, truth, chars, name, fresh, One, neg, not as not_of, cast, len, field, finish, started}
+use Rattle.std.proofs.Common.{◌≡◌, ℕ, ◌==◌, if◌then◌else◌, Bool, true, false, not, ◌&&◌, Option, Some, None, is_some, refl, ap, ◌∙◌, eqb-true, arith}
+use Rattle.weld_tree.specs.ExprTree.{At, ExprTree, leaf, one, two, three, many, let_in, loop, iterate, ExprTrees, no_exprs, more_exprs, LegTree, whole, strided, LegTrees, no_legs, more_legs, One, neg, not as not_of, cast, len, field, finish, started}
 use Rattle.weld_rewriting.specs.Sweep.{or_same, settled, swept, all_swept, leg_swept, legs_swept}
 use Rattle.weld_substitution.specs.Uses.{is_name, uses, uses_in, uses_in_leg, uses_in_legs, is_use}
 use Rattle.weld_substitution.specs.Redex.{is_field}
-use Rattle.weld_vertical_struct.specs.Parting.{field_taken, part_name, parted_one, parted, all_parted, leg_parted, legs_parted, is_part, one_apart, is_unnamed, is_apart, are_apart, leg_is_apart, legs_are_apart, part_of_field, fields_rule}
+use Rattle.weld_vertical_struct.specs.Parting.{field_taken, parted_one, parted, all_parted, leg_parted, legs_parted, is_part, one_apart, is_unnamed, is_apart, are_apart, leg_is_apart, legs_are_apart, part_of_field, fields_rule}
 
 module _ (s x i : ℕ) where
   both : (a b : Bool) → (a && b) ≡ true → (a ≡ true) × (b ≡ true)

@@ -7,17 +7,16 @@ use Rattle.weld_tree.specs.ExprTree.{At, ExprTree, leaf, one, two, three, many, 
 use Rattle.weld_meaning.specs.Environment.{Named, look_for}
 use Rattle.weld_meaning.specs.Origin.{Path, Origin, value, made, own, outer, named, struct, Origins, no_origins, more_origins, origin_at, field_origin, known_origin, origin_of_name, origin, own_paths, outside, in_body, in_turn, from_within}
 use Rattle.weld_meaning.specs.Linear.{IsSeen, AreSeen, LeafKeeps, OneKeeps, ThreeKeeps, Keeps, AllKeep, LegKeeps, LegsKeep}
-use Rattle.weld_meaning.specs.Available.{Taken, Apart, Alike, TakesNone, TakesAll, without, at_path, is_builder, is_builder_path, same_path, is_below, chain_of_leaf, chain_of_one, chain_of, chain_takes, takes, some_take, leg_takes, legs_take, ChainSplits, OneSplits, TwoSplits, ThreeSplits, Splits, AllSplit, LegSplits, LegsSplit}
+use Rattle.weld_meaning.specs.Available.{Taken, Apart, Alike, TakesNone, TakesAll, without, at_path, is_builder, is_builder_path, same_path, is_below, chain_of_one, chain_of, chain_takes, takes, some_take, leg_takes, legs_take, ChainSplits, OneSplits, TwoSplits, ThreeSplits, Splits, AllSplit, LegSplits, LegsSplit}
 use Rattle.weld_meaning.specs.Names.{IsFree, AgreeOn}
 use Rattle.weld_meaning.proofs.Before.{look_for-map}
-use Rattle.weld_meaning.proofs.Names.{agree_bind, agree_less}
+use Rattle.weld_meaning.proofs.Names.{agree_bind}
 use Rattle.weld_meaning.proofs.FreeNames.{keeps_free, splits_free, taken_free, origin_free}
-use Rattle.weld_rewriting.proofs.Forms.{takes_chain}
 use Rattle.weld_substitution.specs.Redex.{is_field}
-use Rattle.weld_substitution.proofs.Chains.{chain_by, chain_of_part}
+use Rattle.weld_substitution.proofs.Chains.{chain_by}
 use Rattle.weld_substitution.proofs.Following.{is_below_on, at_path_on}
-use Rattle.weld_vertical_struct.specs.Parting.{field_taken, part_name, parted_one, parted, all_parted, leg_parted, legs_parted, is_part}
-use Rattle.weld_vertical_struct.proofs.Parts.{Pair, Carries, stays, carries_bind, IsPartNumber, IsElse, HasNeither, part, part_first, part_other, LeafIsOfParts, OneIsOfParts, IsOfParts, AreOfParts, LegIsOfParts, LegsAreOfParts, parts, field_by, origin_carried}
+use Rattle.weld_vertical_struct.specs.Parting.{field_taken, parted_one, all_parted, leg_parted, legs_parted, is_part}
+use Rattle.weld_vertical_struct.proofs.Parts.{Pair, Carries, stays, IsPartNumber, IsElse, HasNeither, part, part_first, part_other, LeafIsOfParts, OneIsOfParts, IsOfParts, AreOfParts, LegIsOfParts, LegsAreOfParts, parts, field_by, origin_carried}
 use Rattle.weld_vertical_struct.proofs.Renaming.{to_end, root, tail, root_first, tail_first, root_behind, tail_other, tail_else, root_part, tail_part, IsPartOf, ArePaired, arms_paired}
 
 module _ (m : Pair) where

@@ -1,5 +1,5 @@
 -- A rule tried once the pairs are taken apart.
-use Rattle.std.proofs.Common.{◌≡◌, Bool, true, false, Option, Some, None, is_some, refl, ap, sym, subst, ◌∙◌}
+use Rattle.std.proofs.Common.{◌≡◌, true, false, Option, Some, None, is_some, refl, ap}
 use Rattle.weld_tree.specs.ExprTree.{ExprTree}
 use Rattle.weld_rewriting.specs.Sweep.{RootRule, or_same, settled}
 use Rattle.weld_vertical_struct.specs.Held.{opened_producer, opened_rule, producer_has_pair}

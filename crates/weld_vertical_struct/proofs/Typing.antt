@@ -1,9 +1,9 @@
 -- With the names of a pair's parts for the pair, types, notes and what is evaluated stay.
-use Rattle.std.proofs.Common.{◌≡◌, ◌≢◌, ℕ, ◌==◌, if◌then◌else◌, Bool, true, false, ◌&&◌, ◌∷◌, Option, Some, None, refl, ap, sym, subst, ◌∙◌, ◌⊎◌, inl, inr, eq-eqb, ne_eqb}
+use Rattle.std.proofs.Common.{◌≡◌, ◌≢◌, ℕ, ◌&&◌, ◌∷◌, Option, Some, None, refl, ap, sym, subst, ◌∙◌, inl, inr, ne_eqb}
 use Rattle.weld_tree.specs.declared.binder.Binder.{Binder}
 use Rattle.weld_tree.specs.TypeTree.{TypeTree, TypeTrees, vec, struct as tuple, no_types, more_types}
-use Rattle.weld_tree.specs.ExprTree.{At, ExprTree, leaf, one, two, three, many, let_in, loop, iterate, ExprTrees, no_exprs, more_exprs, LegTree, whole, strided, LegTrees, no_legs, more_legs, Leaf, int, truth, chars, name, fresh, One, field}
-use Rattle.weld_builders.specs.Outcome.{Outcome, done, fault, stuck, and_then, map_out}
+use Rattle.weld_tree.specs.ExprTree.{At, ExprTree, leaf, one, two, three, many, let_in, loop, iterate, ExprTrees, no_exprs, more_exprs, LegTree, whole, strided, LegTrees, no_legs, more_legs, Leaf, int, truth, chars, name, fresh, field}
+use Rattle.weld_builders.specs.Outcome.{and_then, map_out}
 use Rattle.weld_meaning.specs.Environment.{Named, look_for}
 use Rattle.weld_meaning.specs.Thing.{Thing, plain, more_things, field_of}
 use Rattle.weld_meaning.specs.Typing.{Types, IsField, place_type, LeafHas, HasType, HaveTypes, LegHas, LegsHave, body_types}
@@ -11,10 +11,10 @@ use Rattle.weld_meaning.specs.Evaluation.{Env, found, leaf_thing, one_thing, two
 use Rattle.weld_meaning.specs.Names.{IsFree, AgreeOn}
 use Rattle.weld_meaning.proofs.Names.{agree_bind, eval_free}
 use Rattle.weld_meaning.proofs.FreeNames.{type_free}
-use Rattle.weld_check_types.specs.Notes.{HasNote, AreNoted, AllAreNoted, LegIsNoted, LegsAreNoted}
+use Rattle.weld_check_types.specs.Notes.{AreNoted, AllAreNoted, LegIsNoted, LegsAreNoted}
 use Rattle.weld_substitution.specs.Redex.{is_field}
 use Rattle.weld_substitution.proofs.PutTypes.{noted_free}
-use Rattle.weld_vertical_struct.specs.Parting.{field_taken, parted_one, parted, all_parted, leg_parted, legs_parted, is_part}
+use Rattle.weld_vertical_struct.specs.Parting.{field_taken, parted_one, all_parted, leg_parted, legs_parted, is_part}
 use Rattle.weld_vertical_struct.proofs.Parts.{Pair, IsPartNumber, IsElse, HasNeither, part, part_first, part_other, LeafIsOfParts, OneIsOfParts, IsOfParts, AreOfParts, LegIsOfParts, LegsAreOfParts, parts, field_by}
 
 module _ (m : Pair) where

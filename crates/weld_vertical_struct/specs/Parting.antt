@@ -1,12 +1,15 @@
--- A `let` of a pair, one part of which is a name, without the pair: `let s = {x, e}; f` becomes `let s = e; f`, with `x` for `s.$0`
--- and `s` for `s.$1`.
-use Rattle.std.specs.Prelude.{ℕ, zero, suc, ◌==◌, if◌then◌else◌, Bool, true, false, not, ◌&&◌, ◌||◌, Option, Some, None, is_some}
+-- A `let` of a pair, in one part of which a builder stands, without the pair: `let s = {merge(b, v), e}; f` becomes `let s = e; f`, with
+-- `merge(b, v)` for `s.$0` and `s` for `s.$1`.
+use Rattle.std.specs.Prelude.{◌≡◌, ℕ, zero, suc, ◌==◌, if◌then◌else◌, Bool, true, false, not, ◌&&◌, ◌||◌, Option, Some, None, is_some}
 use Rattle.weld_tree.specs.declared.binder.Binder.{Binder}
-use Rattle.weld_tree.specs.ExprTree.{At, ExprTree, leaf, one, two, three, many, let_in, loop, iterate, ExprTrees, no_exprs, more_exprs, LegTree, whole, strided, LegTrees, no_legs, more_legs, Leaf, int, truth, chars, name, fresh, One, neg, not as not_of, cast, len, field, finish, started, Many, make_vec, make_struct}
+use Rattle.weld_tree.specs.ExprTree.{At, ExprTree, leaf, one, two, three, many, let_in, loop, iterate, ExprTrees, no_exprs, more_exprs, LegTree, whole, strided, LegTrees, no_legs, more_legs, name, One, neg, not as not_of, cast, len, field, finish, started, Many, make_vec, make_struct}
+use Rattle.weld_tree.specs.Program.{bound}
+use Rattle.weld_meaning.specs.Names.{IsFree}
 use Rattle.weld_rewriting.specs.Sweep.{RootRule, settled}
-use Rattle.weld_rewriting.specs.Either.{first_of}
+use Rattle.weld_rewriting.specs.Within.{times}
 use Rattle.weld_substitution.specs.Uses.{is_name, uses, is_use}
-use Rattle.weld_substitution.specs.Redex.{is_field}
+use Rattle.weld_substitution.specs.Redex.{is_field, has_loop}
+use Rattle.weld_inline.specs.Inlining.{lets_rule}
 
 -- ---- the parts of a pair
 
@@ -104,24 +107,6 @@ abbrev mutual
 
 -- ---- a `let` of a pair
 
-abbrev pub leaf_name : Leaf → Option ℕ
-leaf_name (int k y) = None
-leaf_name (truth b) = None
-leaf_name (chars bs) = None
-leaf_name (name s) = Some s
-leaf_name (fresh b) = None
-
--- the name that the expression is
-abbrev pub name_of : ExprTree → Option ℕ
-name_of (leaf a l) = leaf_name l
-name_of (one a o e) = None
-name_of (two a o e f) = None
-name_of (three a o c e f) = None
-name_of (many a o es) = None
-name_of (let_in a b e f) = None
-name_of (loop a ls e b n y f) = None
-name_of (iterate a e b f) = None
-
 abbrev pub two_of : ExprTrees → Option (ExprTree × ExprTree)
 two_of no_exprs = None
 two_of (more_exprs e no_exprs) = None
@@ -147,25 +132,46 @@ pair_of (iterate a e b f) = None
 abbrev pub unnoted : Binder → Binder
 unnoted b = record { sym = b.sym; place = b.place; note = None; note_place = b.note_place }
 
--- the `let` of a pair with this other part, where its part of number `i` is the name and the body uses the pair by its parts
-abbrev pub let_of_part : At → Binder → ℕ → Option ℕ → ExprTree → ExprTree → Option ExprTree
-let_of_part a b i None f g = None
-let_of_part a b i (Some x) f g = if is_apart b.sym.0 x g then Some (let_in a (unnoted b) f (parted b.sym.0 x i g)) else None
+-- the binder of a part, under a number of its own
+abbrev pub part_binder : ℕ → Binder → Binder
+part_binder z b = record { sym = record { 0 = z }; place = b.place; note = None; note_place = b.note_place }
 
-abbrev pub let_without_pair : At → Binder → Option (ExprTree × ExprTree) → ExprTree → Option ExprTree
-let_without_pair a b None g = None
-let_without_pair a b (Some p) g = first_of (let_of_part a b 0 (name_of p.0) p.1 g) (let_of_part a b 1 (name_of p.1) p.0 g)
+-- the `let` of a pair with its part of number `i` bound to the number `z`, and the other part bound to the pair's
+abbrev pub both_bound : ℕ → At → Binder → ℕ → ExprTree → ExprTree → ExprTree → ExprTree
+both_bound z a b i e f g = let_in a (part_binder z b) e (let_in a (unnoted b) f (parted b.sym.0 z i g))
 
--- the rule: a `let` of a pair, one part of which is a name, is one of the other part
-abbrev pub pairs_rule : RootRule
-pairs_rule (leaf a l) = None
-pairs_rule (one a o e) = None
-pairs_rule (two a o e f) = None
-pairs_rule (three a o c e f) = None
-pairs_rule (many a o es) = None
-pairs_rule (let_in a b v g) = let_without_pair a b (pair_of v) g
-pairs_rule (loop a ls e b n y f) = None
-pairs_rule (iterate a e b f) = None
+-- where the body uses the pair by its parts and no loop stands in the part
+abbrev pub part_bound : ℕ → At → Binder → ℕ → ExprTree → ExprTree → ExprTree → Option ExprTree
+part_bound z a b i e f g = if is_apart b.sym.0 z g && not (has_loop e) then Some (both_bound z a b i e f g) else None
+
+-- the part is the first in which the builder `d` is used
+abbrev pub pair_bound : ℕ → ℕ → At → Binder → Option (ExprTree × ExprTree) → ExprTree → Option ExprTree
+pair_bound d z a b None g = None
+pair_bound d z a b (Some p) g = if uses p.0 d == 0 then (if uses p.1 d == 0 then None else part_bound z a b 1 p.1 p.0 g) else part_bound z a b 0 p.0 p.1 g
+
+abbrev pub bound_at : ℕ → ℕ → ExprTree → Option ExprTree
+bound_at d z (leaf a l) = None
+bound_at d z (one a o e) = None
+bound_at d z (two a o e f) = None
+bound_at d z (three a o c e f) = None
+bound_at d z (many a o es) = None
+bound_at d z (let_in a b v g) = pair_bound d z a b (pair_of v) g
+bound_at d z (loop a ls e b n y f) = None
+bound_at d z (iterate a e b f) = None
+
+-- the answer of a rule at an expression, if there is one
+abbrev pub answer_at : RootRule → Option ExprTree → Option ExprTree
+answer_at r None = None
+answer_at r (Some e) = r e
+
+-- the rule: a `let` of a pair, in a part of which the builder is used, is one of the other part, where the first is put in its place
+-- as the value of a `let` of its own is
+abbrev pub pairs_rule : ℕ → ℕ → RootRule
+pairs_rule d z e = answer_at lets_rule (bound_at d z e)
+
+-- the number is neither bound nor free there
+abbrev pub IsAbsent : ℕ → ExprTree → Type 0
+IsAbsent z e = (times (bound e) z ≡ 0) × (IsFree e z → ⊥)
 
 -- ---- down a body
 
@@ -182,9 +188,9 @@ within_body k (iterate a e b f) = iterate a e b f
 
 -- the body after the rule was tried at each node that is reached from its top through so many bodies of lets and arms of ifs, a
 -- node before those behind it
-abbrev pub opened : ℕ → ExprTree → ExprTree
-opened zero e = e
-opened (suc n) e = within_body (opened n) (settled pairs_rule e)
+abbrev pub opened : ℕ → ℕ → ℕ → ExprTree → ExprTree
+opened d z zero e = e
+opened d z (suc n) e = within_body (opened d z n) (settled (pairs_rule d z) e)
 
 -- ---- in code
 
@@ -217,45 +223,26 @@ fields_rule s x i (let_in a b e f) = None
 fields_rule s x i (loop a ls e b n y f) = None
 fields_rule s x i (iterate a e b f) = None
 
--- the number of the part that is a name, and the name, of a pair that its `let`'s body uses by its parts
-abbrev pub choice : ℕ → ℕ → Option ℕ → ExprTree → Option (ℕ × ℕ)
-choice s i None g = None
-choice s i (Some x) g = if is_apart s x g then Some (i, x) else None
+-- the `let` with the pair's part of that number bound, by its parts
+abbrev pub part_bound_at : ℕ → ℕ → ExprTree → ExprTree → ExprTree → Option ExprTree
+part_bound_at z i e f (leaf a l) = None
+part_bound_at z i e f (one a o g) = None
+part_bound_at z i e f (two a o g h) = None
+part_bound_at z i e f (three a o c g h) = None
+part_bound_at z i e f (many a o es) = None
+part_bound_at z i e f (let_in a b v g) = part_bound z a b i e f g
+part_bound_at z i e f (loop a ls h b n y g) = None
+part_bound_at z i e f (iterate a h b g) = None
 
-abbrev pub first_choice : Option (ℕ × ℕ) → Option (ℕ × ℕ) → Option (ℕ × ℕ)
-first_choice (Some c) o = Some c
-first_choice None o = o
-
-abbrev pub chosen : ℕ → Option (ExprTree × ExprTree) → ExprTree → Option (ℕ × ℕ)
-chosen s None g = None
-chosen s (Some p) g = first_choice (choice s 0 (name_of p.0) g) (choice s 1 (name_of p.1) g)
-
-abbrev pub chosen_at : ExprTree → Option (ℕ × ℕ)
-chosen_at (leaf a l) = None
-chosen_at (one a o e) = None
-chosen_at (two a o e f) = None
-chosen_at (three a o c e f) = None
-chosen_at (many a o es) = None
-chosen_at (let_in a b v g) = chosen b.sym.0 (pair_of v) g
-chosen_at (loop a ls e b n y f) = None
-chosen_at (iterate a e b f) = None
-
--- the part of another number
-abbrev pub other_part : ℕ → Option (ExprTree × ExprTree) → ExprTree → ExprTree
-other_part n None d = d
-other_part zero (Some p) d = p.1
-other_part (suc n) (Some p) d = p.0
-
--- the `let` without its pair, by what was chosen
-abbrev pub without_pair : ℕ → ℕ → ExprTree → ExprTree
-without_pair i x (leaf a l) = leaf a l
-without_pair i x (one a o e) = one a o e
-without_pair i x (two a o e f) = two a o e f
-without_pair i x (three a o c e f) = three a o c e f
-without_pair i x (many a o es) = many a o es
-without_pair i x (let_in a b v g) = let_in a (unnoted b) (other_part i (pair_of v) v) (parted b.sym.0 x i g)
-without_pair i x (loop a ls e b n y f) = loop a ls e b n y f
-without_pair i x (iterate a e b f) = iterate a e b f
+abbrev pub either_bound_at : ℕ → ℕ → ExprTree → ExprTree → ExprTree → Option ExprTree
+either_bound_at d z e f (leaf a l) = None
+either_bound_at d z e f (one a o g) = None
+either_bound_at d z e f (two a o g h) = None
+either_bound_at d z e f (three a o c g h) = None
+either_bound_at d z e f (many a o es) = None
+either_bound_at d z e f (let_in a b v g) = pair_bound d z a b (Some (e, f)) g
+either_bound_at d z e f (loop a ls h b n y g) = None
+either_bound_at d z e f (iterate a h b g) = None
 
 abbrev pub is_pair : ExprTree → Bool
 is_pair e = is_some (pair_of e)

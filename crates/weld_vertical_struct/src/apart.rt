@@ -1,9 +1,10 @@
 //! Where a pair is used by its parts.
 
-ghost use Rattle.std.specs.Prelude.{◌≡◌, true, IfOk, option_map};
+ghost use Rattle.std.specs.Prelude.{◌≡◌, ◌==◌, true, IfOk, option_map};
 ghost use Rattle.weld_tree.specs.declared.sym.Sym.{Sym};
 ghost use Rattle.weld_tree.specs.ExprTree.{pack_exprs, pack_legs};
 ghost use Rattle.weld_tree.specs.ExprView.{view_leg, view_one};
+ghost use Rattle.weld_substitution.specs.Uses.{uses};
 ghost use Rattle.weld_vertical_struct.specs.Parting.{are_apart, field_taken, is_apart, is_part, is_unnamed, leg_is_apart, legs_are_apart, name_of_field, one_part_is_apart, parted};
 
 use std::alloc::{AllocError, Global};
@@ -38,12 +39,19 @@ fn is_part(e: &Expr, pair: Sym) -> bool
     }
 }
 
-/// Whether neither name is used in the expression.
+/// Whether the name isn't used in the expression.
 #[tactic(auto, using(crate::proofs::Once::none_is))]
+pub(crate) fn is_unused(e: &Expr, name: Sym) -> bool
+    ensures { result ≡ (uses e.now name.0 == 0) }
+{
+    uses_of(e, name) == 0
+}
+
+/// Whether neither name is used in the expression.
 fn is_unnamed(e: &Expr, pair: Sym, name: Sym) -> bool
     ensures { result ≡ is_unnamed pair.0 name.0 e.now }
 {
-    uses_of(e, pair) == 0 && uses_of(e, name) == 0
+    is_unused(e, pair) && is_unused(e, name)
 }
 
 /// Whether the pair is used by its first two fields alone, of which no field is taken, and the name

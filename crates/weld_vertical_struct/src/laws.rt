@@ -6,6 +6,7 @@ ghost use Rattle.weld_rewriting.specs.Sweep.{RootRule, IsStill};
 ghost use Rattle.weld_vertical_struct.specs.Held.{opened_rule, held_rule, HasNoHeldLoop};
 
 use crate::parting::pairs_are_taken_apart;
+use weld_inline::laws::lets_may_be_rewritten;
 use weld_rewriting::pass::laws::rules_are_tests;
 use weld_rewriting::replacing::{rewriting_is_an_order, tidiness_is_kept};
 use weld_vertical::laws::loops_may_be_fused;
@@ -15,6 +16,7 @@ pub fn rules_may_be_tried_on_parts()
     ensures falls { (r : RootRule) → Falls r → Falls (opened_rule r) }
     ensures sound { (r : RootRule) → IsSound r → IsSound (opened_rule r) }
 {
+    lets_may_be_rewritten();
     pairs_are_taken_apart();
     rewriting_is_an_order();
     tidiness_is_kept();

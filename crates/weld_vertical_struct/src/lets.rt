@@ -1,118 +1,127 @@
 //! Lets of pairs, taken apart.
 
-ghost use Rattle.std.specs.Prelude.{◌≡◌, ◌||◌, ◌==◌, ℕ, Some, true, is_some, option_map, IfOk};
-ghost use Rattle.weld_tree.specs.declared.sym.Sym.{Sym};
-ghost use Rattle.weld_tree.specs.ExprTree.{At};
+ghost use Rattle.std.specs.Prelude.{◌≡◌, ℕ, true, IfOk};
+ghost use Rattle.weld_tree.specs.ExprTree.{At, ExprTree};
 ghost use Rattle.weld_tree.specs.ExprView.{view_form};
 ghost use Rattle.weld_rewriting.specs.Sweep.{settled};
-ghost use Rattle.weld_vertical_struct.specs.Parting.{choice, chosen, chosen_at, first_choice, has_pair, is_pair, name_of, opened, other_part, pair_of, pairs_rule, within_body, without_pair};
-ghost use Rattle.weld_vertical_struct.specs.Chosen.{as_choice};
+ghost use Rattle.weld_vertical_struct.specs.Parting.{bound_at, either_bound_at, has_pair, is_pair, opened, part_binder, part_bound_at, pairs_rule, within_body};
 
-use crate::apart::{is_apart, part};
+use crate::apart::{is_apart, is_unused, part};
 use std::alloc::{AllocError, Global};
-use std::mem;
-use weld_tree::{Expr, Exprs, Form, LeafForm, ManyForm, Sym};
+use weld_inline::{Lets, has_loop};
+use weld_rewriting::sweep::Rule;
+use weld_tree::{Binder, Expr, Form, ManyForm, Sym};
 
-/// A part of a pair that is a name: its number in the pair, from 0, and the name.
+/// Whose pairs are taken apart: the builder that stands in a part of them, and a name that stands
+/// nowhere in the body, for that part.
 #[derive(Clone, Copy)]
-pub(crate) struct NamedPart {
-    pub(crate) number: u32,
-    pub(crate) name: Sym,
+pub(crate) struct Names {
+    pub(crate) builder: Sym,
+    pub(crate) part: Sym,
 }
 
-/// The part, where it is a name that the body doesn't use, and the body uses the pair by its parts.
-fn choice(pair: Sym, number: u32, part: &Expr, body: &Expr) -> Option<NamedPart>
-    ensures { as_choice result ≡ choice pair.0 number (name_of part.now) body.now }
+/// The `let` with the pair's part of that number bound by a `let` of its own around it, and the other
+/// part bound in the pair's place: where the body uses the pair by its parts and no loop stands in the
+/// part.
+fn bind_part(
+    alloc: Global,
+    e: &Expr,
+    name: Sym,
+    number: u32,
+    first: &Expr,
+    other: &Expr,
+) -> Result<Option<Expr>, AllocError>
+    ensures { IfOk result (λ bound. bound ≡ part_bound_at name.0 number first.now other.now e.now) }
 {
-    match &part.form {
-        Form::Leaf(LeafForm::Name(name)) => {
-            if is_apart(body, pair, *name) {
-                Some(NamedPart {
-                    number,
-                    name: *name,
-                })
-            } else {
-                None
-            }
-        }
-        _ => None,
+    let Form::Let(binder, _, body) = &e.form else {
+        return Ok(None);
+    };
+    if !is_apart(body, binder.sym, name) || has_loop(first) {
+        return Ok(None);
+    }
+    let mut rest = body.copy(alloc)?;
+    part(alloc, &mut rest, binder.sym, name, number)?;
+    let inner = Expr {
+        form: Form::Let(
+            without_note(binder, binder.sym),
+            other.boxed_copy(alloc)?,
+            Box::new(alloc, rest)?,
+        ),
+        place: e.place,
+        ty: e.ty.copy(alloc)?,
+    };
+    Ok(Some(Expr {
+        form: Form::Let(
+            without_note(binder, name),
+            first.boxed_copy(alloc)?,
+            Box::new(alloc, inner)?,
+        ),
+        place: e.place,
+        ty: e.ty.copy(alloc)?,
+    }))
+}
+
+/// The binder under a number, without its note: it binds a thing of another type.
+fn without_note(binder: &Binder, sym: Sym) -> Binder
+    ensures { result ≡ part_binder sym.0 binder.now }
+{
+    Binder {
+        sym,
+        place: binder.place,
+        note: None,
+        note_place: binder.note_place,
     }
 }
 
-/// The first part of the pair that is so, if the value is a pair that is made there.
-fn chosen(pair: Sym, value: &Expr, body: &Expr) -> Option<NamedPart>
-    ensures { as_choice result ≡ chosen pair.0 (pair_of value.now) body.now }
+/// The same of the first of two parts in which the builder stands.
+#[tactic(auto, using(crate::proofs::Finding::first_bound, crate::proofs::Finding::second_bound, crate::proofs::Finding::neither_bound))]
+fn bind_either(
+    alloc: Global,
+    e: &Expr,
+    names: Names,
+    first: &Expr,
+    second: &Expr,
+) -> Result<Option<Expr>, AllocError>
+    ensures { IfOk result (λ bound. bound
+        ≡ either_bound_at names.builder.0 names.part.0 first.now second.now e.now) }
 {
+    if !is_unused(first, names.builder) {
+        return bind_part(alloc, e, names.part, 0, first, second);
+    }
+    if !is_unused(second, names.builder) {
+        return bind_part(alloc, e, names.part, 1, second, first);
+    }
+    Ok(None)
+}
+
+/// The same of an expression, where it is a `let` of a pair that is made there.
+fn bind(alloc: Global, e: &Expr, names: Names) -> Result<Option<Expr>, AllocError>
+    ensures { IfOk result (λ bound. bound ≡ bound_at names.builder.0 names.part.0 e.now) }
+{
+    let Form::Let(_, value, _) = &e.form else {
+        return Ok(None);
+    };
     match &value.form {
         Form::Many(ManyForm::Struct, parts) => match parts.as_slice() {
-            [first, second] => chosen_of_two(pair, first, second, body),
-            _ => None,
+            [first, second] => bind_either(alloc, e, names, first, second),
+            _ => Ok(None),
         },
-        _ => None,
+        _ => Ok(None),
     }
 }
 
-fn chosen_of_two(pair: Sym, first: &Expr, second: &Expr, body: &Expr) -> Option<NamedPart>
-    ensures { as_choice result ≡ first_choice (choice pair.0 0 (name_of first.now) body.now)
-        (choice pair.0 1 (name_of second.now) body.now) }
+/// Where the expression is a `let` of a pair, in a part of which the builder stands, and that part may
+/// be put in its place, the other part takes the pair's place. Any other expression stays. It fails for
+/// want of memory alone; the expression is as it was then.
+#[tactic(auto, using(crate::proofs::Finding::nothing_bound, crate::proofs::Finding::bound_left, crate::proofs::Finding::bound_put))]
+fn take_apart(alloc: Global, e: &mut Expr, names: Names) -> Result<(), AllocError>
+    ensures { IfOk result (λ _. e.new ≡ settled (pairs_rule names.builder.0 names.part.0) e.old) }
 {
-    match choice(pair, 0, first, body) {
-        Some(choice) => Some(choice),
-        None => choice(pair, 1, second, body),
-    }
-}
-
-fn chosen_at(e: &Expr) -> Option<NamedPart>
-    ensures { as_choice result ≡ chosen_at e.now }
-{
-    match &e.form {
-        Form::Let(binder, value, body) => chosen(binder.sym, value, body),
-        _ => None,
-    }
-}
-
-/// The other part takes the place of the pair.
-#[tactic(auto, using(crate::proofs::Choosing::two_long, crate::proofs::Choosing::first_is, crate::proofs::Choosing::second_is))]
-fn keep(alloc: Global, value: &mut Expr, number: u32)
-    requires { is_pair value.old ≡ true }
-    ensures { value.new ≡ other_part number (pair_of value.old) value.old }
-{
-    let Form::Many(_, parts) = &mut value.form else {
-        unreachable!();
+    let Some(mut bound) = bind(alloc, &*e, names)? else {
+        return Ok(());
     };
-    let mut items = mem::replace(parts, Exprs::new(alloc)).into_vec();
-    let other = if number == 0 {
-        items.remove(1)
-    } else {
-        items.remove(0)
-    };
-    *value = other;
-}
-
-/// The `let` without its pair.
-#[tactic(auto, using(crate::proofs::Choosing::chosen_apart, crate::proofs::Choosing::chosen_pair))]
-fn keep_other(alloc: Global, e: &mut Expr, choice: NamedPart) -> Result<(), AllocError>
-    requires { chosen_at e.old ≡ Some (choice.number, choice.name.0) }
-    ensures { IfOk result (λ _. e.new ≡ without_pair choice.number choice.name.0 e.old) }
-{
-    let Form::Let(binder, value, body) = &mut e.form else {
-        unreachable!();
-    };
-    part(alloc, body, binder.sym, choice.name, choice.number)?;
-    keep(alloc, value, choice.number);
-    binder.note = None;
-    Ok(())
-}
-
-/// Where the expression is a `let` of a pair, one part of which is a name, and its body uses the pair
-/// by its parts, the other part takes the pair's place, and what stood for the parts theirs. Any other
-/// expression stays. It fails for want of memory alone; the expression may be anything then.
-#[tactic(auto, using(crate::proofs::Choosing::taken_apart, crate::proofs::Choosing::none_chosen))]
-fn take_apart(alloc: Global, e: &mut Expr) -> Result<(), AllocError>
-    ensures { IfOk result (λ _. e.new ≡ settled pairs_rule e.old) }
-{
-    if let Some(choice) = chosen_at(&*e) {
-        keep_other(alloc, e, choice)?;
+    if Lets.try_at(alloc, &mut bound)? {
+        *e = bound;
     }
     Ok(())
 }
@@ -121,24 +130,25 @@ fn take_apart(alloc: Global, e: &mut Expr) -> Result<(), AllocError>
 /// of memory alone; the body may be anything then.
 #[cycle(opening)]
 #[tactic(auto, using(crate::proofs::Depth::opened_none, crate::proofs::Depth::opened_more))]
-pub(crate) fn open(alloc: Global, e: &mut Expr, depth: u64) -> Result<(), AllocError>
-    ensures { IfOk result (λ _. e.new ≡ opened depth e.old) }
+pub(crate) fn open(alloc: Global, e: &mut Expr, names: Names, depth: u64) -> Result<(), AllocError>
+    ensures { IfOk result (λ _.
+        e.new ≡ opened names.builder.0 names.part.0 depth e.old) }
 {
     if depth == 0 {
         return Ok(());
     }
-    take_apart(alloc, e)?;
-    open_below(alloc, &mut e.form, depth - 1)
+    take_apart(alloc, e, names)?;
+    open_below(alloc, &mut e.form, names, depth - 1)
 }
 
 #[cycle(opening)]
-fn open_below(alloc: Global, form: &mut Form, depth: u64) -> Result<(), AllocError>
-    ensures { IfOk result (λ _. (at : At)
-        → view_form form.new at ≡ within_body (opened depth) (view_form form.old at)) }
+fn open_below(alloc: Global, form: &mut Form, names: Names, depth: u64) -> Result<(), AllocError>
+    ensures { IfOk result (λ _. (at : At) → view_form form.new at
+        ≡ within_body (opened names.builder.0 names.part.0 depth) (view_form form.old at)) }
 {
     match form {
-        Form::Let(_, _, body) => open(alloc, body, depth),
-        Form::Three(_, _, first, second) => open_both(alloc, first, second, depth),
+        Form::Let(_, _, body) => open(alloc, body, names, depth),
+        Form::Three(_, _, first, second) => open_both(alloc, first, second, names, depth),
         _ => Ok(()),
     }
 }
@@ -148,13 +158,16 @@ fn open_both(
     alloc: Global,
     first: &mut Expr,
     second: &mut Expr,
+    names: Names,
     depth: u64,
 ) -> Result<(), AllocError>
-    ensures first { IfOk result (λ _. first.new ≡ opened depth first.old) }
-    ensures second { IfOk result (λ _. second.new ≡ opened depth second.old) }
+    ensures first { IfOk result (λ _.
+        first.new ≡ opened names.builder.0 names.part.0 depth first.old) }
+    ensures second { IfOk result (λ _.
+        second.new ≡ opened names.builder.0 names.part.0 depth second.old) }
 {
-    open(alloc, first, depth)?;
-    open(alloc, second, depth)
+    open(alloc, first, names, depth)?;
+    open(alloc, second, names, depth)
 }
 
 /// Whether there is a `let` of a pair down the body. It takes no memory.

@@ -13,8 +13,8 @@ use weld_rewriting::pass::run_pass;
 use weld_vertical::Loops;
 
 /// The program with loops over what other loops make as one loop, also where the other holds its
-/// builder in pairs: where a `let` down its body is of a pair, one part of which is a name, and uses
-/// the pair by its parts, the parts have names of their own first. No list is made in between. It asks
+/// builder in pairs: where a `let` down its body is of a pair and uses that by its parts, the part in
+/// which the builder stands is put in its place first, if it may be, and the pair becomes the other. No list is made in between. It asks
 /// for a program whose nodes have their types noted, as the checker leaves it. It fails for want of
 /// memory alone, and the program is spent then.
 pub fn fuse_held(alloc: Global, p: Accepted) -> Result<Accepted, AllocError>

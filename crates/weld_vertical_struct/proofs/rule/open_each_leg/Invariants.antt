@@ -6,4 +6,4 @@ use Rattle.weld_vertical_struct.proofs.rule.open_each_leg.Given as goal
 
 -- those so far have their pairs taken apart
 abbrev pub invariant-loop-leg : goal.invariant-loop-leg
-invariant-loop-leg l = map view_leg l.legs ≡ up_to opened_leg l.leg-index (map view_leg l.initial.legs)
+invariant-loop-leg l = map view_leg l.legs ≡ up_to (opened_leg l.part.0) l.leg-index (map view_leg l.initial.legs)
