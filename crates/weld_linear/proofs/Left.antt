@@ -1,10 +1,11 @@
 -- What is left of a list of origins from a place on.
-use Rattle.std.proofs.Common.{◌≡◌, ◌≢◌, ℕ, suc, ◌+◌, ◌<◌, ◌≤◌, Bool, true, false, ◌&&◌, List, [], ◌∷◌, ◌++◌, length, drop, get_or, refl, sym, ap, ◌∙◌, arith}
+use Rattle.std.proofs.Common.{◌≡◌, ◌≢◌, ℕ, zero, suc, ◌+◌, ◌<◌, ◌≤◌, Bool, true, false, ◌&&◌, List, [], ◌∷◌, ◌++◌, length, drop, get_or, refl, sym, ap, ◌∙◌, arith}
 use Rattle.std.proofs.lemmas.List.{at_drop_more, drop_all}
 use Rattle.weld_meaning.specs.Origin.{Path, Origin, Origins, no_origins, more_origins, is_value, are_values}
 use Rattle.weld_meaning.specs.LinearWalk.{is_seen, are_seen, is_not_made, are_not_made, same_origin, same_origins}
 use Rattle.weld_meaning.specs.Environment.{Named}
-use Rattle.weld_linear.specs.Sources.{pack_origins}
+use Rattle.std.specs.List.{All}
+use Rattle.weld_linear.specs.Sources.{pack_origins, origin_nodes, origins_nodes}
 use Rattle.weld_linear.specs.Resolve.{resolve, all_resolve}
 use Rattle.weld_linear.specs.Labels.{marked, all_marked}
 use Rattle.weld_linear.specs.declared.source.marks.Label.{Label}
@@ -88,3 +89,14 @@ resolve_left g xs os i o h e =
 pub no_resolve_left : (g : Named Origin) (xs os : List Origin) (i : ℕ) → length os ≤ i
     → joined xs (all_resolve g (pack_origins (drop i os))) ≡ pack_origins xs
 no_resolve_left g xs os i h = ap (λ rest. joined xs (all_resolve g (pack_origins rest))) (drop_all i os h) ∙ joined_none xs
+
+-- ---- sizes
+
+origin_under : (os : List Origin) (k : ℕ) (d : Origin) → k < length os → origin_nodes (get_or os k d) ≤ origins_nodes (pack_origins os)
+origin_under [] k d h = absurd (omega (arith, h))
+origin_under (o ∷ os) zero d h = omega arith
+origin_under (o ∷ os) (suc k) d h = omega (arith, origin_under os k d (omega (arith, h)))
+
+-- none has more nodes than all together
+pub origins_parts : (os : List Origin) → All (λ o. origin_nodes o ≤ origins_nodes (pack_origins os)) os
+origins_parts os k d h = origin_under os k d h

@@ -1,8 +1,8 @@
-ghost use Rattle.std.specs.Prelude.{◌≡◌, ◌++◌, [], ◌∷◌, OnOk};
+ghost use Rattle.std.specs.Prelude.{◌≡◌, ◌≤◌, ◌++◌, [], ◌∷◌, All, OnOk};
 ghost use Rattle.weld_meaning.specs.Origin.{value, made, is_value, are_values, struct_origin};
 ghost use Rattle.weld_meaning.specs.Available.{is_builder};
 ghost use Rattle.weld_meaning.specs.LinearWalk.{is_own};
-ghost use Rattle.weld_linear.specs.Sources.{pack_origins};
+ghost use Rattle.weld_linear.specs.Sources.{pack_origins, origin_nodes, origins_nodes};
 
 use crate::path::Path;
 use std::alloc::{AllocError, Global};
@@ -167,6 +167,15 @@ impl Sources {
     {
         self.items.push(item)?;
         Ok(())
+    }
+
+    /// The origins. None has more nodes than all of them together.
+    #[tactic(auto, using(crate::proofs::Left::origins_parts))]
+    pub fn as_slice(&self) -> &[Source]
+        ensures value { result.now ≡ self.now }
+        ensures parts { All (λ o. origin_nodes o ≤ origins_nodes (pack_origins self.now)) result.now }
+    {
+        self.items.as_slice()
     }
 
     /// Whether each of these is the origin of a value.
