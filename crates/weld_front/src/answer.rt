@@ -129,8 +129,9 @@ pub(crate) fn done(
 ) -> Result<Answer, AllocError>
     requires { HasValue ty.now (view_val value.now) }
     ensures status { IfOk result (λ answer. answer.status ≡ Status.Done) }
-    ensures text { IfOk result (λ answer. IsTold asked.options.report (λ lines. lines ≡ report_text loops note)
-        (value_text ty.now (view_val value.now)) answer.text) }
+    ensures text { IfOk result (λ answer. IsTold asked.options.report
+        (λ lines. lines ≡ report_text loops note) (value_text ty.now (view_val value.now))
+        answer.text) }
 {
     let mut text = shown(rt, alloc, value, ty, asked)?;
     if asked.options.report {

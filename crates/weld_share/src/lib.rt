@@ -5,7 +5,6 @@
 pub mod mapped;
 pub mod note;
 mod parallel;
-pub mod share;
 mod sharing;
 mod stretch;
 mod tiled;

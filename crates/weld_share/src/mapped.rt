@@ -12,9 +12,8 @@ ghost use Rattle.weld_sizes.specs.Sized.{sized_marks};
 ghost use Rattle.weld_share.specs.Counts.{IsNote};
 
 use crate::note::RunNote;
-use crate::share::Sharing;
 use crate::tiled::run_loop;
-use crate::way::Way;
+use crate::way::{Sharing, Way};
 use std::alloc::Global;
 use std::thread::Threads;
 use weld_data::{Stop, Val, Vals};

@@ -10,10 +10,9 @@ ghost use Rattle.weld_board.specs.Spans.{AreSpans, IsMade};
 ghost use Rattle.weld_share.specs.Stretches.{AreStretches};
 ghost use Rattle.weld_share.specs.Shared.{AreShared, HasMade, row_of};
 
-use crate::share::Sharing;
 use crate::stretch::Stretch;
 use crate::tiled::Tiled;
-use crate::way::Way;
+use crate::way::{Sharing, Way};
 use std::alloc::Global;
 use std::thread::Threads;
 use weld_board::workers::{Jobs, Span, share_jobs};

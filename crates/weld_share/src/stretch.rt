@@ -5,8 +5,7 @@ ghost use Rattle.weld_tiles.specs.Tiling.{IsRun, IsTiling};
 ghost use Rattle.weld_tiles.specs.declared.tile.Tile.{Tile};
 ghost use Rattle.weld_share.specs.Stretches.{AreStretches};
 
-use crate::share::Sharing;
-use crate::way::Way;
+use crate::way::{Sharing, Way};
 use std::alloc::{AllocError, Global};
 use weld_tiles::Tile;
 

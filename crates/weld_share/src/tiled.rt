@@ -11,10 +11,9 @@ ghost use Rattle.weld_share.specs.Mapped.{IsAnswer};
 ghost use Rattle.weld_share.specs.Stretches.{IsStretchOf, AreStretches};
 
 use crate::parallel::{RunsStretches, map_stretches};
-use crate::share::Sharing;
 use crate::sharing::share_stretches;
 use crate::stretch::{Stretch, stretches};
-use crate::way::Way;
+use crate::way::{Sharing, Way};
 use std::alloc::Global;
 use std::thread::Threads;
 use weld_data::Stop;

@@ -1,6 +1,16 @@
-//! The two ways in which the stretches of a loop are run apart.
+//! How the rows of a loop are shared, and the two ways in which its stretches are run apart.
 
 ghost use Rattle.std.specs.Prelude.{◌≤◌};
+
+/// How the rows of a loop are shared: by how many workers, 1 to 64, and in tiles of how many rows at most, at least 1.
+#[derive(Clone, Copy, Debug)]
+pub(crate) struct Sharing {
+    pub(crate) workers: u32,
+    pub(crate) cut: u32,
+    ghost some_worker: { 1 ≤ workers },
+    ghost few_workers: { workers ≤ 64 },
+    ghost some_rows: { 1 ≤ cut },
+}
 
 /// Stretches are mapped over the processors, or shared by workers.
 #[derive(Clone, Copy, Debug, PartialEq, Eq)]
