@@ -1,0 +1,4 @@
+pub mod Handing
+pub mod Merging
+pub mod Rule
+pub mod Walking
