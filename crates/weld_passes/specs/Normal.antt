@@ -16,6 +16,7 @@ use Rattle.weld_predicate.specs.Predicating.{HasNoGuard, guards_rule}
 use Rattle.weld_vertical.specs.Chains.{IsChainProgram, chain_fused}
 use Rattle.weld_vertical.specs.Fusing.{HasNoSuchLoop, loops_rule}
 use Rattle.weld_vertical_struct.specs.Held.{HasNoHeldLoop, held_rule, opened_rule, opened_producer}
+use Rattle.weld_vertical_held.specs.Rule.{HasNoListHandedOver, handing_rule}
 use Rattle.weld_vertical_zip.specs.Zips.{HasNoMadeLeg, zips_rule}
 use Rattle.weld_vertical_zip.specs.Zipping.{is_zipped}
 use Rattle.weld_rewriting.specs.Nodes.{EachNode}
@@ -40,21 +41,22 @@ legs_rules = either doubles_rule (either spare_legs_rule (either held_legs_rule 
 
 -- the rules of all passes as one
 abbrev pub all_rules : RootRule
-all_rules = either lets_rule (either guards_rule (either loops_rule (either held_rule legs_rules)))
+all_rules = either lets_rule (either guards_rule (either loops_rule (either held_rule (either handing_rule legs_rules))))
 
 -- the body after so many sweeps with them, once its chain of loops was fused
 abbrev pub optimised_body : ℕ → ExprTree → ExprTree
 optimised_body n e = swept_times n all_rules (chain_fused e)
 
 -- nothing stands in the program that a pass would rewrite (as far as this project goes): no `let` that can be put in
--- place, no guarded merge that can be merged always, no loop over what another loop makes row by row, no such
--- list on a leg of a `zip`, also where what makes it holds its builder in pairs, no leg that stands twice in one loop, and no two lets of
--- loops over one name or of their results with none but results of names between them
+-- place, no guarded merge that can be merged always, no loop over what another loop makes that merges once, wherever it holds its
+-- builder, no such list on a leg of a `zip`, also where what makes it holds its builder in pairs, no leg that stands twice in one loop,
+-- and no two lets of loops over one name or of their results with none but results of names between them
 pub record IsNormal (q : ProgramTree) : Type 0 where
   pub no_let : HasNoSuchLet q.body
   pub no_guard : HasNoGuard q.body
   pub no_loop_over_a_loop : HasNoSuchLoop q.body
   pub no_held_loop : HasNoHeldLoop q.body
+  pub no_list_handed_over : HasNoListHandedOver q.body
   pub no_made_leg : HasNoMadeLeg q.body
   pub no_held_leg : HasNoHeldLeg q.body
   pub no_leg_twice : HasNoDouble q.body

@@ -28,6 +28,7 @@ use weld_rewriting::replacing::{rewriting_is_an_order, rewritten_programs, tidin
 use weld_rewriting::rounds::laws::{rounds_rewrite, sweeps_fall};
 use weld_types::laws::the_walk_is_typing;
 use weld_vertical::laws::{chains_are_one_loop, loops_may_be_fused};
+use weld_vertical_held::laws::lists_may_be_handed_over;
 use weld_vertical_struct::laws::{held_loops_may_be_fused, rules_may_be_tried_on_parts};
 use weld_vertical_zip::laws::made_legs_may_be_spliced;
 
@@ -42,6 +43,7 @@ pub fn all_rules_may_be_tried()
     guards_may_be_rewritten();
     loops_may_be_fused();
     held_loops_may_be_fused();
+    lists_may_be_handed_over();
     rules_may_be_tried_on_parts();
     made_legs_may_be_spliced();
     legs_may_stand_once();

@@ -24,13 +24,14 @@ use weld_rewriting::replacing::{rewritten_programs, tidiness_is_kept};
 use weld_rewriting::rounds::sweep_until_still;
 use weld_tree::{Expr, Program};
 use weld_vertical::{Loops, fuse_chain};
+use weld_vertical_held::HandedOver;
 use weld_vertical_struct::Opened;
 
 /// The program in normal form (as far as this project goes): no `let` stands in it that can be put in
-/// place, no guarded merge that can be merged always, no loop over what another loop makes row by row,
-/// no such list on a leg of a `zip`, also where what makes it holds its builder in pairs, no leg that
-/// stands twice in one loop, and no two lets of loops over one name or of their results with none but
-/// results of names between them. It means the same on all
+/// place, no guarded merge that can be merged always, no loop over what another loop makes that merges
+/// once, wherever it holds its builder, no such list on a leg of a `zip`, also where what makes it holds
+/// its builder in pairs, no leg that stands twice in one loop, and no two lets of loops over one name or
+/// of their results with none but results of names between them. It means the same on all
 /// arguments that fit, faults included, and has no more legs and loops; where it was a chain of loops,
 /// each but the first is gone; and where some text spelled it, noted types apart, its printed text
 /// spells it. It asks for a program whose nodes have their types noted, as the checker leaves it. It
@@ -68,9 +69,13 @@ fn optimise_body(alloc: Global, body: &mut Expr) -> Result<(), AllocError>
     all_rules_may_be_tried();
     fuse_chain(alloc, body)?;
     let held = Opened { rule: Loops };
+    let of_handing = Either {
+        first: &HandedOver,
+        second: &OfLegs,
+    };
     let of_held = Either {
         first: &held,
-        second: &OfLegs,
+        second: &of_handing,
     };
     let of_loops = Either {
         first: &Loops,
