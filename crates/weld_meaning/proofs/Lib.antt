@@ -18,5 +18,5 @@ pub mod Walk
 pub mod OneType
 mod Cases
 pub mod Putting
-mod Tracing
+pub mod Tracing
 pub mod FreeNames

@@ -1,5 +1,5 @@
 pub mod Spine
-mod Seen
+pub mod Seen
 pub mod Related
 mod Grafting
 mod Arms

@@ -14,7 +14,7 @@ use Rattle.weld_substitution.proofs.Bindings.{agree_over, agree_after}
 use Rattle.weld_substitution.proofs.Unnamed.{kept_seen}
 use Rattle.weld_vertical.specs.Sinking.{is_merge}
 use Rattle.weld_vertical_held.specs.Handing.{is_held, holds, handed_two, handed, all_handed, leg_handed, legs_handed}
-use Rattle.weld_vertical_held.proofs.Tracing.{same_origins}
+use Rattle.weld_meaning.proofs.Tracing.{same_origins}
 use Rattle.weld_vertical_held.proofs.Traces.{handed_origin, Alike, handed_none}
 use Rattle.weld_vertical_held.proofs.Answering.{IsClear, AllClear, LegClear, LegsClear, Consumes, Aside, Behind, Names, names_bind, name_handed, handed_answers, builder_not_free, count_not_free, value_past}
 use Rattle.weld_vertical_held.proofs.ByName.{handed_seen, handed_not_own, handed_not_made, names_by_name, seen_holds_none}

@@ -1,6 +1,4 @@
 mod Common
-mod Tracing
-mod Seen
 mod Regrafting
 mod Free
 mod Traces

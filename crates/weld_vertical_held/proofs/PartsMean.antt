@@ -30,7 +30,7 @@ use Rattle.weld_vertical.specs.Sinking.{is_merge}
 use Rattle.weld_vertical.proofs.Handing.{then_then, then_itself, answers_at, answers_swap}
 use Rattle.weld_vertical_held.specs.Handing.{is_held, holds, handed_at, handed_two, handed, starts_none}
 use Rattle.weld_vertical_held.proofs.Common.{IsAside, IsBehind}
-use Rattle.weld_vertical_held.proofs.Tracing.{same_origins}
+use Rattle.weld_meaning.proofs.Tracing.{same_origins}
 use Rattle.weld_vertical_held.proofs.Held.{HasHeld, held_is, type_held}
 use Rattle.weld_vertical_held.proofs.HandingOn.{Fails, fails_then, fails_after, no_answer, hand, breaks}
 use Rattle.weld_vertical_held.proofs.Staying.{no_chain, no_value_at, breaking_here, stays}

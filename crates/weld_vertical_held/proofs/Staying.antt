@@ -21,7 +21,7 @@ use Rattle.weld_meaning.proofs.WellFormed.{formed_bind, type_formed}
 use Rattle.weld_substitution.proofs.Chains.{or_true, chain_by}
 use Rattle.weld_substitution.proofs.Following.{and_true, below_is, taken_by_chain}
 use Rattle.weld_vertical_held.specs.Handing.{holds, starts_none, all_start_none, leg_starts_none, legs_start_none}
-use Rattle.weld_vertical_held.proofs.Tracing.{same_origins}
+use Rattle.weld_meaning.proofs.Tracing.{same_origins}
 use Rattle.weld_vertical_held.proofs.Held.{values_hold}
 use Rattle.weld_vertical_held.proofs.HandingOn.{Fails, fails_then, fails_after, fails_map, then_done_by, map_done_by, value_done_by, done_same, hand, hand_all, hands_plain, hands_none, all_hand_none, values_hand, piece_at, Broken, broken_above, breaks}
 

@@ -18,7 +18,7 @@ use Rattle.weld_substitution.proofs.Following.{and_true, or_left, or_right, same
 use Rattle.weld_substitution.proofs.Unnamed.{kept_seen}
 use Rattle.weld_vertical.specs.Sinking.{is_merge}
 use Rattle.weld_vertical_held.specs.Handing.{is_held, handed_two, handed, all_handed, leg_handed, legs_handed}
-use Rattle.weld_vertical_held.proofs.Seen.{seen_no_path}
+use Rattle.weld_vertical.proofs.Seen.{seen_no_path}
 use Rattle.weld_vertical_held.proofs.Traces.{handed_origin}
 use Rattle.weld_vertical_held.proofs.Answering.{IsClear, AllClear, LegClear, LegsClear, Consumes, Aside, Behind, Names, names_bind, name_handed, builder_not_free, count_not_free}
 use Rattle.weld_vertical_held.proofs.Keeping.{from_there}

@@ -11,7 +11,7 @@ use Rattle.weld_meaning.specs.Forms.{HasForm, HaveForms}
 use Rattle.weld_meaning.proofs.WellFormed.{key_free, integer_free, merger_free, takes_free}
 use Rattle.weld_vertical.specs.Sinking.{is_merge}
 use Rattle.weld_vertical_held.specs.Handing.{is_held, handed_type, handed_types}
-use Rattle.weld_vertical_held.proofs.Tracing.{same_origins}
+use Rattle.weld_meaning.proofs.Tracing.{same_origins}
 use Rattle.weld_vertical_held.proofs.Held.{values_hold, unheld_types, free_kept, frees_kept, other_kept, handed_builders, handed_some}
 
 -- ---- nodes of one part

@@ -13,7 +13,7 @@ use Rattle.weld_meaning.specs.Linear.{Keeps, AllKeep}
 use Rattle.weld_vertical.specs.Sinking.{is_merge}
 use Rattle.weld_vertical_held.specs.Handing.{is_held, holds, some_hold}
 use Rattle.weld_vertical_held.specs.Merging.{list_merges, all_list_merges, always_merges}
-use Rattle.weld_vertical_held.proofs.Tracing.{same_origins}
+use Rattle.weld_meaning.proofs.Tracing.{same_origins}
 use Rattle.weld_vertical_held.proofs.Traces.{or_false}
 use Rattle.weld_vertical_held.proofs.Answering.{OneClear, IsClear, AllClear}
 

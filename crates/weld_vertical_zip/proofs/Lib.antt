@@ -1,19 +1,19 @@
-mod Merging
-mod Gathering
-mod ZippingSplicing
-mod MadeRows
-mod Widening
-mod Producing
-mod UsesPut
-mod Recognised
-mod Splice
-mod SplicePlaced
-mod SpliceMeans
-mod SpliceRule
-mod Cases
-mod Once
-mod PlaceLemmas
-mod Finding
-mod RowLists
-mod Splicing
-mod Falling
+pub mod Merging
+pub mod Gathering
+pub mod ZippingSplicing
+pub mod MadeRows
+pub mod Widening
+pub mod Producing
+pub mod UsesPut
+pub mod Recognised
+pub mod Splice
+pub mod SplicePlaced
+pub mod SpliceMeans
+pub mod SpliceRule
+pub mod Cases
+pub mod Once
+pub mod PlaceLemmas
+pub mod Finding
+pub mod RowLists
+pub mod Splicing
+pub mod Falling
