@@ -5,7 +5,7 @@ pub mod Forms
 pub mod Parts
 pub mod Nodes
 mod ReplacingLists
-mod Lambdas
+pub mod Lambdas
 pub mod Counts
 mod Staying
 pub mod Tidying
