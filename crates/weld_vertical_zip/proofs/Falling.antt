@@ -16,7 +16,7 @@ use Rattle.weld_horizontal.specs.Twice.{item_at, items_from, count}
 use Rattle.weld_horizontal.specs.Doubles.{picks_rule}
 use Rattle.weld_horizontal.proofs.Weights.{weight_put}
 use Rattle.weld_vertical_zip.specs.Zipping.{legs_behind, exprs_behind, Sides, all_items, part_of_row, made_row, is_zipped, unzipped}
-use Rattle.weld_vertical_zip.proofs.Splice.{Splice, places, produced, pattern, row, answer}
+use Rattle.weld_vertical_zip.proofs.Splice.{Splice, Simple, places, produced, pattern, row, answer}
 use Rattle.weld_vertical_zip.proofs.SpliceRule.{whole_body, zipped_by}
 use Rattle.weld_vertical_zip.specs.Zips.{spliced}
 
@@ -31,7 +31,7 @@ items_weight : (place : Place) (x : ℕ) (all : TypeTrees) (n : ℕ) (us : TypeT
 items_weight place x all n no_types = refl
 items_weight place x all n (more_types u us) = omega (arith, item_weight place x all n u, items_weight place x all (suc n) us)
 
-part_weight : (place : Place) (x : ℕ) (all : TypeTrees) (n : ℕ) (us : TypeTrees) → weight (part_of_row place x all n us) ≡ 0
+pub part_weight : (place : Place) (x : ℕ) (all : TypeTrees) (n : ℕ) (us : TypeTrees) → weight (part_of_row place x all n us) ≡ 0
 part_weight place x all n no_types = refl
 part_weight place x all n (more_types t no_types) = item_weight place x all n t
 part_weight place x all n (more_types t (more_types u us)) = items_weight place x all n (more_types t (more_types u us))
@@ -40,7 +40,7 @@ weight_together : (es fs : ExprTrees) → weight_in (exprs_behind es fs) ≡ wei
 weight_together no_exprs fs = omega arith
 weight_together (more_exprs e es) fs = omega (arith, weight_together es fs)
 
-made_weight : (place : Place) (x : ℕ) (s : Sides) (v : ExprTree) → weight (made_row place x s v) ≡ weight v
+pub made_weight : (place : Place) (x : ℕ) (s : Sides) (v : ExprTree) → weight (made_row place x s v) ≡ weight v
 made_weight place x s v =
     let front = items_from place x (all_items s) 0 s.before in
     let back = items_from place x (all_items s) (count s.before + count s.within) s.after in
@@ -51,7 +51,7 @@ made_weight place x s v =
       items_weight place x (all_items s) (count s.before + count s.within) s.after,
     )
 
-legs_weight : (ls ms : LegTrees) → weight_in_legs (legs_behind ls ms) ≡ weight_in_legs ls + weight_in_legs ms
+pub legs_weight : (ls ms : LegTrees) → weight_in_legs (legs_behind ls ms) ≡ weight_in_legs ls + weight_in_legs ms
 legs_weight no_legs ms = omega arith
 legs_weight (more_legs l ls) ms = omega (arith, legs_weight ls ms)
 
@@ -61,17 +61,17 @@ module _ (c : Splice) where
   own_weight : weight (row c) ≡ 0
   own_weight = part_weight c.a.place c.r.sym.0 (all_items (places c)) (count (places c).before) (places c).within
 
-  body_weight : weight (whole_body c c.g) ≡ 2 + weight c.g + weight c.f
-  body_weight =
+  body_weight : Simple c → weight (whole_body c c.g) ≡ 2 + weight c.g + weight c.f
+  body_weight simple =
       ends_by c.d.sym.0 (λ g. weight (whole_body c g) ≡ 2 + weight g + weight c.f) (λ a z v h none k. omega (arith, k, weight_put v c.r.sym.0 (row c) own_weight))
-      (λ a o v none. omega (arith, made_weight c.a.place c.r.sym.0 (places c) (put c.r.sym.0 (row c) v), weight_put v c.r.sym.0 (row c) own_weight)) c.g c.ends c.once
+      (λ a o v none. omega (arith, made_weight c.a.place c.r.sym.0 (places c) (put c.r.sym.0 (row c) v), weight_put v c.r.sym.0 (row c) own_weight)) c.g simple.ends simple.once
 
-  loop_lighter : weight (fused (answer c)) < weight (pattern c)
-  loop_lighter =
-      omega (arith, body_weight, legs_weight c.bs (more_legs (whole (produced c)) c.zs), legs_weight c.bs (legs_behind c.ks c.zs), legs_weight c.ks c.zs)
+  loop_lighter : Simple c → weight (fused (answer c)) < weight (pattern c)
+  loop_lighter simple =
+      omega (arith, body_weight simple, legs_weight c.bs (more_legs (whole (produced c)) c.zs), legs_weight c.bs (legs_behind c.ks c.zs), legs_weight c.ks c.zs)
 
 unzipped_lighter : (e : ExprTree) → is_zipped e ≡ true → weight (unzipped e) < weight e
-unzipped_lighter = zipped_by (λ d j. weight (fused j) < weight d) (λ c. loop_lighter c)
+unzipped_lighter = zipped_by (λ d j. weight (fused j) < weight d) (λ c simple. loop_lighter c simple)
 
 pub lighter : ((e : ExprTree) → weight (swept picks_rule e) ≤ weight e) → (e : ExprTree) → is_zipped e ≡ true → weight (spliced e) < weight e
 lighter never e h = omega (arith, unzipped_lighter e h, never (unzipped e))

@@ -8,6 +8,7 @@ pub mod UsesPut
 pub mod Recognised
 pub mod Splice
 pub mod SplicePlaced
+pub mod LegsJoined
 pub mod SpliceMeans
 pub mod SpliceRule
 pub mod Cases

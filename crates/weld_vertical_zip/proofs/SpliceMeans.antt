@@ -1,85 +1,52 @@
 -- Over the list of whole rows the consumer comes to what it came to over the `zip`.
-use Rattle.std.proofs.Common.{◌≡◌, ℕ, suc, true, List, [], ◌∷◌, ◌++◌, length, Some, refl, ap, sym, subst, ◌∙◌, eq-eqb, ne_eqb, arith}
+use Rattle.std.proofs.Common.{◌≡◌, ℕ, suc, true, List, [], ◌∷◌, Some, refl, ap, sym, subst, ◌∙◌, eq-eqb, ne_eqb}
 use Rattle.weld_data.specs.Value.{Value, struct as struct_value, Values, and_value}
-use Rattle.weld_tree.specs.TypeTree.{TypeTree, TypeTrees, vec, struct, build, list, no_types, more_types}
+use Rattle.weld_tree.specs.TypeTree.{TypeTree, TypeTrees, vec, build, list}
 use Rattle.weld_tree.specs.declared.known.Known.TheVariants.{Is}
-use Rattle.weld_tree.specs.Types.{HasTypes}
-use Rattle.weld_tree.specs.ExprTree.{more_legs, whole}
+use Rattle.weld_tree.specs.ExprTree.{whole}
 use Rattle.weld_tree.specs.HasValue.{HasValue, HaveValues}
-use Rattle.weld_builders.specs.Outcome.{Outcome, done, fault, stuck, and_then, map_out}
+use Rattle.weld_builders.specs.Outcome.{Outcome, done, and_then, map_out}
 use Rattle.weld_builders.specs.Part.{list_part}
 use Rattle.weld_meaning.specs.Environment.{Named, look_for}
 use Rattle.weld_meaning.specs.Thing.{Thing, plain, building}
 use Rattle.weld_meaning.specs.ThingType.{EnvFits}
-use Rattle.weld_meaning.specs.Typing.{Types, RowHas}
+use Rattle.weld_meaning.specs.Typing.{Types}
 use Rattle.weld_meaning.specs.Evaluation.{Env, whole_number, with_row, rows_of, number_from, run, eval, eval_leg, eval_legs}
 use Rattle.weld_meaning.specs.Origin.{Origin}
 use Rattle.weld_meaning.specs.Names.{answer_of}
-use Rattle.weld_meaning.proofs.Good.{Good}
 use Rattle.weld_meaning.proofs.Names.{same_answers}
 use Rattle.weld_meaning.proofs.Putting.{put_means}
 use Rattle.weld_meaning.proofs.PartsGood.{KeyLaws}
 use Rattle.weld_meaning.proofs.NeverStuck.{Of, never_stuck}
-use Rattle.weld_meaning.proofs.ValuesGood.{LegsFit, rows_good}
 use Rattle.weld_rewriting.specs.Placed.{IsPlaced}
-use Rattle.weld_rewriting.proofs.Rows.{legs_good}
 use Rattle.weld_substitution.specs.Uses.{uses}
 use Rattle.weld_vertical.specs.Sinking.{at_of, ends_in_merge}
-use Rattle.weld_vertical.proofs.Handing.{then_then, answers_at, one_leg}
+use Rattle.weld_vertical.proofs.Handing.{then_then, one_leg}
 use Rattle.weld_horizontal.specs.Twice.{node_of, items, count, bare}
 use Rattle.weld_horizontal.proofs.RowItems.{row_of}
-use Rattle.weld_vertical_zip.specs.Zipping.{legs_behind, all_items, whole_row}
+use Rattle.weld_vertical_zip.specs.Zipping.{all_items, whole_row}
 use Rattle.weld_vertical_zip.proofs.Merging.{row_value, row_appends}
-use Rattle.weld_vertical_zip.proofs.Gathering.{map_map, same_then, gather, values_behind, as_row, core, on_fields, on_fields_at}
-use Rattle.weld_vertical_zip.proofs.ZippingSplicing.{eval_together, fit_together, fit_count}
+use Rattle.weld_vertical_zip.proofs.Gathering.{map_map, same_then, gather, values_behind, as_row, on_fields, on_fields_at}
 use Rattle.weld_vertical_zip.proofs.MadeRows.{among, Apiece, apiece, stands, part_gives_so}
 use Rattle.weld_vertical_zip.proofs.Widening.{round, wide_gives}
 use Rattle.weld_vertical_zip.proofs.Producing.{at_row, leg_gathers, same_gives}
-use Rattle.weld_vertical_zip.proofs.Splice.{Splice, places, produced, old_legs, pattern, row, body, wide, all_legs, rows_list, answer, body_ends, body_once, counted, Tidily}
-use Rattle.weld_vertical_zip.proofs.SplicePlaced.{row_several, found_first, Known, several_all, row_has, answer_placed}
+use Rattle.weld_vertical_zip.proofs.Splice.{Splice, Simple, places, produced, old_legs, pattern, row, body, wide, all_legs, rows_list, answer, body_ends, body_once, counted, wide_apart, Tidily}
+use Rattle.weld_vertical_zip.proofs.LegsJoined.{same_rows as legs_joined}
+use Rattle.weld_vertical_zip.proofs.SplicePlaced.{row_several, found_first, Known, several_all, answer_placed}
 
--- ---- outcomes of legs behind legs
-
-all_together : {X Y Z L M R : Type 0} (p : Outcome X) (q : Outcome Y) (s : Outcome Z) (f : X → M → L) (h : Y → Z → M) (k : L → Outcome R) → and_then (and_then p (λ x. map_out (f x) (and_then q (λ y. map_out (h y) s)))) k ≡ and_then p (λ x. and_then q (λ y. and_then s (λ z. k (f x (h y z)))))
-all_together (done x) (done y) (done z) f h k = refl
-all_together (done x) (done y) fault f h k = refl
-all_together (done x) (done y) stuck f h k = refl
-all_together (done x) fault s f h k = refl
-all_together (done x) stuck s f h k = refl
-all_together fault q s f h k = refl
-all_together stuck q s f h k = refl
-
-made_together : {X Y Z C L M R : Type 0} (p : Outcome X) (q : Outcome Y) (s : Outcome Z) (m : Y → Outcome C) (f : X → M → L) (h : C → Z → M) (k : L → Outcome R) → answer_of (and_then (and_then p (λ x. map_out (f x) (and_then (and_then q m) (λ y. map_out (h y) s)))) k) ≡ answer_of (and_then p (λ x. and_then q (λ y. and_then s (λ z. and_then (m y) (λ c. k (f x (h c z)))))))
-made_together (done x) (done y) s m f h k = by (m y) s
-  where
-    by : (o : Outcome _) (s : Outcome _) → answer_of (and_then (map_out (f x) (and_then o (λ y. map_out (h y) s))) k) ≡ answer_of (and_then s (λ z. and_then o (λ c. k (f x (h c z)))))
-    by (done c) (done z) = refl
-    by (done c) fault = refl
-    by (done c) stuck = refl
-    by fault (done z) = refl
-    by fault fault = refl
-    by fault stuck = refl
-    by stuck (done z) = refl
-    by stuck fault = refl
-    by stuck stuck = refl
-made_together (done x) fault s m f h k = refl
-made_together (done x) stuck s m f h k = refl
-made_together fault q s m f h k = refl
-made_together stuck q s m f h k = refl
-
-module _ (c : Splice) (w : Tidily c) (laws : KeyLaws) (types : Types) (around : Named Origin) (t : TypeTree) (q : IsPlaced (pattern c) types around t) (k : Known c types around t q) (env : Env) (fit : EnvFits types env) where
+module _ (c : Splice) (simple : Simple c) (w : Tidily c) (laws : KeyLaws) (types : Types) (around : Named Origin) (t : TypeTree) (q : IsPlaced (pattern c) types around t) (k : Known c types around t q) (env : Env) (fit : EnvFits types env) where
   abbrev all : TypeTrees
   all = all_items (places c)
 
   -- what the producer's body gives on a row, and what the body that makes whole rows gives
   abbrev own_gives : ℕ → Value → Outcome Value
-  own_gives n v = row_value c.g (at_row c.m c.p c.o c.item c.ks c.d c.i c.r c.g c.ends c.once w.number_other w.row_other w.apart env n v)
+  own_gives n v = row_value c.g (at_row c.m c.p c.o c.item c.ks c.d c.i c.r c.g simple.ends simple.once w.number_other w.row_other w.apart env n v)
 
   wide_ends : ends_in_merge c.d.sym.0 (wide c) ≡ true
-  wide_ends = (counted c w.row_other).ends
+  wide_ends = (counted c simple w.row_other).ends
 
   wide_once : uses (wide c) c.d.sym.0 ≡ 1
-  wide_once = (counted c w.row_other).use_count ∙ body_once c w.row_other
+  wide_once = (counted c simple w.row_other).use_count ∙ body_once c simple w.row_other
 
   -- the names in the body on a row over all legs
   abbrev in_row : ℕ → Value → Env
@@ -89,14 +56,14 @@ module _ (c : Splice) (w : Tidily c) (laws : KeyLaws) (types : Types) (around : 
   rows_give n v = row_value (wide c) (in_row n v)
 
   old_gathers : eval_leg (whole (produced c)) env ≡ and_then (eval_legs c.ks env) (λ l. and_then (rows_of l) (gather own_gives 0))
-  old_gathers = leg_gathers c.m c.p c.o c.item c.ks c.d c.i c.r c.g c.ends c.once w.number_other w.row_other w.apart env
+  old_gathers = leg_gathers c.m c.p c.o c.item c.ks c.d c.i c.r c.g simple.ends simple.once w.number_other w.row_other w.apart env
 
   new_gathers : eval_leg (whole (rows_list c)) env ≡ and_then (eval_legs (all_legs c) env) (λ l. and_then (rows_of l) (gather rows_give 0))
   new_gathers =
       leg_gathers (node_of c.a.place (vec (whole_row (places c))))
       (at_of c.p (Is (build (list (whole_row (places c))))))
       (node_of c.a.place (build (list (whole_row (places c))))) (whole_row (places c)) (all_legs c) (bare c.d) c.i (bare c.r) (wide c) wide_ends wide_once
-      w.number_other w.row_other w.wide_apart env
+      w.number_other w.row_other (wide_apart c simple w) env
 
   -- ---- on a row
 
@@ -110,14 +77,14 @@ module _ (c : Splice) (w : Tidily c) (laws : KeyLaws) (types : Types) (around : 
   body_gives : (n : ℕ) (fs : Values) (a : Apiece (places c) fs) (j : ℕ) → HaveValues all fs → suc j ≡ count (items c.ks) → row_value (body c) (in_row n (struct_value fs)) ≡ own_gives n (as_row j a.within)
   body_gives n fs a j h e =
       same_gives (row_value (body c) now) (own_gives n (as_row j a.within))
-      (sym (row_appends c.d.sym.0 (body c) (body_ends c w.row_other) (body_once c w.row_other) w.body_apart now [] (builder_there n (struct_value fs)))
+      (sym (row_appends c.d.sym.0 (body c) (body_ends c simple w.row_other) (body_once c simple w.row_other) w.body_apart now [] (builder_there n (struct_value fs)))
       ∙ put_means c.g c.r.sym.0 (row c) (plain (as_row j a.within)) now before w.clear
       (record {
         others = λ s ne. rw (ne_eqb s c.r.sym.0 (λ p. ne (sym p))) refl;
         there = found_first c.r.sym.0 (plain (as_row j a.within)) ((c.i.sym.0, plain (whole_number n)) ∷ (c.d.sym.0, building (list_part [])) ∷ env);
         comes_to = gives;
       })
-      ∙ row_appends c.d.sym.0 c.g c.ends c.once w.apart before [] (builder_there n (as_row j a.within)))
+      ∙ row_appends c.d.sym.0 c.g simple.ends simple.once w.apart before [] (builder_there n (as_row j a.within)))
     where
       now : Env
       now = in_row n (struct_value fs)
@@ -136,81 +103,17 @@ module _ (c : Splice) (w : Tidily c) (laws : KeyLaws) (types : Types) (around : 
     where
       by : Apiece (places c) fs → rows_give n (struct_value fs) ≡ map_out struct_value (on_fields (count (items c.bs)) (count (items c.ks)) (λ m gs. own_gives m (as_row j gs)) n fs)
       by a =
-          wide_gives c.a.place c.d.sym.0 c.r.sym.0 (places c) fs a (fits_row fs h) (several_all c types around t q k) (body c) (body_ends c w.row_other) (body_once c w.row_other) w.body_clear
+          wide_gives c.a.place c.d.sym.0 c.r.sym.0 (places c) fs a (fits_row fs h) (several_all c types around t q k) (body c) (body_ends c simple w.row_other) (body_once c simple w.row_other) w.body_clear
           (in_row n (struct_value fs)) (found_first c.r.sym.0 (plain (struct_value fs)) ((c.i.sym.0, plain (whole_number n)) ∷ (c.d.sym.0, building (list_part [])) ∷ env))
           ∙ ap (map_out (round c.a.place c.d.sym.0 c.r.sym.0 (places c) fs a (fits_row fs h) (several_all c types around t q k))) (body_gives n fs a j h e)
           ∙ sym (map_map struct_value (λ v. values_behind a.before (and_value v a.after)) (own_gives n (as_row j a.within)))
           ∙ ap (map_out struct_value) (sym (on_fields_at (items c.bs) (items c.ks) (λ m gs. own_gives m (as_row j gs)) n a.before a.within a.after a.before_fit a.within_fit))
           ∙ ap (λ gs. map_out struct_value (on_fields (count (items c.bs)) (count (items c.ks)) (λ m gs. own_gives m (as_row j gs)) n gs)) (sym a.are)
 
-  -- ---- over lists
-
-  abbrev Same : List (List Value) → List (List Value) → List (List Value) → Type 0
-  Same xs ys zs = answer_of (and_then (rows_of (xs ++ (ys ++ zs))) (gather rows_give 0)) ≡ answer_of (and_then (and_then (rows_of ys) (gather own_gives 0)) (λ made. rows_of (xs ++ (made ∷ zs))))
-
-  over_lists : (xs ys zs : List (List Value)) → LegsFit (items c.bs) xs → LegsFit (items c.ks) ys → LegsFit (items c.zs) zs → Same xs ys zs
-  over_lists xs [] zs fx fy fz = absurd (nothing_fits (items c.ks) k.some fy)
-    where
-      nothing_fits : (us : TypeTrees) → HasTypes us → LegsFit us [] → ⊥
-      nothing_fits no_types h f = h
-      nothing_fits (more_types u us) h f = f
-  over_lists xs (y ∷ ys) zs fx fy fz =
-      core all own_gives rows_give xs y ys zs (omega (arith, c.several, before_count, after_count)) each
-      (rows_good all (struct all) (xs ++ (y ∷ (ys ++ zs))) is_row (fit_together (items c.bs) _ xs _ fx (fit_together (items c.ks) (items c.zs) (y ∷ ys) zs fy fz)))
-    where
-      before_count : length xs ≡ count (items c.bs)
-      before_count = fit_count (items c.bs) xs fx
-
-      within_count : suc (length ys) ≡ count (items c.ks)
-      within_count = fit_count (items c.ks) (y ∷ ys) fy
-
-      after_count : length zs ≡ count (items c.zs)
-      after_count = fit_count (items c.zs) zs fz
-
-      is_row : RowHas all (struct all)
-      is_row = subst (RowHas all) (row_several all (several_all c types around t q k)) (row_has c types around t q k)
-
-      each : (n : ℕ) (fs : Values) → HaveValues all fs → rows_give n (struct_value fs) ≡ map_out struct_value (on_fields (length xs) (suc (length ys)) (λ m gs. own_gives m (as_row (length ys) gs)) n fs)
-      each n fs h =
-          rows_give_so (length ys) n fs within_count h
-          ∙ (λ i. map_out struct_value (on_fields (sym before_count i) (sym within_count i) (λ m gs. own_gives m (as_row (length ys) gs)) n fs))
-
-  -- ---- the legs
-
-  before_good : Good (LegsFit (items c.bs)) (eval_legs c.bs env)
-  before_good = legs_good laws c.bs types (items c.bs) env k.before_have q.formed fit
-
-  within_good : Good (LegsFit (items c.ks)) (eval_legs c.ks env)
-  within_good = legs_good laws c.ks types (items c.ks) env k.within_have q.formed fit
-
-  after_good : Good (LegsFit (items c.zs)) (eval_legs c.zs env)
-  after_good = legs_good laws c.zs types (items c.zs) env k.after_have q.formed fit
+  -- ---- over all legs
 
   same_rows : answer_of (eval_leg (whole (rows_list c)) env) ≡ answer_of (and_then (eval_legs (old_legs c) env) rows_of)
-  same_rows =
-      ap answer_of (new_gathers ∙ ap (λ o. and_then o (λ l. and_then (rows_of l) (gather rows_give 0))) new_legs ∙ all_together p s z (λ xs rest. xs ++ rest) (λ ys rest. ys ++ rest) (λ l. and_then (rows_of l) (gather rows_give 0)))
-      ∙ answers_at (LegsFit (items c.bs)) p _ _ before_good.fits (λ xs fx.
-      answers_at (LegsFit (items c.ks)) s _ _ within_good.fits (λ ys fy. answers_at (LegsFit (items c.zs)) z _ _ after_good.fits (λ zs fz. over_lists xs ys zs fx fy fz)))
-      ∙ sym (ap answer_of (ap (λ o. and_then o rows_of) old) ∙ made_together p s z (λ ys. and_then (rows_of ys) (gather own_gives 0)) (λ xs rest. xs ++ rest) (λ made rest. made ∷ rest) rows_of)
-    where
-      p : Outcome (List (List Value))
-      p = eval_legs c.bs env
-
-      s : Outcome (List (List Value))
-      s = eval_legs c.ks env
-
-      z : Outcome (List (List Value))
-      z = eval_legs c.zs env
-
-      new_legs : eval_legs (all_legs c) env ≡ and_then (eval_legs c.bs env) (λ xs. map_out (λ rest. xs ++ rest) (and_then (eval_legs c.ks env) (λ ys. map_out (λ rest. ys ++ rest) (eval_legs c.zs env))))
-      new_legs =
-          eval_together c.bs (legs_behind c.ks c.zs) env
-          ∙ ap (λ o. and_then (eval_legs c.bs env) (λ xs. map_out (λ rest. xs ++ rest) o)) (eval_together c.ks c.zs env)
-
-      old : eval_legs (old_legs c) env ≡ and_then (eval_legs c.bs env) (λ xs. map_out (λ rest. xs ++ rest) (and_then (and_then (eval_legs c.ks env) (λ ys. and_then (rows_of ys) (gather own_gives 0))) (λ made. map_out (λ rest. made ∷ rest) (eval_legs c.zs env))))
-      old =
-          eval_together c.bs (more_legs (whole (produced c)) c.zs) env
-          ∙ ap (λ o. and_then (eval_legs c.bs env) (λ xs. map_out (λ rest. xs ++ rest) (and_then o (λ made. map_out (λ rest. made ∷ rest) (eval_legs c.zs env))))) old_gathers
+  same_rows = ap answer_of new_gathers ∙ legs_joined c laws types around t q k env fit own_gives rows_give old_gathers rows_give_so
 
   -- ---- the loop
 
@@ -225,5 +128,5 @@ module _ (c : Splice) (w : Tidily c) (laws : KeyLaws) (types : Types) (around : 
 
   pub answer_means : eval (answer c) env ≡ eval (pattern c) env
   answer_means =
-      same_answers (Of t) (Of t) (eval (answer c) env) (eval (pattern c) env) (never_stuck laws (answer c) types t env (answer_placed c types around t q k w).typed q.formed fit).fits
+      same_answers (Of t) (Of t) (eval (answer c) env) (eval (pattern c) env) (never_stuck laws (answer c) types t env (answer_placed c types around t q k simple w).typed q.formed fit).fits
       (never_stuck laws (pattern c) types t env q.typed q.formed fit).fits same_answer

@@ -27,16 +27,16 @@ use Rattle.weld_vertical_zip.specs.Zipping.{legs_behind, types_behind, all_items
 use Rattle.weld_vertical_zip.proofs.ZippingSplicing.{types_apart, types_together, first_type, count_together, keep_apart, keep_together, noted_apart, noted_together, taken_together, split_apart, split_together}
 use Rattle.weld_vertical_zip.proofs.MadeRows.{among, part_typed, part_noted, part_idle, part_named}
 use Rattle.weld_vertical_zip.proofs.Widening.{Related, Widened, widens_all}
-use Rattle.weld_vertical_zip.proofs.Splice.{Splice, places, empty, producer, produced, old_legs, pattern, row, body, all_legs, rows_producer, rows_list, answer, row_small, body_ends, body_once, Tidily}
+use Rattle.weld_vertical_zip.proofs.Splice.{Splice, Simple, places, empty, producer, produced, old_legs, pattern, row, body, all_legs, rows_producer, rows_list, answer, row_small, body_ends, body_once, Tidily}
 
 -- ---- types
 
-same_item : (u w item : TypeTree) (b : BuildTree) → w ≡ build b → vec u ≡ gives b → w ≡ build (list item) → u ≡ item
+pub same_item : (u w item : TypeTree) (b : BuildTree) → w ≡ build b → vec u ≡ gives b → w ≡ build (list item) → u ≡ item
 same_item u w item b e h k =
     let same : b ≡ list item = let it : build b ≡ build (list item) = sym e ∙ k in cc in
     let same_list : vec u ≡ vec item = h ∙ ap gives same in cc
 
-row_only : (us : TypeTrees) (r : TypeTree) → RowHas us r → r ≡ row_of us
+pub row_only : (us : TypeTrees) (r : TypeTree) → RowHas us r → r ≡ row_of us
 row_only no_types r h = absurd h
 row_only (more_types u no_types) r h = h
 row_only (more_types u (more_types v us)) r h = h
@@ -57,10 +57,10 @@ some_several (more_types u us) h = tt
 pub found_first : {A : Type 0} (s : ℕ) (y : A) (g : Named A) → look_for s ((s, y) ∷ g) ≡ Some y
 found_first s y g = rw (eq-eqb s s refl) refl
 
-binding_over : {A : Type 0} (s : ℕ) (y z : A) (g : Named A) → Binding s y ((s, z) ∷ g) ((s, y) ∷ g)
+pub binding_over : {A : Type 0} (s : ℕ) (y z : A) (g : Named A) → Binding s y ((s, z) ∷ g) ((s, y) ∷ g)
 binding_over s y z g = record { others = λ t ne. rw (ne_eqb t s ne) refl; there = rw (eq-eqb s s refl) refl }
 
-or_none : (b : Bool) → (b || false) ≡ b
+pub or_none : (b : Bool) → (b || false) ≡ b
 or_none true = refl
 or_none false = refl
 
@@ -128,7 +128,7 @@ module _ (c : Splice) where
   -- ---- all legs
 
   module _ (types : Types) (around : Named Origin) (t : TypeTree) (q : IsPlaced (pattern c) types around t) (k : Known types around t q) where
-    abbrev all : TypeTrees
+    abbrev pub all : TypeTrees
     all = all_items (places c)
 
     pub several_all : 2 ≤ count all
@@ -154,13 +154,13 @@ module _ (c : Splice) where
     own_takes : (s : ℕ) (y : Path) → leg_takes (whole (produced c)) around s y ≡ legs_take c.ks around s y
     own_takes s y = or_none (legs_take c.ks around s y)
 
-    all_taken : (s : ℕ) (y : Path) → legs_take (all_legs c) around s y ≡ legs_take (old_legs c) around s y
+    pub all_taken : (s : ℕ) (y : Path) → legs_take (all_legs c) around s y ≡ legs_take (old_legs c) around s y
     all_taken s y =
         taken_together c.bs (legs_behind c.ks c.zs) around s y
         ∙ ap (λ b. legs_take c.bs around s y || b) (taken_together c.ks c.zs around s y ∙ ap (λ b. b || legs_take c.zs around s y) (sym (own_takes s y)))
         ∙ sym (taken_together c.bs (more_legs (whole (produced c)) c.zs) around s y)
 
-    all_split : LegsSplit (all_legs c) around
+    pub all_split : LegsSplit (all_legs c) around
     all_split =
         split_together c.bs (legs_behind c.ks c.zs) around k.before_split
         (split_together c.ks c.zs around k.producer.splits.0 k.after_split (record { apart = λ s y u v. k.after_apart.apart s y (own_takes s y ∙ u) v }))
@@ -180,18 +180,18 @@ module _ (c : Splice) where
     abbrev pub inside : Named Origin
     inside = in_body c.d c.i c.r made around
 
-    row_there : (u : TypeTree) → look_for c.r.sym.0 (row_names u) ≡ Some (row_of all)
+    pub row_there : (u : TypeTree) → look_for c.r.sym.0 (row_names u) ≡ Some (row_of all)
     row_there u = found_first c.r.sym.0 (row_of all) ((c.i.sym.0, place_type) ∷ (c.d.sym.0, u) ∷ types)
 
-    within_free : AreBuilderFree (items c.ks)
+    pub within_free : AreBuilderFree (items c.ks)
     within_free = (legs_formed c.ks types (items c.ks) k.within_have q.formed).1
 
-    row_typed : (u : TypeTree) → HasType (row c) (row_names u) k.producer.typed.1
+    pub row_typed : (u : TypeTree) → HasType (row c) (row_names u) k.producer.typed.1
     row_typed u =
         subst (HasType (row c) (row_names u)) (sym k.own_row_is)
         (part_typed c.a.place c.r.sym.0 all (count (items c.bs)) (items c.ks) (row_names u) (row_there u) (among (places c)).within k.some within_free)
 
-    row_idle : IsIdle (row c)
+    pub row_idle : IsIdle (row c)
     row_idle = record {
       from = λ h j. (idle h (j.idle c.r.sym.0 named)).from;
       none = λ h j. (idle h (j.idle c.r.sym.0 named)).none;
@@ -205,7 +205,7 @@ module _ (c : Splice) where
         named : IsFree (row c) c.r.sym.0
         named = part_named c.a.place c.r.sym.0 all (count (items c.bs)) (items c.ks) k.some
 
-    still : Still c.r.sym.0 (row c) inside inside
+    pub still : Still c.r.sym.0 (row c) inside inside
     still = record {
       binding = record { others = λ s ne. refl; there = there };
       idle = record { idle = λ s f. subst (λ u. origin_of_name u inside ≡ value) (sym ((row_small c).names s f)) (ap known_origin there) };
@@ -214,17 +214,17 @@ module _ (c : Splice) where
         there : look_for c.r.sym.0 inside ≡ Some value
         there = found_first c.r.sym.0 value ((c.i.sym.0, value) ∷ (c.d.sym.0, own_paths made) ∷ outside around)
 
-    wide_formed : (u : TypeTree) → IsWellFormed u → AreFormed (row_names u)
+    pub wide_formed : (u : TypeTree) → IsWellFormed u → AreFormed (row_names u)
     wide_formed u w = formed_body (bare c.d) c.i (bare c.r) u (row_of all) types w (row_formed (all_legs c) types all (row_of all) all_have row_has q.formed) q.formed
 
-    wide_forms : (b : BuildTree) → NamesHaveForms inside (row_names (build b))
+    pub wide_forms : (b : BuildTree) → NamesHaveForms inside (row_names (build b))
     wide_forms b =
         (forms_in_body around types (bare c.d) c.i (bare c.r) made (build b) (row_of all) made_form (row_free (all_legs c) types all (row_of all) all_have row_has q.formed) q.forms)
       where
         made_form : HasForm made (build b)
         made_form = tt
 
-    body_placed : Tidily c → IsPlaced (body c) (row_names (build (list c.item))) inside (build (list c.item))
+    pub body_placed : Tidily c → IsPlaced (body c) (row_names (build (list c.item))) inside (build (list c.item))
     body_placed w =
         let own = body_of_loop c.p c.ks (empty c) c.d c.i c.r c.g types around (build (list c.item)) k.producer in
         let now = row_names (build (list c.item)) in
@@ -248,8 +248,8 @@ module _ (c : Splice) where
     whole_free : IsBuilderFree (whole_row (places c))
     whole_free = subst IsBuilderFree k.row_is (row_free (old_legs c) types q.typed.0 q.typed.1 q.typed.2 q.typed.3 q.formed)
 
-    pub wide_there : Tidily c → Widened c.a.place c.d.sym.0 c.r.sym.0 (places c) (row_names rows_type) inside (body c)
-    wide_there w =
+    pub wide_there : Simple c → Tidily c → Widened c.a.place c.d.sym.0 c.r.sym.0 (places c) (row_names rows_type) inside (body c)
+    wide_there simple w =
         widens_all c.a.place c.d.sym.0 c.r.sym.0 (places c)
         (record {
           item_formed = k.item_formed;
@@ -257,7 +257,7 @@ module _ (c : Splice) where
           before_free = (legs_formed c.bs types (items c.bs) k.before_have q.formed).1;
           after_free = (legs_formed c.zs types (items c.zs) k.after_have q.formed).1;
         })
-        (body c) (body_ends c w.row_other) (body_once c w.row_other) (row_names (build (list c.item))) (row_names rows_type) inside w.body_clear related (body_placed w)
+        (body c) (body_ends c simple w.row_other) (body_once c simple w.row_other) (row_names (build (list c.item))) (row_names rows_type) inside w.body_clear related (body_placed w)
       where
         related : Related c.a.place c.d.sym.0 c.r.sym.0 (places c) (row_names (build (list c.item))) (row_names rows_type) inside
         related = record {
@@ -271,18 +271,18 @@ module _ (c : Splice) where
 
     -- ---- the loop
 
-    producer_typed : Tidily c → HasType (rows_producer c) types rows_type
-    producer_typed w =
-        (all, row_of all, all_have, row_has, (tt, (whole_formed, whole_free), refl), tt, tt, k.producer.typed.7, tt, (wide_there w).placed.typed)
+    producer_typed : Simple c → Tidily c → HasType (rows_producer c) types rows_type
+    producer_typed simple w =
+        (all, row_of all, all_have, row_has, (tt, (whole_formed, whole_free), refl), tt, tt, k.producer.typed.7, tt, (wide_there simple w).placed.typed)
 
-    list_typed : Tidily c → HasType (rows_list c) types (vec (whole_row (places c)))
-    list_typed w = (rows_type, producer_typed w, (list (whole_row (places c)), refl, refl))
+    list_typed : Simple c → Tidily c → HasType (rows_list c) types (vec (whole_row (places c)))
+    list_typed simple w = (rows_type, producer_typed simple w, (list (whole_row (places c)), refl, refl))
 
-    answer_typed : Tidily c → HasType (answer c) types t
-    answer_typed w = (
+    answer_typed : Simple c → Tidily c → HasType (answer c) types t
+    answer_typed simple w = (
       more_types (whole_row (places c)) no_types,
       whole_row (places c),
-      (list_typed w, tt),
+      (list_typed simple w, tt),
       refl,
       q.typed.4,
       q.typed.5,
@@ -295,10 +295,10 @@ module _ (c : Splice) where
     new_taken : (s : ℕ) (y : Path) → legs_take (more_legs (whole (rows_list c)) no_legs) around s y ≡ legs_take (old_legs c) around s y
     new_taken s y = or_none (legs_take (all_legs c) around s y || false) ∙ or_none (legs_take (all_legs c) around s y) ∙ all_taken s y
 
-    pub answer_placed : Tidily c → IsPlaced (answer c) types around t
-    answer_placed w =
-        let there = wide_there w in
-        let typed = answer_typed w in
+    pub answer_placed : Simple c → Tidily c → IsPlaced (answer c) types around t
+    answer_placed simple w =
+        let there = wide_there simple w in
+        let typed = answer_typed simple w in
         let own = body_of_loop c.a (old_legs c) c.e c.b c.n c.x c.f types around t q in
         record {
           formed = q.formed;
@@ -352,9 +352,9 @@ module _ (c : Splice) where
                   noted_together c.bs (legs_behind c.ks c.zs) types k.before_noted (noted_together c.ks c.zs types k.producer.noted.0 k.after_noted),
                   (rows_type, refl, (tt, (whole_formed, whole_free), refl)),
                   (all, row_of all, rows_type, all_have, row_has, (tt, (whole_formed, whole_free), refl), there.placed.noted),
-                  (rows_type, refl, producer_typed w),
+                  (rows_type, refl, producer_typed simple w),
                 ),
-                (vec (whole_row (places c)), refl, list_typed w),
+                (vec (whole_row (places c)), refl, list_typed simple w),
               ),
               tt,
             ),
@@ -363,7 +363,7 @@ module _ (c : Splice) where
               more_types (whole_row (places c)) no_types,
               whole_row (places c),
               t,
-              (list_typed w, tt),
+              (list_typed simple w, tt),
               refl,
               q.typed.4,
               subst (λ u. AreNoted c.f (body_types c.b c.n c.x t u types)) k.row_is own.noted,
