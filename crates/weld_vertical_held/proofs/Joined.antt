@@ -8,11 +8,11 @@ use Rattle.weld_tree.specs.ExprView.{view_leg}
 use Rattle.weld_substitution.specs.Uses.{uses}
 use Rattle.weld_vertical.specs.Sinking.{is_finish, starts_list}
 use Rattle.weld_vertical.specs.Fusing.{is_result_leg, is_only_result, IsMadeBy, IsOnlyBy}
-use Rattle.weld_vertical_held.specs.declared.settling.Consumer.{Consumer}
-use Rattle.weld_vertical_held.specs.Handing.{starts_none}
-use Rattle.weld_vertical_held.specs.Merging.{list_merges, always_merges}
-use Rattle.weld_vertical_held.specs.Rule.{own_names, merges_once, makes_list, is_its_only_leg, is_noted, handed_over}
-use Rattle.weld_vertical_held.specs.Walking.{body_merges, joined}
+use Rattle.weld_handing.specs.declared.settling.Consumer.{Consumer}
+use Rattle.weld_handing.specs.Handing.{starts_none, own_names, is_noted}
+use Rattle.weld_handing.specs.Merging.{list_merges, always_merges}
+use Rattle.weld_handing.specs.Walking.{body_merges, joined}
+use Rattle.weld_vertical_held.specs.Rule.{merges_once, makes_list, is_its_only_leg, handed_over}
 
 first_true : (a b : Bool) → (a && b) ≡ true → a ≡ true
 first_true true b h = refl

@@ -4,21 +4,20 @@ use Rattle.std.proofs.lemmas.Bool.{cases_eq}
 use Rattle.weld_tree.specs.declared.binder.Binder.{Binder}
 use Rattle.weld_tree.specs.declared.known.Known.{Known as Noted}
 use Rattle.weld_tree.specs.declared.known.Known.TheVariants.{Is}
-use Rattle.weld_tree.specs.TypeTree.{TypeTree, TypeTrees, BuildTree, vec, build, list, no_types, more_types}
-use Rattle.weld_tree.specs.Types.{IsBuilderFree, IsBuilder, IsWellFormed, gives}
+use Rattle.weld_tree.specs.TypeTree.{TypeTree, vec, build, list}
+use Rattle.weld_tree.specs.Types.{IsBuilderFree, IsWellFormed}
 use Rattle.weld_tree.specs.ExprTree.{At, ExprTree, leaf, one, loop, whole, LegTrees, no_legs, more_legs, fresh, finish}
 use Rattle.weld_tree.specs.Program.{bound, bound_in_legs, IsOneOf, AreDistinct}
 use Rattle.weld_meaning.specs.Environment.{Named, look_for}
-use Rattle.weld_meaning.specs.Typing.{Types, NoteFits, HasType, LegsHave, RowHas, body_types}
-use Rattle.weld_meaning.specs.Origin.{Path, Origin, value, made, own, outer, named, struct, Origins, no_origins, more_origins, is_value, known_origin, origin_of_name, origin, own_paths, from_within, all_from_within, outside, in_body}
-use Rattle.weld_meaning.specs.Forms.{HasForm}
+use Rattle.weld_meaning.specs.Typing.{Types, NoteFits, HasType, body_types}
+use Rattle.weld_meaning.specs.Origin.{Path, Origin, value, made, own, known_origin, origin_of_name, origin, own_paths, from_within, outside, in_body}
 use Rattle.weld_meaning.specs.Linear.{Keeps}
 use Rattle.weld_meaning.specs.Available.{is_builder_path, takes, legs_take, TakesAll, Splits}
 use Rattle.weld_check_types.specs.Notes.{AreNoted}
 use Rattle.weld_meaning.specs.Names.{IsFree, Binds}
 use Rattle.weld_meaning.proofs.Before.{look_for-map, origin_outside}
 use Rattle.weld_meaning.proofs.OneType.{one_type}
-use Rattle.weld_meaning.proofs.OriginTypes.{not_both, origin_forms}
+use Rattle.weld_meaning.proofs.OriginTypes.{origin_forms}
 use Rattle.weld_meaning.proofs.WellFormed.{type_formed, row_formed}
 use Rattle.weld_rewriting.specs.Placed.{IsPlaced}
 use Rattle.weld_rewriting.specs.Within.{times}
@@ -27,70 +26,20 @@ use Rattle.weld_rewriting.proofs.Counts.{times-append, one_of_times, distinct_ti
 use Rattle.weld_rewriting.proofs.Parts.{row_free, noted_at, part_of_one, body_of_loop}
 use Rattle.weld_substitution.proofs.Clear.{first_of, second_of, binds_each}
 use Rattle.weld_substitution.proofs.Following.{or_left, both_true}
-use Rattle.weld_vertical_held.specs.Handing.{holds, some_hold, handed_type, unnoted, handed, starts_none}
-use Rattle.weld_vertical_held.specs.Rule.{own_names}
-use Rattle.weld_vertical_held.proofs.Common.{IsAside}
-use Rattle.weld_vertical_held.proofs.Traces.{handed_origin, Alike, AllAlike, handed_none}
-use Rattle.weld_vertical_held.proofs.Answering.{IsClear, Consumes, Names}
-use Rattle.weld_vertical_held.proofs.Keeping.{from_there, handed_keeps}
-use Rattle.weld_vertical_held.proofs.Cutting.{cut, cut_builds}
-use Rattle.weld_vertical_held.proofs.Taking.{handed_takes}
-use Rattle.weld_vertical_held.proofs.Splitting.{Body, handed_splits}
-use Rattle.weld_vertical_held.proofs.Clearing.{typed_clear}
-use Rattle.weld_vertical_held.proofs.SameNames.{Same, same_names, own_names_same}
-use Rattle.weld_vertical_held.proofs.Types.{Typed, TypesRelate, handed_typed}
-use Rattle.weld_vertical_held.proofs.Notes.{handed_noted}
-use Rattle.weld_vertical_held.proofs.Starting.{relate_start}
-
--- ---- types
-
--- a row over one leg is its item
-only_type : (v : ExprTree) (g : Types) (us : TypeTrees) (r : TypeTree) → LegsHave (more_legs (whole v) no_legs) g us → RowHas us r → (u : TypeTree) × HasType v g (vec u) × (r ≡ u)
-only_type v g no_types r h k = absurd h
-only_type v g (more_types u no_types) r h k = (u, h.0, k)
-only_type v g (more_types u (more_types w us)) r h k = absurd h.1
-
-same_item : (u w item : TypeTree) (b : BuildTree) → w ≡ build b → vec u ≡ gives b → w ≡ build (list item) → u ≡ item
-same_item u w item b e h k =
-    let same : b ≡ list item = let it : build b ≡ build (list item) = sym e ∙ k in cc in
-    let items : vec u ≡ vec item = h ∙ ap gives same in cc
-
--- a builder comes from no value
-builder_origin : (o : Origin) (t : TypeTree) → IsWellFormed t → IsBuilder t → HasForm o t → is_value o ≡ false
-builder_origin value t w b h = absurd (not_both t w b h)
-builder_origin made t w b h = refl
-builder_origin (own p) t w b h = refl
-builder_origin outer t w b h = refl
-builder_origin (named s p) t w b h = refl
-builder_origin (struct os) t w b h = refl
-
--- ---- what stands around
-
-mutual
-  pub within_none : (o : Origin) → holds (from_within o) ≡ false
-  within_none value = refl
-  within_none made = refl
-  within_none (own p) = refl
-  within_none outer = refl
-  within_none (named s p) = refl
-  within_none (struct os) = all_within_none os
-
-  all_within_none : (os : Origins) → some_hold (all_from_within os) ≡ false
-  all_within_none no_origins = refl
-  all_within_none (more_origins o os) = λ i. within_none o i || all_within_none os i
-
-mutual
-  within_alike : (o : Origin) → Alike (from_within o) (from_within o)
-  within_alike value = tt
-  within_alike made = tt
-  within_alike (own p) = tt
-  within_alike outer = tt
-  within_alike (named s p) = tt
-  within_alike (struct os) = all_within_alike os
-
-  all_within_alike : (os : Origins) → AllAlike (all_from_within os) (all_from_within os)
-  all_within_alike no_origins = tt
-  all_within_alike (more_origins o os) = (within_alike o, all_within_alike os)
+use Rattle.weld_handing.specs.Handing.{handed_type, unnoted, handed, starts_none, own_names}
+use Rattle.weld_handing.proofs.Common.{IsAside}
+use Rattle.weld_handing.proofs.Traces.{handed_origin, Alike, handed_none}
+use Rattle.weld_handing.proofs.Answering.{IsClear, Consumes, Names}
+use Rattle.weld_handing.proofs.Keeping.{from_there, handed_keeps}
+use Rattle.weld_handing.proofs.Cutting.{cut, cut_builds}
+use Rattle.weld_handing.proofs.Taking.{handed_takes}
+use Rattle.weld_handing.proofs.Splitting.{Body, handed_splits}
+use Rattle.weld_handing.proofs.Clearing.{typed_clear}
+use Rattle.weld_handing.proofs.SameNames.{Same, same_names, own_names_same}
+use Rattle.weld_handing.proofs.Types.{Typed, TypesRelate, handed_typed}
+use Rattle.weld_handing.proofs.Notes.{handed_noted}
+use Rattle.weld_handing.proofs.Starting.{relate_start}
+use Rattle.weld_handing.proofs.Placing.{only_type, same_item, builder_origin, within_none, within_alike}
 
 module _ (a m p o : At) (t item : TypeTree) (noted : a.ty ≡ Is t) (ks : LegTrees) (d i r : Binder) (g e : ExprTree) (c n x : Binder) (f : ExprTree) (starts : starts_none (own_names d i r) g ≡ true) where
   abbrev pub empty : ExprTree

@@ -1,10 +1,9 @@
 -- A loop over a list may be rewritten to one loop with the loop that makes it, wherever that holds its builder.
-use Rattle.std.proofs.Common.{◌≡◌, ℕ, zero, suc, ◌+◌, ◌<◌, ◌==◌, Bool, true, false, ◌&&◌, ◌||◌, List, [], ◌∷◌, ◌++◌, length, refl, ap, sym, subst, ◌∙◌, arith, length-append, eqb-true, inl, inr, ◌⊎◌}
+use Rattle.std.proofs.Common.{◌≡◌, ℕ, ◌+◌, ◌<◌, ◌==◌, true, ◌&&◌, ◌||◌, List, [], ◌∷◌, ◌++◌, length, refl, ap, sym, subst, arith, length-append, eqb-true, inl, inr, ◌⊎◌}
 use Rattle.weld_tree.specs.declared.binder.Binder.{Binder}
-use Rattle.weld_tree.specs.declared.known.Known.{Known}
-use Rattle.weld_tree.specs.declared.known.Known.TheVariants.{Blank, Is}
-use Rattle.weld_tree.specs.TypeTree.{TypeTree, list, total, keyed, cells, groups}
-use Rattle.weld_tree.specs.ExprTree.{At, ExprTree, leaf, one, two, three, many, let_in, loop, iterate, whole, strided, LegTrees, no_legs, more_legs, int, truth, chars, name, fresh, neg, not, cast, len, field, finish, started}
+use Rattle.weld_tree.specs.declared.known.Known.TheVariants.{Is}
+use Rattle.weld_tree.specs.TypeTree.{TypeTree, list}
+use Rattle.weld_tree.specs.ExprTree.{At, ExprTree, leaf, one, two, three, many, let_in, loop, iterate, whole, strided, LegTrees, no_legs, more_legs, fresh, neg, not, cast, len, field, finish, started}
 use Rattle.weld_tree.specs.Program.{loops, bound, bound_in_legs}
 use Rattle.weld_meaning.specs.Environment.{Named}
 use Rattle.weld_meaning.specs.Origin.{Origin}
@@ -23,20 +22,14 @@ use Rattle.weld_substitution.proofs.Chains.{or_true}
 use Rattle.weld_substitution.proofs.Following.{and_true}
 use Rattle.weld_substitution.specs.Uses.{uses}
 use Rattle.weld_vertical.specs.Sinking.{starts_list}
-use Rattle.weld_vertical_held.specs.Handing.{unnoted, starts_none}
-use Rattle.weld_vertical_held.specs.Merging.{list_merges, always_merges}
-use Rattle.weld_vertical_held.specs.Rule.{own_names, merges_once, makes_list, is_its_list, is_its_only_leg, is_noted, is_over_list, handed_by, handed_over}
-use Rattle.weld_vertical_held.proofs.Free.{Added, handed_free}
-use Rattle.weld_vertical_held.proofs.Counting.{copies, Counts, handed_counts}
+use Rattle.weld_handing.specs.Handing.{unnoted, starts_none, own_names, is_noted, handed_by}
+use Rattle.weld_handing.specs.Merging.{list_merges, always_merges}
+use Rattle.weld_handing.proofs.Free.{Added, handed_free}
+use Rattle.weld_handing.proofs.Counting.{Counts, handed_counts}
+use Rattle.weld_handing.proofs.Recognising.{one_copy, twice_more, list_by, noted_by}
+use Rattle.weld_vertical_held.specs.Rule.{merges_once, makes_list, is_its_list, is_its_only_leg, is_over_list, handed_over}
 use Rattle.weld_vertical_held.proofs.ListPlaced.{pattern, body, answer, mine, all_times, placed}
 use Rattle.weld_vertical_held.proofs.ListMeans.{means}
-
-one_copy : (m k : ℕ) → m ≡ 1 → copies m k ≡ k
-one_copy m k e = let same : copies (suc zero) k ≡ k = omega arith in ap (λ j. copies j k) e ∙ same
-
-twice_more : (b : Bool) → b ≡ ((b || false) || false)
-twice_more true = refl
-twice_more false = refl
 
 module _ (a m p o : At) (t item : TypeTree) (noted : a.ty ≡ Is t) (ks : LegTrees) (d i r : Binder) (g e : ExprTree) (c n x : Binder) (f : ExprTree) (starts : starts_none (own_names d i r) g ≡ true) (once : list_merges (own_names d i r) g ≡ 1) (numbered : (always_merges (own_names d i r) g ≡ true) ⊎ (uses f n.sym.0 ≡ 0)) where
   abbrev over : ExprTree
@@ -117,28 +110,6 @@ module _ (a m p o : At) (t item : TypeTree) (noted : a.ty ≡ Is t) (ks : LegTre
   answered = ap (λ y. loop a ks e (unnoted d) i r (handed_by y i.sym.0 c n x f (own_names d i r) g)) noted
 
 -- ---- which loops the test recognises
-
-list_by : (P : ExprTree → Type 0) → ((o : At) (item : TypeTree) → P (leaf o (fresh (list item)))) → (s : ExprTree) → starts_list s ≡ true → P s
-list_by P f (leaf o (int k x)) h = let nothing : ⊥ = cc in absurd nothing
-list_by P f (leaf o (truth b)) h = let nothing : ⊥ = cc in absurd nothing
-list_by P f (leaf o (chars bs)) h = let nothing : ⊥ = cc in absurd nothing
-list_by P f (leaf o (name s)) h = let nothing : ⊥ = cc in absurd nothing
-list_by P f (leaf o (fresh (list item))) h = f o item
-list_by P f (leaf o (fresh (total t op))) h = let nothing : ⊥ = cc in absurd nothing
-list_by P f (leaf o (fresh (keyed k v op))) h = let nothing : ⊥ = cc in absurd nothing
-list_by P f (leaf o (fresh (cells t op))) h = let nothing : ⊥ = cc in absurd nothing
-list_by P f (leaf o (fresh (groups k v))) h = let nothing : ⊥ = cc in absurd nothing
-list_by P f (one a o e) h = let nothing : ⊥ = cc in absurd nothing
-list_by P f (two a o e g) h = let nothing : ⊥ = cc in absurd nothing
-list_by P f (three a o e g k) h = let nothing : ⊥ = cc in absurd nothing
-list_by P f (many a o es) h = let nothing : ⊥ = cc in absurd nothing
-list_by P f (let_in a b e g) h = let nothing : ⊥ = cc in absurd nothing
-list_by P f (loop a ls e b n x g) h = let nothing : ⊥ = cc in absurd nothing
-list_by P f (iterate a e b g) h = let nothing : ⊥ = cc in absurd nothing
-
-noted_by : (y : Known) → is_noted y ≡ true → (t : TypeTree) × (y ≡ Is t)
-noted_by Blank h = let nothing : ⊥ = cc in absurd nothing
-noted_by (Is t) h = (t, refl)
 
 -- a loop that starts with an empty list and merges once
 abbrev AtMaker : ℕ → ExprTree → (ExprTree → Type 0) → Type 0

@@ -1,4 +1,1 @@
-pub mod Handing
-pub mod Merging
 pub mod Rule
-pub mod Walking

@@ -1,22 +1,15 @@
 -- A loop over what another loop makes that holds its builder wherever it likes, and the one loop that takes the place of both.
-use Rattle.std.specs.Prelude.{◌≡◌, ℕ, ◌==◌, Bool, true, false, ◌&&◌, ◌||◌, [], ◌∷◌}
-use Rattle.weld_tree.specs.declared.binder.Binder.{Binder}
-use Rattle.weld_tree.specs.declared.known.Known.{Known}
-use Rattle.weld_tree.specs.declared.known.Known.TheVariants.{Blank, Is}
+use Rattle.std.specs.Prelude.{◌≡◌, ℕ, ◌==◌, Bool, false, ◌&&◌, ◌||◌}
 use Rattle.weld_tree.specs.ExprTree.{ExprTree, leaf, one, two, three, many, let_in, loop, iterate, LegTree, whole, strided, LegTrees, no_legs, more_legs}
 use Rattle.weld_meaning.specs.Environment.{Named}
-use Rattle.weld_meaning.specs.Origin.{Origin, value, own}
+use Rattle.weld_meaning.specs.Origin.{Origin}
 use Rattle.weld_substitution.specs.Uses.{uses}
 use Rattle.weld_rewriting.specs.Nodes.{EachNode}
 use Rattle.weld_rewriting.specs.Sweep.{RootRule}
 use Rattle.weld_rewriting.specs.Tested.{tested}
 use Rattle.weld_vertical.specs.Sinking.{starts_list, is_finish}
-use Rattle.weld_vertical_held.specs.Handing.{unnoted, handed, starts_none}
-use Rattle.weld_vertical_held.specs.Merging.{list_merges, always_merges}
-
--- the names that a body has of its loop, whose own builder is the list's; all others are values or aren't used there
-abbrev pub own_names : Binder → Binder → Binder → Named Origin
-own_names d i r = (r.sym.0, value) ∷ (i.sym.0, value) ∷ (d.sym.0, own []) ∷ []
+use Rattle.weld_handing.specs.Handing.{unnoted, starts_none, own_names, handed_by, is_noted}
+use Rattle.weld_handing.specs.Merging.{list_merges, always_merges}
 
 -- it merges into the list at one place; no loop within starts with the list's builder; and it does so in every row, or the loop with
 -- that row number and body doesn't use its row number
@@ -54,11 +47,6 @@ is_its_only_leg n f no_legs = false
 is_its_only_leg n f (more_legs l no_legs) = is_its_leg n f l
 is_its_only_leg n f (more_legs l (more_legs m ls)) = false
 
--- a type is noted
-abbrev pub is_noted : Known → Bool
-is_noted Blank = false
-is_noted (Is t) = true
-
 -- a noted loop whose only leg is such a list
 abbrev pub is_over_list : ExprTree → Bool
 is_over_list (leaf a l) = false
@@ -71,11 +59,6 @@ is_over_list (loop a ls e b n x f) = is_noted a.ty && is_its_only_leg n.sym.0 f 
 is_over_list (iterate a e b f) = false
 
 -- ---- the one loop
-
--- the body of the one with the other's builder, of the type that is noted at the other
-abbrev pub handed_by : Known → ℕ → Binder → Binder → Binder → ExprTree → Named Origin → ExprTree → ExprTree
-handed_by Blank i c n x f q g = g
-handed_by (Is t) i c n x f q g = handed t i c n x f q g
 
 -- the loop over the other's legs, with its row number and row; what is none stays
 abbrev pub handed_over : ExprTree → ExprTree

@@ -7,13 +7,13 @@ ghost use Rattle.weld_tree.specs.TypeView.{view_build};
 ghost use Rattle.weld_meaning.specs.Origin.{own};
 ghost use Rattle.weld_substitution.specs.Uses.{uses};
 ghost use Rattle.weld_vertical.specs.Sinking.{is_list, starts_list};
-ghost use Rattle.weld_vertical_held.specs.Rule.{is_its_leg, is_its_list, is_its_only_leg, is_noted, is_over_list, makes_list, merges_once};
-ghost use Rattle.weld_vertical_held.specs.Merging.{list_merges};
-ghost use Rattle.weld_vertical_held.specs.Walking.{names_within};
+ghost use Rattle.weld_handing.specs.Handing.{is_noted};
+ghost use Rattle.weld_handing.specs.Merging.{list_merges};
+ghost use Rattle.weld_handing.specs.Walking.{names_within};
+ghost use Rattle.weld_vertical_held.specs.Rule.{is_its_leg, is_its_list, is_its_only_leg, is_over_list, makes_list, merges_once};
 
-use crate::merging::{always_merges, list_merges};
-use crate::starts::starts_none;
 use std::alloc::{AllocError, Global};
+use weld_handing::{always_merges, list_merges, starts_none};
 use weld_linear::{Path, Scope, Source, SourceForm};
 use weld_substitution::uses_of;
 use weld_tree::{BuildTy, Expr, Form, Known, LeafForm, Leg, Legs, OneForm, Sym};
@@ -151,7 +151,7 @@ fn merges_once(
     Ok(is_unused(body, number))
 }
 
-#[tactic(auto, using(crate::proofs::Walked::once_is))]
+#[tactic(auto, using(weld_handing::proofs::Walked::once_is))]
 fn has_one_merge(scope: &Scope, inside: &Expr, alloc: Global) -> Result<bool, AllocError>
     ensures { IfOk result (λ b. b ≡ (list_merges scope.now inside.now == 1)) }
 {
@@ -159,7 +159,7 @@ fn has_one_merge(scope: &Scope, inside: &Expr, alloc: Global) -> Result<bool, Al
     Ok(merges == 1)
 }
 
-#[tactic(auto, using(crate::proofs::Walked::none_is))]
+#[tactic(auto, using(weld_handing::proofs::Walked::none_is))]
 fn is_unused(body: &Expr, number: Sym) -> bool
     ensures { result ≡ (uses body.now number.0 == 0) }
 {
