@@ -292,12 +292,18 @@ module _ (place : Place) (x : ℕ) where
 
   -- what it takes is what the value takes
   pub record MadeSo (s : Sides) (v : ExprTree) (g : Named Origin) : Type 0 where
+    pub from : origin (made_row place x s v) g ≡ value
     pub taken : (t : ℕ) (q : Path) → takes (made_row place x s v) g t q ≡ takes v g t q
     pub keeps : Keeps (made_row place x s v) g
     pub splits : Splits (made_row place x s v) g
 
   pub made_so : (s : Sides) (v : ExprTree) (g : Named Origin) → origin_of_name x g ≡ value → origin v g ≡ value → Keeps v g → Splits v g → MadeSo s v g
-  made_so s v g r o k p = let b = made_but s v g r o k p in record { taken = b.taken; keeps = b.keep; splits = b.split }
+  made_so s v g r o k p = let b = made_but s v g r o k p in record {
+    from = ap (λ c. if c then value else struct_path (origins (exprs_behind (fronts s) (more_exprs v (backs s))) g)) b.values;
+    taken = b.taken;
+    keeps = b.keep;
+    splits = b.split;
+  }
 
   -- ---- what it holds
 
