@@ -2,6 +2,7 @@
 //! what is asked of a body before.
 #![tactic(auto)]
 
+mod body;
 pub mod hand;
 mod merging;
 mod noting;
@@ -9,6 +10,7 @@ mod settling;
 mod source;
 mod starts;
 
+pub use body::{hand_body, own_source};
 pub use merging::{always_merges, list_merges};
 pub use settling::{Consumer, forget_note};
 pub use starts::starts_none;

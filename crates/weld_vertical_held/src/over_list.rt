@@ -1,10 +1,9 @@
 //! Loops over the list that another loop makes.
 
-ghost use Rattle.std.specs.Prelude.{◌≡◌, ◌==◌, [], ◌&&◌, ◌||◌, map, IfOk};
+ghost use Rattle.std.specs.Prelude.{◌≡◌, ◌==◌, ◌&&◌, ◌||◌, map, IfOk};
 ghost use Rattle.weld_tree.specs.ExprTree.{pack_legs};
 ghost use Rattle.weld_tree.specs.ExprView.{view_leg};
 ghost use Rattle.weld_tree.specs.TypeView.{view_build};
-ghost use Rattle.weld_meaning.specs.Origin.{own};
 ghost use Rattle.weld_substitution.specs.Uses.{uses};
 ghost use Rattle.weld_vertical.specs.Sinking.{is_list, starts_list};
 ghost use Rattle.weld_handing.specs.Handing.{is_noted};
@@ -13,8 +12,8 @@ ghost use Rattle.weld_handing.specs.Walking.{names_within};
 ghost use Rattle.weld_vertical_held.specs.Rule.{is_its_leg, is_its_list, is_its_only_leg, is_over_list, makes_list, merges_once};
 
 use std::alloc::{AllocError, Global};
-use weld_handing::{always_merges, list_merges, starts_none};
-use weld_linear::{Path, Scope, Source, SourceForm};
+use weld_handing::{always_merges, list_merges, own_source, starts_none};
+use weld_linear::Scope;
 use weld_substitution::uses_of;
 use weld_tree::{BuildTy, Expr, Form, Known, LeafForm, Leg, Legs, OneForm, Sym};
 
@@ -119,15 +118,6 @@ fn makes_list_within(
     let with_count = Scope::of_value(names.count, &with_builder);
     let scope = Scope::of_value(names.item, &with_count);
     merges_once(number, body, &scope, inside, alloc)
-}
-
-/// The origin of a loop's own builder.
-pub(crate) fn own_source(alloc: Global) -> Source
-    ensures { result ≡ own [] }
-{
-    Source {
-        form: SourceForm::Own(Path::root(alloc)),
-    }
 }
 
 fn merges_once(

@@ -4,19 +4,15 @@ ghost use Rattle.std.specs.Prelude.{◌≡◌, true, Some, IfOk};
 ghost use Rattle.weld_tree.specs.ExprTree.{At, pack_legs};
 ghost use Rattle.weld_tree.specs.ExprView.{view_form, view_leg};
 ghost use Rattle.weld_vertical.specs.Fusing.{IsMadeBy, IsOnlyBy, is_only_result, is_result_leg};
-ghost use Rattle.weld_handing.specs.Handing.{handed_by};
-ghost use Rattle.weld_handing.specs.Merging.{list_merges};
-ghost use Rattle.weld_handing.specs.Walking.{body_merges, handed_for, joined, names_within};
+ghost use Rattle.weld_handing.specs.Walking.{body_merges, joined};
 ghost use Rattle.weld_vertical_held.specs.Rule.{handed_over, is_over_list};
 
-use crate::over_list::{is_over_list, own_source};
+use crate::over_list::is_over_list;
 use std::alloc::{AllocError, Global};
 use std::mem;
-use weld_handing::hand::hand;
-use weld_handing::{Consumer, forget_note};
-use weld_linear::Scope;
+use weld_handing::{Consumer, forget_note, hand_body};
 use weld_rewriting::sweep::Rule;
-use weld_tree::{Expr, Form, Known, LeafForm, Leg, Legs, Sym, Ty};
+use weld_tree::{Expr, Form, Known, LeafForm, Leg, Legs};
 
 /// A loop over the list that another loop makes, which may hold its builder wherever it likes, becomes
 /// one loop.
@@ -87,51 +83,6 @@ fn join(
     )?;
     forget_note(&mut own);
     Ok(Form::For(legs, start, own, count, item, inside))
-}
-
-/// The body of a loop of these names is handed over to the consumer, whose builders are of the type;
-/// where none is noted, it stays.
-fn hand_body(
-    alloc: Global,
-    ty: &Known,
-    own: Sym,
-    count: Sym,
-    item: Sym,
-    consumer: Consumer,
-    inside: &mut Expr,
-) -> Result<(), AllocError>
-    requires { list_merges (names_within own.0 count.0 item.0) inside.old ≡ 1 }
-    ensures { IfOk result (λ _. inside.new ≡ handed_by ty.now count.0 consumer.builder
-        consumer.number consumer.row consumer.body.value (names_within own.0 count.0 item.0)
-        inside.old) }
-{
-    match ty {
-        Known::Blank => Ok(()),
-        Known::Is(ty) => hand_typed(alloc, ty, own, count, item, consumer, inside),
-    }
-}
-
-fn hand_typed(
-    alloc: Global,
-    ty: &Ty,
-    own: Sym,
-    count: Sym,
-    item: Sym,
-    consumer: Consumer,
-    inside: &mut Expr,
-) -> Result<(), AllocError>
-    requires { list_merges (names_within own.0 count.0 item.0) inside.old ≡ 1 }
-    ensures { IfOk result (λ _. inside.new ≡ handed_for ty.now count.0 (Some consumer)
-        (names_within own.0 count.0 item.0) inside.old) }
-{
-    let source = own_source(alloc);
-    let none = Scope::empty();
-    let with_builder = Scope::bound(own, &source, &none);
-    let with_count = Scope::of_value(count, &with_builder);
-    let scope = Scope::of_value(item, &with_count);
-    let mut consumer = Some(consumer);
-    hand(alloc, ty, count, &mut consumer, &scope, inside)?;
-    Ok(())
 }
 
 /// The loop that makes the only leg.

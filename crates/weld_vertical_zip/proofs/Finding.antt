@@ -27,7 +27,7 @@ several (l ∷ m ∷ legs) h = refl
 pub are_several_and : (legs : List Leg) (b c : Bool) → 2 ≤ length legs → b ≡ c → b ≡ (are_several (pack_legs (map view_leg legs)) && c)
 are_several_and legs b c h e = e ∙ ap (λ d. d && c) (sym (several legs h))
 
-none_behind : (l : LegTree) (o : Option ℕ) (s : Option Around) → (o ≡ None → s ≡ None) → option_map suc o ≡ None → option_map (behind_leg l) s ≡ None
+pub none_behind : (l : LegTree) (o : Option ℕ) (s : Option Around) → (o ≡ None → s ≡ None) → option_map suc o ≡ None → option_map (behind_leg l) s ≡ None
 none_behind l None s f h = ap (option_map (behind_leg l)) (f refl)
 none_behind l (Some n) s f h = let nothing : ⊥ = cc in absurd nothing
 
@@ -39,7 +39,7 @@ no_place (more_legs l ls) h = by (is_made_leg l) h (no_place ls)
     by true h f = let nothing : ⊥ = cc in absurd nothing
     by false h f = none_behind l (place_produced ls) (first_made ls) f h
 
-no_and : (c : Bool) → false ≡ (c && false)
+pub no_and : (c : Bool) → false ≡ (c && false)
 no_and true = refl
 no_and false = refl
 
@@ -53,11 +53,11 @@ pub record Cut (before : List Leg) (l : Leg) (after : List Leg) (ls : LegTrees) 
   pub first : first_made ls ≡ Some (record { before = pack_legs (map view_leg before); leg = view_leg l; after = pack_legs (map view_leg after) })
   pub are : ls ≡ pack_legs (map view_leg (before ++ l ∷ after))
 
-suc_of : (o : Option ℕ) (n : ℕ) → option_map suc o ≡ Some (suc n) → o ≡ Some n
+pub suc_of : (o : Option ℕ) (n : ℕ) → option_map suc o ≡ Some (suc n) → o ≡ Some n
 suc_of (Some m) n h = let same : suc m ≡ suc n = cc in let e : m ≡ n = omega (arith, same) in ap Some e
 suc_of None n h = let nothing : ⊥ = cc in absurd nothing
 
-not_first : (o : Option ℕ) → option_map suc o ≡ Some 0 → ⊥
+pub not_first : (o : Option ℕ) → option_map suc o ≡ Some 0 → ⊥
 not_first (Some m) h = let same : suc m ≡ 0 = cc in absurd (omega (arith, same))
 not_first None h = let nothing : ⊥ = cc in absurd nothing
 
@@ -89,7 +89,7 @@ cut (k ∷ before) l after h = by (is_made_leg (view_leg k)) refl h (cut before 
           are = refl;
         }
 
-parted : (legs : List Leg) (n : ℕ) (l : Leg) → n < length legs → l ≡ get_or legs n l → legs ≡ take n legs ++ l ∷ drop (n + 1) legs
+pub parted : (legs : List Leg) (n : ℕ) (l : Leg) → n < length legs → l ≡ get_or legs n l → legs ≡ take n legs ++ l ∷ drop (n + 1) legs
 parted legs n l h e =
     sym (take-append-drop (n + 1) legs) ∙ ap (λ (ks : List Leg). ks ++ drop (n + 1) legs) (take_more legs n l h)
     ∙ append_assoc (take n legs) (get_or legs n l ∷ []) (drop (n + 1) legs) ∙ ap (λ (m : Leg). take n legs ++ m ∷ drop (n + 1) legs) (sym e)
@@ -132,7 +132,7 @@ parts b (let_in p z e f) a = record { before = refl; within = refl; after = refl
 parts b (loop p ks s d i r g) a = record { before = refl; within = refl; after = refl }
 parts b (iterate p e z f) a = record { before = refl; within = refl; after = refl }
 
-limits_are : (b : Bool) (t : TypeTree) → (IsTrue b ↔ IsWithinLimits t) → b ≡ is_within_limits t
+pub limits_are : (b : Bool) (t : TypeTree) → (IsTrue b ↔ IsWithinLimits t) → b ≡ is_within_limits t
 limits_are b t h = by b (is_within_limits t) refl h
   where
     of_limits : IsWithinLimits t → is_within_limits t ≡ true

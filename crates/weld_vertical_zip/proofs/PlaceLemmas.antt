@@ -14,7 +14,7 @@ pub unshifted : (o : Option ℕ) → o ≡ shifted 0 o
 unshifted None = refl
 unshifted (Some k) = let e : k ≡ 0 + k = omega arith in ap Some e
 
-one_more : (i : ℕ) (o : Option ℕ) → shifted i (option_map suc o) ≡ shifted (i + 1) o
+pub one_more : (i : ℕ) (o : Option ℕ) → shifted i (option_map suc o) ≡ shifted (i + 1) o
 one_more i None = refl
 one_more i (Some k) = let e : i + suc k ≡ (i + 1) + k = omega arith in ap Some e
 

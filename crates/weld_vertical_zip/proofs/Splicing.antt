@@ -100,11 +100,11 @@ joined_loop a e b n x f bs zs m (iterate p q d g) h = let nothing : ⊥ = cc in 
 -- ---- what was cut
 
 -- the list up to behind a place, and what is behind: cut at its last
-cut_last : (all before after : List Leg) (l : Leg) (n : ℕ) → before ++ l ∷ [] ≡ take (n + 1) all → after ≡ drop (n + 1) all → all ≡ before ++ l ∷ after
+pub cut_last : (all before after : List Leg) (l : Leg) (n : ℕ) → before ++ l ∷ [] ≡ take (n + 1) all → after ≡ drop (n + 1) all → all ≡ before ++ l ∷ after
 cut_last all before after l n p q =
     sym (take-append-drop (n + 1) all) ∙ (λ i. sym p i ++ sym q i) ∙ append_assoc before (l ∷ []) after
 
-last_place : (all before : List Leg) (l : Leg) (n : ℕ) → n < length all → before ++ l ∷ [] ≡ take (n + 1) all → length before ≡ n
+pub last_place : (all before : List Leg) (l : Leg) (n : ℕ) → n < length all → before ++ l ∷ [] ≡ take (n + 1) all → length before ≡ n
 last_place all before l n h p =
     let k : length (before ++ l ∷ []) ≡ length before + 1 = length-append before (l ∷ []) in
     omega (arith, k, ap length p, length-take-le (n + 1) all (omega (arith, h)))
@@ -133,7 +133,7 @@ count_behind : (ts us : TypeTrees) → count (types_behind ts us) ≡ count ts +
 count_behind no_types us = omega arith
 count_behind (more_types t ts) us = omega (arith, count_behind ts us)
 
-few_sides : (s : Sides) → is_within_limits (struct (all_items s)) ≡ true → AreFew s
+pub few_sides : (s : Sides) → is_within_limits (struct (all_items s)) ≡ true → AreFew s
 few_sides s h =
     let k : type_nodes (struct (all_items s)) ≤ 256 = leb-true (type_nodes (struct (all_items s))) 256 (and_true (nat_le (type_depth (struct (all_items s))) 16) (nat_le (type_nodes (struct (all_items s))) 256) h).1 in
     omega (arith, k, count_nodes (all_items s), count_behind s.before (types_behind s.within s.after), count_behind s.within s.after)

@@ -4,11 +4,12 @@
 pub mod laws;
 mod pass;
 mod producers;
-mod rows;
+pub mod rows;
 mod rule;
 mod sink;
 pub mod zipping;
 mod zips;
 
 pub use pass::fuse_zipped;
-pub use rule::Zips;
+pub use producers::starts_list;
+pub use rule::{Zips, all_legs, item_of_start};

@@ -57,8 +57,8 @@ fn is_producer(e: &Expr) -> bool
     }
 }
 
-/// Whether it is an empty `vecbuilder`.
-fn starts_list(e: &Expr) -> bool
+/// Whether it is an empty `vecbuilder`. It takes no memory.
+pub fn starts_list(e: &Expr) -> bool
     ensures { result ≡ starts_list e.now }
 {
     match &e.form {

@@ -14,21 +14,17 @@ use weld_tree::{Expr, Exprs, Form, Known, ManyForm, Place, Sym, Ty, Tys};
 /// The types of items round a list that another loop makes: of the legs before it, of the legs of
 /// that loop, of the legs after it, and of its own items.
 #[derive(Drop)]
-pub(crate) struct Sides {
-    pub(crate) before: Tys,
-    pub(crate) within: Tys,
-    pub(crate) after: Tys,
-    pub(crate) item: Ty,
+pub struct Sides {
+    pub before: Tys,
+    pub within: Tys,
+    pub after: Tys,
+    pub item: Ty,
 }
 
-/// The items of all legs, those of the loop that makes the list in the list's place.
+/// The items of all legs, those of the loop that makes the list in the list's place. It fails for
+/// want of memory alone.
 #[tactic(auto, using(crate::proofs::RowLists::packed_three))]
-pub(crate) fn all_items(
-    alloc: Global,
-    before: &Tys,
-    within: &Tys,
-    after: &Tys,
-) -> Result<Tys, AllocError>
+pub fn all_items(alloc: Global, before: &Tys, within: &Tys, after: &Tys) -> Result<Tys, AllocError>
     ensures value { IfOk result (λ ts. pack ts
         ≡ types_behind (pack before.now) (types_behind (pack within.now) (pack after.now))) }
     ensures len { IfOk result (λ ts.
@@ -76,13 +72,8 @@ fn items_from(
     Ok(items)
 }
 
-/// The row of the loop that makes the list, from a row over all legs.
-pub(crate) fn own_row(
-    alloc: Global,
-    place: Place,
-    row: Sym,
-    sides: &Sides,
-) -> Result<Expr, AllocError>
+/// The row of the loop that makes the list, from a row over all legs. It fails for want of memory alone.
+pub fn own_row(alloc: Global, place: Place, row: Sym, sides: &Sides) -> Result<Expr, AllocError>
     requires { AreFew (of_sides sides.now) }
     ensures { IfOk result (λ e. e ≡ own_row place row.0 (of_sides sides.now)) }
 {
@@ -112,8 +103,9 @@ fn part_of_row(
     Ok(struct_at(place, Ty::struct_of(types.copy(alloc)?), items))
 }
 
-/// The consumer's row, from a row over all legs and the value that was merged.
-pub(crate) fn made_row(
+/// The consumer's row, from a row over all legs and the value that was merged. It fails for want of
+/// memory alone.
+pub fn made_row(
     alloc: Global,
     place: Place,
     row: Sym,

@@ -222,9 +222,9 @@ fn over_all(others: Others, outer: Outer, producer: Box<Expr>) -> Result<Form, A
     Ok(Form::For(legs, start, builder, count, own, body))
 }
 
-/// The legs before, within and behind.
+/// The legs before, within and behind. It fails for want of memory alone.
 #[tactic(auto, using(crate::proofs::Splicing::packed_legs))]
-fn all_legs(before: Vec<Leg>, within: Legs, after: Vec<Leg>) -> Result<Legs, AllocError>
+pub fn all_legs(before: Vec<Leg>, within: Legs, after: Vec<Leg>) -> Result<Legs, AllocError>
     ensures { IfOk result (λ ls. pack_legs ls ≡ legs_behind (pack_legs (map view_leg before.items))
         (legs_behind (pack_legs within) (pack_legs (map view_leg after.items)))) }
 {
@@ -236,8 +236,8 @@ fn all_legs(before: Vec<Leg>, within: Legs, after: Vec<Leg>) -> Result<Legs, All
     Ok(Legs::from_vec(all))
 }
 
-/// The type of the items of a list that starts so.
-fn item_of_start(alloc: Global, e: &Expr) -> Result<Ty, AllocError>
+/// The type of the items of a list that starts so. It fails for want of memory alone.
+pub fn item_of_start(alloc: Global, e: &Expr) -> Result<Ty, AllocError>
     requires { starts_list e.now ≡ true }
     ensures { IfOk result (λ t. t ≡ item_of_start e.now) }
 {
