@@ -1,0 +1,11 @@
+mod Fresh
+mod PutHeld
+mod WholeRow
+mod ZipHeld
+mod ZipPlaced
+mod OneEach
+mod ZipMeans
+mod ZipRule
+mod Picked
+mod Left
+mod Cutting
