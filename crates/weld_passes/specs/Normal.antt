@@ -18,6 +18,7 @@ use Rattle.weld_vertical.specs.Fusing.{HasNoSuchLoop, loops_rule}
 use Rattle.weld_vertical_struct.specs.Held.{HasNoHeldLoop, held_rule, opened_rule, opened_producer}
 use Rattle.weld_vertical_held.specs.Rule.{HasNoListHandedOver, handing_rule}
 use Rattle.weld_vertical_zip.specs.Zips.{HasNoMadeLeg, zips_rule}
+use Rattle.weld_vertical_zip_held.specs.Rule.{HasNoZipHandedOver, zip_handing_rule}
 use Rattle.weld_vertical_zip.specs.Zipping.{is_zipped}
 use Rattle.weld_rewriting.specs.Nodes.{EachNode}
 use Rattle.weld_horizontal.specs.Doubles.{HasNoDouble, doubles_rule}
@@ -37,7 +38,7 @@ HasNoHeldLeg e = EachNode (λ node. is_zipped (opened_producer node) ≡ false) 
 
 -- the rules on the legs of a loop, and on loops side by side
 abbrev pub legs_rules : RootRule
-legs_rules = either doubles_rule (either spare_legs_rule (either held_legs_rule beside_rule))
+legs_rules = either doubles_rule (either spare_legs_rule (either held_legs_rule (either zip_handing_rule beside_rule)))
 
 -- the rules of all passes as one
 abbrev pub all_rules : RootRule
@@ -49,8 +50,8 @@ optimised_body n e = swept_times n all_rules (chain_fused e)
 
 -- nothing stands in the program that a pass would rewrite (as far as this project goes): no `let` that can be put in
 -- place, no guarded merge that can be merged always, no loop over what another loop makes that merges once, wherever it holds its
--- builder, no such list on a leg of a `zip`, also where what makes it holds its builder in pairs, no leg that stands twice in one loop,
--- and no two lets of loops over one name or of their results with none but results of names between them
+-- builder, no such list on a leg of a `zip` that is merged into in every row, no leg that stands twice in one loop, and no two lets of
+-- loops over one name or of their results with none but results of names between them
 pub record IsNormal (q : ProgramTree) : Type 0 where
   pub no_let : HasNoSuchLet q.body
   pub no_guard : HasNoGuard q.body
@@ -59,6 +60,7 @@ pub record IsNormal (q : ProgramTree) : Type 0 where
   pub no_list_handed_over : HasNoListHandedOver q.body
   pub no_made_leg : HasNoMadeLeg q.body
   pub no_held_leg : HasNoHeldLeg q.body
+  pub no_zip_handed_over : HasNoZipHandedOver q.body
   pub no_leg_twice : HasNoDouble q.body
   pub no_loops_side_by_side : HasNoPair q.body
 

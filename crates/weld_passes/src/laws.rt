@@ -31,6 +31,7 @@ use weld_vertical::laws::{chains_are_one_loop, loops_may_be_fused};
 use weld_vertical_held::laws::lists_may_be_handed_over;
 use weld_vertical_struct::laws::{held_loops_may_be_fused, rules_may_be_tried_on_parts};
 use weld_vertical_zip::laws::made_legs_may_be_spliced;
+use weld_vertical_zip_held::laws::zip_lists_may_be_handed_over;
 
 /// The rules of all passes as one make lighter and are sound; and where none of them matches, a program is in
 /// normal form.
@@ -46,6 +47,7 @@ pub fn all_rules_may_be_tried()
     lists_may_be_handed_over();
     rules_may_be_tried_on_parts();
     made_legs_may_be_spliced();
+    zip_lists_may_be_handed_over();
     legs_may_stand_once();
     loops_may_be_joined();
     rules_are_tests();

@@ -29,9 +29,9 @@ use weld_vertical_struct::Opened;
 
 /// The program in normal form (as far as this project goes): no `let` stands in it that can be put in
 /// place, no guarded merge that can be merged always, no loop over what another loop makes that merges
-/// once, wherever it holds its builder, no such list on a leg of a `zip`, also where what makes it holds
-/// its builder in pairs, no leg that stands twice in one loop, and no two lets of loops over one name or
-/// of their results with none but results of names between them. It means the same on all
+/// once, wherever it holds its builder, no such list on a leg of a `zip` that is merged into in every
+/// row, no leg that stands twice in one loop, and no two lets of loops over one name or of their
+/// results with none but results of names between them. It means the same on all
 /// arguments that fit, faults included, and has no more legs and loops; where it was a chain of loops,
 /// each but the first is gone; and where some text spelled it, noted types apart, its printed text
 /// spells it. It asks for a program whose nodes have their types noted, as the checker leaves it. It

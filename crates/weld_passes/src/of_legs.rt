@@ -9,9 +9,10 @@ use weld_rewriting::sweep::Rule;
 use weld_tree::Expr;
 use weld_vertical_struct::Opened;
 use weld_vertical_zip::Zips;
+use weld_vertical_zip_held::ZipHandedOver;
 
-/// A leg that stands twice goes, then lists on legs, also where what makes them holds its builder in pairs; and last
-/// two loops that may be one are joined.
+/// A leg that stands twice goes, then lists on legs, also where what makes them holds its builder in pairs, and then
+/// anywhere; and last two loops that may be one are joined.
 #[derive(Clone, Copy)]
 pub(crate) struct OfLegs;
 
@@ -22,9 +23,13 @@ impl Rule for OfLegs {
 
     fn try_at(&self, alloc: Global, e: &mut Expr) -> Result<bool, AllocError> {
         let held_legs = Opened { rule: Zips };
+        let handed_or_beside = Either {
+            first: &ZipHandedOver,
+            second: &Beside,
+        };
         let held_or_beside = Either {
             first: &held_legs,
-            second: &Beside,
+            second: &handed_or_beside,
         };
         let over_one = Either {
             first: &SpareLegs,
