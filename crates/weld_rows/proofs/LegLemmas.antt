@@ -1,5 +1,5 @@
 -- What is known of a loop that is run is known of its legs.
-use Rattle.std.proofs.Common.{◌≡◌, Bool, ℕ, ◌+◌, ◌<◌, ◌≤◌, List, [], ◌∷◌, zero, suc, length, drop, map, get_or, Option, Some, None, sym, ap, ◌∙◌, subst, arith}
+use Rattle.std.proofs.Common.{◌≡◌, Bool, ℕ, ◌+◌, ◌<◌, ◌≤◌, List, [], ◌∷◌, zero, suc, length, drop, map, get_or, Option, Some, None, refl, sym, ap, ◌∙◌, subst, arith}
 use Rattle.std.specs.Borrow.{Bor}
 use Rattle.weld_data.specs.declared.value.Column.{Column}
 use Rattle.weld_data.specs.Value.{Value, list_of_values-values}
@@ -26,17 +26,20 @@ legs_rest_run ls env i l h is k = record { fit = legs_rest_fit ls env i l h is k
 pub whole_runs : {d : Bool} (e : ExprTree) (env : Env) (l : LegTree) → l ≡ whole e → LegRuns d l env → Runs d e env
 whole_runs e env l is h = record { fit = whole_fits e env l is h.fit; direct = λ t. direct_whole e l is (h.direct t) }
 
-pub vector_runs : {d : Bool} (e f g i : ExprTree) (env : Env) (l : LegTree) → l ≡ strided e f g i → LegRuns d l env → Runs d e env
-vector_runs e f g i env l is h = record { fit = vector_fits e f g i env l is h.fit; direct = λ t. direct_vector e f g i l is (h.direct t) }
+pub strided_runs : {d : Bool} (e f g i : ExprTree) (env : Env) (l : LegTree) → l ≡ strided e f g i → LegRuns d l env → LegRuns d (strided e f g i) env
+strided_runs {d} e f g i env l is h = subst (λ k. LegRuns d k env) is h
 
-pub start_runs : {d : Bool} (e f g i : ExprTree) (env : Env) (l : LegTree) → l ≡ strided e f g i → LegRuns d l env → Runs d f env
-start_runs e f g i env l is h = record { fit = start_fits e f g i env l is h.fit; direct = λ t. direct_start e f g i l is (h.direct t) }
+pub vector_runs : {d : Bool} (e f g i : ExprTree) (env : Env) → LegRuns d (strided e f g i) env → Runs d e env
+vector_runs e f g i env h = record { fit = vector_fits e f g i env (strided e f g i) refl h.fit; direct = λ t. direct_vector e f g i (strided e f g i) refl (h.direct t) }
 
-pub end_runs : {d : Bool} (e f g i : ExprTree) (env : Env) (l : LegTree) → l ≡ strided e f g i → LegRuns d l env → Runs d g env
-end_runs e f g i env l is h = record { fit = end_fits e f g i env l is h.fit; direct = λ t. direct_end e f g i l is (h.direct t) }
+pub start_runs : {d : Bool} (e f g i : ExprTree) (env : Env) → LegRuns d (strided e f g i) env → Runs d f env
+start_runs e f g i env h = record { fit = start_fits e f g i env (strided e f g i) refl h.fit; direct = λ t. direct_start e f g i (strided e f g i) refl (h.direct t) }
 
-pub stride_runs : {d : Bool} (e f g i : ExprTree) (env : Env) (l : LegTree) → l ≡ strided e f g i → LegRuns d l env → Runs d i env
-stride_runs e f g i env l is h = record { fit = stride_fits e f g i env l is h.fit; direct = λ t. direct_stride e f g i l is (h.direct t) }
+pub end_runs : {d : Bool} (e f g i : ExprTree) (env : Env) → LegRuns d (strided e f g i) env → Runs d g env
+end_runs e f g i env h = record { fit = end_fits e f g i env (strided e f g i) refl h.fit; direct = λ t. direct_end e f g i (strided e f g i) refl (h.direct t) }
+
+pub stride_runs : {d : Bool} (e f g i : ExprTree) (env : Env) → LegRuns d (strided e f g i) env → Runs d i env
+stride_runs e f g i env h = record { fit = stride_fits e f g i env (strided e f g i) refl h.fit; direct = λ t. direct_stride e f g i (strided e f g i) refl (h.direct t) }
 
 -- ---- how many nodes there are
 

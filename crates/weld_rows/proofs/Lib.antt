@@ -3,6 +3,7 @@ mod Choosing
 mod Direct
 mod FormLemmas
 mod LegLemmas
+mod Nodes
 mod Numbers
 mod Parts
 mod RangeSteps

@@ -14,19 +14,21 @@ use Rattle.weld_builders.specs.Outcome.{Outcome, done, and_then, map_out}
 use Rattle.weld_meaning.specs.Thing.{Thing, plain, building, several}
 use Rattle.weld_meaning.specs.ThingType.{HasThing}
 use Rattle.weld_meaning.specs.Typing.{Types, HasType, truth_type}
-use Rattle.weld_meaning.specs.Evaluation.{Env, eval, operated, one_thing, two_thing, three_thing, truth_of, truth_value, chosen}
+use Rattle.weld_meaning.specs.Evaluation.{Env, eval, operated, negated, contrary, cast_to, one_thing, two_thing, three_thing, truth_of, truth_value, chosen}
 use Rattle.weld_eval.specs.Answers.{Answers}
-use Rattle.weld_eval.specs.Fits.{AreOperands, IsTruth}
+use Rattle.weld_data.specs.Kind.{IsInteger}
+use Rattle.weld_eval.specs.Fits.{AreOperands, IsIntegerNumber, IsTruth}
 use Rattle.weld_eval.specs.Fit.{IsFit}
 use Rattle.weld_eval.specs.ShortView.{view_short}
 use Rattle.weld_eval.specs.declared.short.Short.{Short}
 use Rattle.weld_eval.specs.Takes.{IsScalar, OneTakes}
 use Rattle.weld_eval.proofs.Children.{gives}
+use Rattle.weld_eval_forms.proofs.Shapes.{neg_number, not_truth as is_truth, cast_kind}
 use Rattle.weld_eval_forms.proofs.TwoShapes.{operands}
-use Rattle.weld_eval_plain.specs.Nodes.{IsEither, IsIf, decided}
+use Rattle.weld_eval_plain.specs.Nodes.{IsEitherForm, decided}
 use Rattle.weld_eval_plain.proofs.Nodes.{both_take, part_takes, second_decides, first_decides, first_of_either_is_truth, condition_is_truth}
 use Rattle.weld_acts.specs.Act.{AreDirect}
-use Rattle.weld_rows.specs.Numbers.{number_thing, numeric, IsBinaryForm, IsBinary, IsNumberForm, IsOnNumber, IsNumberThing}
+use Rattle.weld_rows.specs.Numbers.{number_thing, numeric, numeric_two, IsNumberThing}
 use Rattle.weld_rows.specs.Runs.{Runs, RunsNumber}
 
 scalar_is : (t : TypeTree) (k : Kind) → t ≡ scalar k → IsScalar t
@@ -34,37 +36,17 @@ scalar_is t k e = subst IsScalar (sym e) tt
 
 -- ---- an operator
 
-first_runs : {d : Bool} (a : At) (o : Two) (e f : ExprTree) (env : Env) → IsBinary (two a o e f) → RunsNumber d (two a o e f) env → RunsNumber d e env
-first_runs a (binary op) e f env k h = record { fit = record { names = h.fit.names; origins = h.fit.origins; named = h.fit.named; answer = h.fit.typed.0; typed = h.fit.typed.2; keeps = h.fit.keeps.0 }; direct = λ t. (h.direct t).0; scalar = scalar_is h.fit.typed.0 h.fit.typed.4.0 h.fit.typed.4.2 }
-first_runs a and e f env k h = absurd k
-first_runs a or e f env k h = absurd k
-first_runs a look_up e f env k h = absurd k
-first_runs a key_exists e f env k h = absurd k
-first_runs a merge e f env k h = absurd k
+pub left_runs : {d : Bool} (a : At) (op : BinOp) (e f : ExprTree) (env : Env) → RunsNumber d (two a (binary op) e f) env → RunsNumber d e env
+left_runs a op e f env h = record { fit = record { names = h.fit.names; origins = h.fit.origins; named = h.fit.named; answer = h.fit.typed.0; typed = h.fit.typed.2; keeps = h.fit.keeps.0 }; direct = λ t. (h.direct t).0; scalar = scalar_is h.fit.typed.0 h.fit.typed.4.0 h.fit.typed.4.2 }
 
-second_runs : {d : Bool} (a : At) (o : Two) (e f : ExprTree) (env : Env) → IsBinary (two a o e f) → RunsNumber d (two a o e f) env → RunsNumber d f env
-second_runs a (binary op) e f env k h = record { fit = record { names = h.fit.names; origins = h.fit.origins; named = h.fit.named; answer = h.fit.typed.1; typed = h.fit.typed.3; keeps = h.fit.keeps.1 }; direct = λ t. (h.direct t).1; scalar = scalar_is h.fit.typed.1 h.fit.typed.4.0 h.fit.typed.4.3 }
-second_runs a and e f env k h = absurd k
-second_runs a or e f env k h = absurd k
-second_runs a look_up e f env k h = absurd k
-second_runs a key_exists e f env k h = absurd k
-second_runs a merge e f env k h = absurd k
+pub right_runs : {d : Bool} (a : At) (op : BinOp) (e f : ExprTree) (env : Env) → RunsNumber d (two a (binary op) e f) env → RunsNumber d f env
+right_runs a op e f env h = record { fit = record { names = h.fit.names; origins = h.fit.origins; named = h.fit.named; answer = h.fit.typed.1; typed = h.fit.typed.3; keeps = h.fit.keeps.1 }; direct = λ t. (h.direct t).1; scalar = scalar_is h.fit.typed.1 h.fit.typed.4.0 h.fit.typed.4.3 }
 
-pub left_runs : {d : Bool} (a : At) (o : Two) (e f : ExprTree) (env : Env) (n : ExprTree) → n ≡ two a o e f → IsBinary n → RunsNumber d n env → RunsNumber d e env
-left_runs {d} a o e f env n is k h = first_runs a o e f env (subst (λ m. IsBinary m) is k) (subst (λ m. RunsNumber d m env) is h)
+pub are_operands : {d : Bool} (a : At) (op : BinOp) (e f : ExprTree) (env : Env) (v w : Value) → RunsNumber d (two a (binary op) e f) env → eval e env ≡ done (plain v) → eval f env ≡ done (plain w) → AreOperands op v w
+are_operands a op e f env v w h p q = operands op (plain v) (plain w) v w (both_take a (binary op) e f env (two a (binary op) e f) (plain v) (plain w) refl h.fit p q) refl refl
 
-pub right_runs : {d : Bool} (a : At) (o : Two) (e f : ExprTree) (env : Env) (n : ExprTree) → n ≡ two a o e f → IsBinary n → RunsNumber d n env → RunsNumber d f env
-right_runs {d} a o e f env n is k h = second_runs a o e f env (subst (λ m. IsBinary m) is k) (subst (λ m. RunsNumber d m env) is h)
-
-pub binary_form : (a : At) (o : Two) (e f : ExprTree) (n : ExprTree) → n ≡ two a o e f → IsBinary n → IsBinaryForm o
-binary_form a o e f n is k = subst (λ m. IsBinary m) is k
-
-pub are_operands : {d : Bool} (a : At) (op : BinOp) (e f : ExprTree) (env : Env) (n : ExprTree) (v w : Value) → n ≡ two a (binary op) e f → RunsNumber d n env → eval e env ≡ done (plain v) → eval f env ≡ done (plain w) → AreOperands op v w
-are_operands a op e f env n v w is h p q = operands op (plain v) (plain w) v w (both_take a (binary op) e f env n (plain v) (plain w) is h.fit p q) refl refl
-
-binary_is : (a : At) (op : BinOp) (e f : ExprTree) (env : Env) (n : ExprTree) (v w : Value) → n ≡ two a (binary op) e f → eval e env ≡ done (plain v) → eval f env ≡ done (plain w) → eval n env ≡ map_out plain (operated op v w)
-binary_is a op e f env n v w is p q =
-    ap (λ m. eval m env) is ∙ ap (λ o. and_then o (λ t. two_thing (binary op) t (eval f env))) p ∙ ap (two_thing (binary op) (plain v)) q
+binary_is : (a : At) (op : BinOp) (e f : ExprTree) (env : Env) (v w : Value) → eval e env ≡ done (plain v) → eval f env ≡ done (plain w) → eval (two a (binary op) e f) env ≡ map_out plain (operated op v w)
+binary_is a op e f env v w p q = ap (λ o. and_then o (λ t. two_thing (binary op) t (eval f env))) p ∙ ap (two_thing (binary op) (plain v)) q
 
 -- an answer as a value is one as a thing
 answer_thing : (r : Result Short Stop) (o : Outcome Value) → Answers view_short r o → Answers number_thing r (map_out plain o)
@@ -72,12 +54,12 @@ answer_thing (Ok n) o h = ap (map_out plain) h
 answer_thing (Err Fault) o h = ap (map_out plain) h
 answer_thing (Err Memory) o h = tt
 
-pub binary_answers : (r : Result Short Stop) (a : At) (op : BinOp) (e f : ExprTree) (env : Env) (n : ExprTree) (v w : Value) → n ≡ two a (binary op) e f → eval e env ≡ done (plain v) → eval f env ≡ done (plain w) → Answers view_short r (operated op v w) → Answers number_thing r (eval n env)
-binary_answers r a op e f env n v w is p q h = subst (Answers number_thing r) (sym (binary_is a op e f env n v w is p q)) (answer_thing r (operated op v w) h)
+pub binary_answers : (r : Result Short Stop) (a : At) (op : BinOp) (e f : ExprTree) (env : Env) (v w : Value) → eval e env ≡ done (plain v) → eval f env ≡ done (plain w) → Answers view_short r (operated op v w) → Answers number_thing r (eval (two a (binary op) e f) env)
+binary_answers r a op e f env v w p q h = subst (Answers number_thing r) (sym (binary_is a op e f env v w p q)) (answer_thing r (operated op v w) h)
 
 -- ---- `&&` and `||`
 
-either_types : (a : At) (o : Two) (e f : ExprTree) (env : Env) → IsEither (two a o e f) → (h : IsFit (two a o e f) env) → (h.typed.0 ≡ truth_type) × (h.typed.1 ≡ truth_type)
+either_types : (a : At) (o : Two) (e f : ExprTree) (env : Env) → IsEitherForm o → (h : IsFit (two a o e f) env) → (h.typed.0 ≡ truth_type) × (h.typed.1 ≡ truth_type)
 either_types a (binary op) e f env k h = absurd k
 either_types a and e f env k h = (h.typed.4.0, h.typed.4.1)
 either_types a or e f env k h = (h.typed.4.0, h.typed.4.1)
@@ -85,87 +67,69 @@ either_types a look_up e f env k h = absurd k
 either_types a key_exists e f env k h = absurd k
 either_types a merge e f env k h = absurd k
 
-either_left : {d : Bool} (a : At) (o : Two) (e f : ExprTree) (env : Env) → IsEither (two a o e f) → RunsNumber d (two a o e f) env → RunsNumber d e env
-either_left a o e f env k h = record { fit = record { names = h.fit.names; origins = h.fit.origins; named = h.fit.named; answer = h.fit.typed.0; typed = h.fit.typed.2; keeps = h.fit.keeps.0 }; direct = λ t. (h.direct t).0; scalar = scalar_is h.fit.typed.0 kinds.Bool (either_types a o e f env k h.fit).0 }
+pub either_first : {d : Bool} (a : At) (o : Two) (e f : ExprTree) (env : Env) → IsEitherForm o → RunsNumber d (two a o e f) env → RunsNumber d e env
+either_first a o e f env k h = record { fit = record { names = h.fit.names; origins = h.fit.origins; named = h.fit.named; answer = h.fit.typed.0; typed = h.fit.typed.2; keeps = h.fit.keeps.0 }; direct = λ t. (h.direct t).0; scalar = scalar_is h.fit.typed.0 kinds.Bool (either_types a o e f env k h.fit).0 }
 
-either_right : {d : Bool} (a : At) (o : Two) (e f : ExprTree) (env : Env) → IsEither (two a o e f) → RunsNumber d (two a o e f) env → RunsNumber d f env
-either_right a o e f env k h = record { fit = record { names = h.fit.names; origins = h.fit.origins; named = h.fit.named; answer = h.fit.typed.1; typed = h.fit.typed.3; keeps = h.fit.keeps.1 }; direct = λ t. (h.direct t).1; scalar = scalar_is h.fit.typed.1 kinds.Bool (either_types a o e f env k h.fit).1 }
+pub either_second : {d : Bool} (a : At) (o : Two) (e f : ExprTree) (env : Env) → IsEitherForm o → RunsNumber d (two a o e f) env → RunsNumber d f env
+either_second a o e f env k h = record { fit = record { names = h.fit.names; origins = h.fit.origins; named = h.fit.named; answer = h.fit.typed.1; typed = h.fit.typed.3; keeps = h.fit.keeps.1 }; direct = λ t. (h.direct t).1; scalar = scalar_is h.fit.typed.1 kinds.Bool (either_types a o e f env k h.fit).1 }
 
-pub either_first : {d : Bool} (a : At) (o : Two) (e f : ExprTree) (env : Env) (n : ExprTree) → n ≡ two a o e f → IsEither n → RunsNumber d n env → RunsNumber d e env
-either_first {d} a o e f env n is k h = either_left a o e f env (subst (λ m. IsEither m) is k) (subst (λ m. RunsNumber d m env) is h)
+pub either_truth : {d : Bool} (a : At) (o : Two) (e f : ExprTree) (env : Env) (v : Value) → IsEitherForm o → RunsNumber d (two a o e f) env → eval e env ≡ done (plain v) → IsTruth v
+either_truth a o e f env v k h q = first_of_either_is_truth a o e f env (two a o e f) (plain v) v refl k h.fit q refl
 
-pub either_second : {d : Bool} (a : At) (o : Two) (e f : ExprTree) (env : Env) (n : ExprTree) → n ≡ two a o e f → IsEither n → RunsNumber d n env → RunsNumber d f env
-either_second {d} a o e f env n is k h = either_right a o e f env (subst (λ m. IsEither m) is k) (subst (λ m. RunsNumber d m env) is h)
+pub either_goes_on : {d : Bool} (a : At) (o : TwoForm) (e f : ExprTree) (env : Env) (v : Value) (c : Bool) → IsEitherForm (view_two o) → RunsNumber d (two a (view_two o) e f) env → eval e env ≡ done (plain v) → truth_of v ≡ done c → decided o c ≡ false → eval (two a (view_two o) e f) env ≡ eval f env
+either_goes_on a o e f env v c k h q t d = second_decides a o e f env (two a (view_two o) e f) (plain v) v c refl k h.fit q refl t d
 
-pub either_truth : {d : Bool} (a : At) (o : Two) (e f : ExprTree) (env : Env) (n : ExprTree) (v : Value) → n ≡ two a o e f → IsEither n → RunsNumber d n env → eval e env ≡ done (plain v) → IsTruth v
-either_truth a o e f env n v is k h q = first_of_either_is_truth a o e f env n (plain v) v is (subst (λ m. IsEither m) is k) h.fit q refl
-
-pub either_goes_on : {d : Bool} (a : At) (o : TwoForm) (e f : ExprTree) (env : Env) (n : ExprTree) (v : Value) (c : Bool) → n ≡ two a (view_two o) e f → IsEither n → RunsNumber d n env → eval e env ≡ done (plain v) → truth_of v ≡ done c → decided o c ≡ false → eval n env ≡ eval f env
-either_goes_on a o e f env n v c is k h q t d = second_decides a o e f env n (plain v) v c is (subst (λ m. IsEither m) is k) h.fit q refl t d
-
-pub either_ends : (a : At) (o : TwoForm) (e f : ExprTree) (env : Env) (n : ExprTree) (v : Value) (c : Bool) → n ≡ two a (view_two o) e f → IsEither n → eval e env ≡ done (plain v) → truth_of v ≡ done c → decided o c ≡ true → eval n env ≡ done (plain (truth_value c))
-either_ends a o e f env n v c is k q t d = first_decides a o e f env n (plain v) v c is (subst (λ m. IsEither m) is k) q refl t d
+pub either_ends : (a : At) (o : TwoForm) (e f : ExprTree) (env : Env) (v : Value) (c : Bool) → IsEitherForm (view_two o) → eval e env ≡ done (plain v) → truth_of v ≡ done c → decided o c ≡ true → eval (two a (view_two o) e f) env ≡ done (plain (truth_value c))
+either_ends a o e f env v c k q t d = first_decides a o e f env (two a (view_two o) e f) (plain v) v c refl k q refl t d
 
 -- ---- a form of one part
 
-pub on_part_runs : {d : Bool} (a : At) (o : One) (e : ExprTree) (env : Env) (n : ExprTree) → n ≡ one a o e → IsNumberForm n → RunsNumber d n env → RunsNumber d e env
-on_part_runs {d} a o e env n is k h = by o (subst (λ m. IsNumberForm m) is k) (subst (λ m. RunsNumber d m env) is h)
-  where
-    by : (p : One) → IsOnNumber p → RunsNumber d (one a p e) env → RunsNumber d e env
-    by neg j r = record { fit = record { names = r.fit.names; origins = r.fit.origins; named = r.fit.named; answer = r.fit.typed.0; typed = r.fit.typed.1; keeps = r.fit.keeps.0 }; direct = r.direct; scalar = scalar_is r.fit.typed.0 r.fit.typed.2.0 r.fit.typed.2.2 }
-    by not_of j r = record { fit = record { names = r.fit.names; origins = r.fit.origins; named = r.fit.named; answer = r.fit.typed.0; typed = r.fit.typed.1; keeps = r.fit.keeps.0 }; direct = r.direct; scalar = scalar_is r.fit.typed.0 kinds.Bool r.fit.typed.2.0 }
-    by (cast k) j r = record { fit = record { names = r.fit.names; origins = r.fit.origins; named = r.fit.named; answer = r.fit.typed.0; typed = r.fit.typed.1; keeps = r.fit.keeps.0 }; direct = r.direct; scalar = scalar_is r.fit.typed.0 r.fit.typed.2.0 r.fit.typed.2.2 }
-    by len j r = absurd j
-    by (field m) j r = absurd j
-    by finish j r = absurd j
-    by (started b) j r = absurd j
+pub neg_part_runs : {d : Bool} (a : At) (e : ExprTree) (env : Env) → RunsNumber d (one a neg e) env → RunsNumber d e env
+neg_part_runs a e env r = record { fit = record { names = r.fit.names; origins = r.fit.origins; named = r.fit.named; answer = r.fit.typed.0; typed = r.fit.typed.1; keeps = r.fit.keeps.0 }; direct = r.direct; scalar = scalar_is r.fit.typed.0 r.fit.typed.2.0 r.fit.typed.2.2 }
 
-pub on_form : (a : At) (o : One) (e : ExprTree) (n : ExprTree) → n ≡ one a o e → IsNumberForm n → IsOnNumber o
-on_form a o e n is k = subst (λ m. IsNumberForm m) is k
+pub not_part_runs : {d : Bool} (a : At) (e : ExprTree) (env : Env) → RunsNumber d (one a not_of e) env → RunsNumber d e env
+not_part_runs a e env r = record { fit = record { names = r.fit.names; origins = r.fit.origins; named = r.fit.named; answer = r.fit.typed.0; typed = r.fit.typed.1; keeps = r.fit.keeps.0 }; direct = r.direct; scalar = scalar_is r.fit.typed.0 kinds.Bool r.fit.typed.2.0 }
 
-pub on_takes : {d : Bool} (a : At) (o : One) (e : ExprTree) (env : Env) (n : ExprTree) (x : Thing) → n ≡ one a o e → RunsNumber d n env → eval e env ≡ done x → OneTakes o x
-on_takes a o e env n x is h q = part_takes a o e env n x is h.fit q
+pub cast_part_runs : {d : Bool} (a : At) (k : Kind) (e : ExprTree) (env : Env) → RunsNumber d (one a (cast k) e) env → RunsNumber d e env
+cast_part_runs a k e env r = record { fit = record { names = r.fit.names; origins = r.fit.origins; named = r.fit.named; answer = r.fit.typed.0; typed = r.fit.typed.1; keeps = r.fit.keeps.0 }; direct = r.direct; scalar = scalar_is r.fit.typed.0 r.fit.typed.2.0 r.fit.typed.2.2 }
 
-pub on_is : (a : At) (o : One) (e : ExprTree) (env : Env) (n : ExprTree) (x y : Thing) → n ≡ one a o e → eval e env ≡ done x → one_thing o x ≡ done y → eval n env ≡ done y
-on_is a o e env n x y is q r = ap (λ m. eval m env) is ∙ ap (λ u. and_then u (one_thing o)) q ∙ r
+takes : {d : Bool} (a : At) (o : One) (e : ExprTree) (env : Env) (v : Value) → RunsNumber d (one a o e) env → eval e env ≡ done (plain v) → OneTakes o (plain v)
+takes a o e env v h q = part_takes a o e env (one a o e) (plain v) refl h.fit q
+
+pub neg_integer : {d : Bool} (a : At) (e : ExprTree) (env : Env) (v : Value) → RunsNumber d (one a neg e) env → eval e env ≡ done (plain v) → IsIntegerNumber v
+neg_integer a e env v h q = neg_number (plain v) v (takes a neg e env v h q) refl
+
+pub not_truth : {d : Bool} (a : At) (e : ExprTree) (env : Env) (v : Value) → RunsNumber d (one a not_of e) env → eval e env ≡ done (plain v) → IsTruth v
+not_truth a e env v h q = is_truth (plain v) v (takes a not_of e env v h q) refl
+
+pub cast_integer : {d : Bool} (a : At) (k : Kind) (e : ExprTree) (env : Env) (v : Value) → RunsNumber d (one a (cast k) e) env → eval e env ≡ done (plain v) → IsInteger k
+cast_integer a k e env v h q = cast_kind k (plain v) (takes a (cast k) e env v h q)
+
+pub neg_is : (a : At) (e : ExprTree) (env : Env) (v w : Value) → eval e env ≡ done (plain v) → negated v ≡ done w → eval (one a neg e) env ≡ done (plain w)
+neg_is a e env v w q r = ap (λ o. and_then o (one_thing neg)) q ∙ ap (map_out plain) r
+
+pub not_is : (a : At) (e : ExprTree) (env : Env) (v w : Value) → eval e env ≡ done (plain v) → contrary v ≡ done w → eval (one a not_of e) env ≡ done (plain w)
+not_is a e env v w q r = ap (λ o. and_then o (one_thing not_of)) q ∙ ap (map_out plain) r
+
+pub cast_is : (a : At) (k : Kind) (e : ExprTree) (env : Env) (v w : Value) → eval e env ≡ done (plain v) → cast_to k v ≡ done w → eval (one a (cast k) e) env ≡ done (plain w)
+cast_is a k e env v w q r = ap (λ o. and_then o (one_thing (cast k))) q ∙ ap (map_out plain) r
 
 -- ---- an `if`
 
-if_parts : (a : At) (o : Three) (c e f : ExprTree) (env : Env) → IsIf (three a o c e f) → (h : IsFit (three a o c e f) env) → (h.typed.0 ≡ truth_type) × (h.typed.1 ≡ h.answer) × (h.typed.2 ≡ h.answer)
-if_parts a if_else c e f env k h = (h.typed.6.0, h.typed.6.1, h.typed.6.2)
-if_parts a select c e f env k h = absurd k
-if_parts a slice c e f env k h = absurd k
+pub condition_runs : {d : Bool} (a : At) (c e f : ExprTree) (env : Env) → IsFit (three a if_else c e f) env → (d ≡ true → AreDirect (three a if_else c e f)) → RunsNumber d c env
+condition_runs a c e f env h g = record { fit = record { names = h.names; origins = h.origins; named = h.named; answer = h.typed.0; typed = h.typed.3; keeps = h.keeps.0 }; direct = λ t. (g t).0; scalar = scalar_is h.typed.0 kinds.Bool h.typed.6.0 }
 
-if_condition : {d : Bool} (a : At) (o : Three) (c e f : ExprTree) (env : Env) → IsIf (three a o c e f) → Runs d (three a o c e f) env → RunsNumber d c env
-if_condition a o c e f env k h = record { fit = record { names = h.fit.names; origins = h.fit.origins; named = h.fit.named; answer = h.fit.typed.0; typed = h.fit.typed.3; keeps = h.fit.keeps.0 }; direct = λ t. (h.direct t).0; scalar = scalar_is h.fit.typed.0 kinds.Bool (if_parts a o c e f env k h.fit).0 }
+pub then_runs : {d : Bool} (a : At) (c e f : ExprTree) (env : Env) → RunsNumber d (three a if_else c e f) env → RunsNumber d e env
+then_runs a c e f env h = record { fit = record { names = h.fit.names; origins = h.fit.origins; named = h.fit.named; answer = h.fit.typed.1; typed = h.fit.typed.4; keeps = h.fit.keeps.1 }; direct = λ t. (h.direct t).1; scalar = subst IsScalar (sym h.fit.typed.6.1) h.scalar }
 
-if_then : {d : Bool} (a : At) (o : Three) (c e f : ExprTree) (env : Env) → IsIf (three a o c e f) → RunsNumber d (three a o c e f) env → RunsNumber d e env
-if_then a o c e f env k h = record { fit = record { names = h.fit.names; origins = h.fit.origins; named = h.fit.named; answer = h.fit.typed.1; typed = h.fit.typed.4; keeps = h.fit.keeps.1 }; direct = λ t. (h.direct t).1; scalar = subst IsScalar (sym (if_parts a o c e f env k h.fit).1) h.scalar }
+pub otherwise_runs : {d : Bool} (a : At) (c e f : ExprTree) (env : Env) → RunsNumber d (three a if_else c e f) env → RunsNumber d f env
+otherwise_runs a c e f env h = record { fit = record { names = h.fit.names; origins = h.fit.origins; named = h.fit.named; answer = h.fit.typed.2; typed = h.fit.typed.5; keeps = h.fit.keeps.2 }; direct = λ t. (h.direct t).2; scalar = subst IsScalar (sym h.fit.typed.6.2) h.scalar }
 
-if_otherwise : {d : Bool} (a : At) (o : Three) (c e f : ExprTree) (env : Env) → IsIf (three a o c e f) → RunsNumber d (three a o c e f) env → RunsNumber d f env
-if_otherwise a o c e f env k h = record { fit = record { names = h.fit.names; origins = h.fit.origins; named = h.fit.named; answer = h.fit.typed.2; typed = h.fit.typed.5; keeps = h.fit.keeps.2 }; direct = λ t. (h.direct t).2; scalar = subst IsScalar (sym (if_parts a o c e f env k h.fit).2) h.scalar }
+pub if_is_truth : (a : At) (c e f : ExprTree) (env : Env) (v : Value) → IsFit (three a if_else c e f) env → eval c env ≡ done (plain v) → IsTruth v
+if_is_truth a c e f env v h q = condition_is_truth a c e f env (three a if_else c e f) (plain v) v refl h q refl
 
-pub condition_runs : {d : Bool} (a : At) (o : Three) (c e f : ExprTree) (env : Env) (n : ExprTree) → n ≡ three a o c e f → IsIf n → IsFit n env → (d ≡ true → AreDirect n) → RunsNumber d c env
-condition_runs a o c e f env n is k h g = if_condition a o c e f env (subst (λ m. IsIf m) is k) (record { fit = subst (λ m. IsFit m env) is h; direct = λ t. subst (λ m. AreDirect m) is (g t) })
-
-pub then_runs : {d : Bool} (a : At) (o : Three) (c e f : ExprTree) (env : Env) (n : ExprTree) → n ≡ three a o c e f → IsIf n → RunsNumber d n env → RunsNumber d e env
-then_runs {d} a o c e f env n is k h = if_then a o c e f env (subst (λ m. IsIf m) is k) (subst (λ m. RunsNumber d m env) is h)
-
-pub otherwise_runs : {d : Bool} (a : At) (o : Three) (c e f : ExprTree) (env : Env) (n : ExprTree) → n ≡ three a o c e f → IsIf n → RunsNumber d n env → RunsNumber d f env
-otherwise_runs {d} a o c e f env n is k h = if_otherwise a o c e f env (subst (λ m. IsIf m) is k) (subst (λ m. RunsNumber d m env) is h)
-
-if_truth : (a : At) (o : Three) (c e f : ExprTree) (env : Env) (n : ExprTree) (v : Value) → n ≡ three a o c e f → IsIf n → IsFit n env → eval c env ≡ done (plain v) → IsTruth v
-if_truth a if_else c e f env n v is k h q = condition_is_truth a c e f env n (plain v) v is h q refl
-if_truth a select c e f env n v is k h q = absurd (subst (λ m. IsIf m) is k)
-if_truth a slice c e f env n v is k h q = absurd (subst (λ m. IsIf m) is k)
-
-pub if_is_truth : (a : At) (o : Three) (c e f : ExprTree) (env : Env) (n : ExprTree) (v : Value) → n ≡ three a o c e f → IsIf n → IsFit n env → eval c env ≡ done (plain v) → IsTruth v
-if_is_truth a o c e f env n v is k h q = if_truth a o c e f env n v is k h q
-
-if_chosen : (a : At) (o : Three) (c e f : ExprTree) (env : Env) (v : Value) (b : Bool) → IsIf (three a o c e f) → eval c env ≡ done (plain v) → truth_of v ≡ done b → eval (three a o c e f) env ≡ chosen (plain v) (eval e env) (eval f env)
-if_chosen a if_else c e f env v b k q t = ap (λ u. and_then u (λ x. three_thing if_else x (eval e env) (eval f env))) q
-if_chosen a select c e f env v b k q t = absurd k
-if_chosen a slice c e f env v b k q t = absurd k
+if_chosen : (a : At) (c e f : ExprTree) (env : Env) (v : Value) → eval c env ≡ done (plain v) → eval (three a if_else c e f) env ≡ chosen (plain v) (eval e env) (eval f env)
+if_chosen a c e f env v q = ap (λ u. and_then u (λ x. three_thing if_else x (eval e env) (eval f env))) q
 
 chosen_true : (v : Value) (x y : Outcome Thing) → truth_of v ≡ done true → chosen (plain v) x y ≡ x
 chosen_true v x y t = ap (λ u. and_then u (λ (c : Bool). if c then x else y)) t
@@ -173,11 +137,11 @@ chosen_true v x y t = ap (λ u. and_then u (λ (c : Bool). if c then x else y)) 
 chosen_false : (v : Value) (x y : Outcome Thing) → truth_of v ≡ done false → chosen (plain v) x y ≡ y
 chosen_false v x y t = ap (λ u. and_then u (λ (c : Bool). if c then x else y)) t
 
-pub if_is_then : (a : At) (o : Three) (c e f : ExprTree) (env : Env) (n : ExprTree) (v : Value) → n ≡ three a o c e f → IsIf n → eval c env ≡ done (plain v) → truth_of v ≡ done true → eval n env ≡ eval e env
-if_is_then a o c e f env n v is k q t = ap (λ m. eval m env) is ∙ if_chosen a o c e f env v true (subst (λ m. IsIf m) is k) q t ∙ chosen_true v (eval e env) (eval f env) t
+pub if_is_then : (a : At) (c e f : ExprTree) (env : Env) (v : Value) → eval c env ≡ done (plain v) → truth_of v ≡ done true → eval (three a if_else c e f) env ≡ eval e env
+if_is_then a c e f env v q t = if_chosen a c e f env v q ∙ chosen_true v (eval e env) (eval f env) t
 
-pub if_is_otherwise : (a : At) (o : Three) (c e f : ExprTree) (env : Env) (n : ExprTree) (v : Value) → n ≡ three a o c e f → IsIf n → eval c env ≡ done (plain v) → truth_of v ≡ done false → eval n env ≡ eval f env
-if_is_otherwise a o c e f env n v is k q t = ap (λ m. eval m env) is ∙ if_chosen a o c e f env v false (subst (λ m. IsIf m) is k) q t ∙ chosen_false v (eval e env) (eval f env) t
+pub if_is_otherwise : (a : At) (c e f : ExprTree) (env : Env) (v : Value) → eval c env ≡ done (plain v) → truth_of v ≡ done false → eval (three a if_else c e f) env ≡ eval f env
+if_is_otherwise a c e f env v q t = if_chosen a c e f env v q ∙ chosen_false v (eval e env) (eval f env) t
 
 -- ---- numbers in values
 
@@ -231,26 +195,25 @@ numeric_runs n env e h = record { fit = h.fit; direct = h.direct; scalar = numer
 pub number_runs : {d : Bool} (n : ExprTree) (env : Env) → RunsNumber d n env → Runs d n env
 number_runs n env h = record { fit = h.fit; direct = h.direct }
 
-pub either_runs : {d : Bool} (n : ExprTree) (env : Env) → IsEither n → Runs d n env → RunsNumber d n env
-either_runs (two a o e f) env k h = numeric_runs (two a o e f) env (either_numeric o e f k) h
+pub either_runs : {d : Bool} (a : At) (o : Two) (e f : ExprTree) (env : Env) → IsEitherForm o → Runs d (two a o e f) env → RunsNumber d (two a o e f) env
+either_runs a o e f env k h = numeric_runs (two a o e f) env (either_numeric o k) h
   where
-    either_numeric : (p : Two) (e f : ExprTree) → IsEither (two a p e f) → numeric (two a p e f) ≡ true
-    either_numeric (binary op) e f j = refl
-    either_numeric and e f j = refl
-    either_numeric or e f j = refl
-    either_numeric look_up e f j = absurd j
-    either_numeric key_exists e f j = absurd j
-    either_numeric merge e f j = absurd j
-either_runs _ env k h = absurd k
+    either_numeric : (p : Two) → IsEitherForm p → numeric_two p ≡ true
+    either_numeric (binary op) j = refl
+    either_numeric and j = refl
+    either_numeric or j = refl
+    either_numeric look_up j = absurd j
+    either_numeric key_exists j = absurd j
+    either_numeric merge j = absurd j
 
-pub choice_condition_runs : {d : Bool} (a : At) (o : Three) (c e f : ExprTree) (env : Env) (n : ExprTree) → n ≡ three a o c e f → IsIf n → RunsNumber d n env → RunsNumber d c env
-choice_condition_runs a o c e f env n is k h = condition_runs a o c e f env n is k h.fit h.direct
+pub choice_condition_runs : {d : Bool} (a : At) (c e f : ExprTree) (env : Env) → RunsNumber d (three a if_else c e f) env → RunsNumber d c env
+choice_condition_runs a c e f env h = condition_runs a c e f env h.fit h.direct
 
-pub value_condition_runs : {d : Bool} (a : At) (o : Three) (c e f : ExprTree) (env : Env) (n : ExprTree) → n ≡ three a o c e f → IsIf n → Runs d n env → RunsNumber d c env
-value_condition_runs a o c e f env n is k h = condition_runs a o c e f env n is k h.fit h.direct
+pub value_condition_runs : {d : Bool} (a : At) (c e f : ExprTree) (env : Env) → Runs d (three a if_else c e f) env → RunsNumber d c env
+value_condition_runs a c e f env h = condition_runs a c e f env h.fit h.direct
 
-pub choice_is_truth : {d : Bool} (a : At) (o : Three) (c e f : ExprTree) (env : Env) (n : ExprTree) (v : Value) → n ≡ three a o c e f → IsIf n → RunsNumber d n env → eval c env ≡ done (plain v) → IsTruth v
-choice_is_truth a o c e f env n v is k h q = if_is_truth a o c e f env n v is k h.fit q
+pub choice_is_truth : {d : Bool} (a : At) (c e f : ExprTree) (env : Env) (v : Value) → RunsNumber d (three a if_else c e f) env → eval c env ≡ done (plain v) → IsTruth v
+choice_is_truth a c e f env v h q = if_is_truth a c e f env v h.fit q
 
-pub value_is_truth : {d : Bool} (a : At) (o : Three) (c e f : ExprTree) (env : Env) (n : ExprTree) (v : Value) → n ≡ three a o c e f → IsIf n → Runs d n env → eval c env ≡ done (plain v) → IsTruth v
-value_is_truth a o c e f env n v is k h q = if_is_truth a o c e f env n v is k h.fit q
+pub value_is_truth : {d : Bool} (a : At) (c e f : ExprTree) (env : Env) (v : Value) → Runs d (three a if_else c e f) env → eval c env ≡ done (plain v) → IsTruth v
+value_is_truth a c e f env v h q = if_is_truth a c e f env v h.fit q

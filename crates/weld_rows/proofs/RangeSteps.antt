@@ -292,10 +292,6 @@ all_done m env lists from to own s d direct h on =
 pub block_ready : (m : ExprTree) (env : Env) (lists : List (List Value)) (from to : ℕ) (own s : Thing) (d : Deed) → AreDirect m → IsBlock m env own lists from d (to - from) → RangeOn m env lists from to s own from s → FitsThrough (do_of d) (DeedFits d) 0 (to - from) s
 block_ready m env lists from to own s d direct h on = (all_done m env lists from to own s d direct h on).0
 
-pub block_done : (m : ExprTree) (env : Env) (lists : List (List Value)) (from to : ℕ) (own s : Thing) (d : Deed) → AreDirect m → IsBlock m env own lists from d (to - from) → RangeOn m env lists from to s own from s → range_over m env lists from to s ≡ done_through (do_of d) 0 (to - from) s
-block_done m env lists from to own s d direct h on = (all_done m env lists from to own s d direct h on).1
-
-pub block_stops : (T U : Type 0) (stop : Stop) (m : ExprTree) (env : Env) (lists : List (List Value)) (from to : ℕ) (own s t u : Thing) (d : Deed) → AreDirect m → IsBlock m env own lists from d (to - from) → RangeOn m env lists from to s own from s
-    → Acts {T = T} (Err stop) (done_through (do_of d) 0 (to - from) s) t → Acts {T = U} (Err stop) (range_over m env lists from to s) u
-block_stops T U Fault m env lists from to own s t u d direct h on q = block_done m env lists from to own s d direct h on ∙ q
-block_stops T U Memory m env lists from to own s t u d direct h on q = tt
+pub block_is_done : {T : Type 0} (r : Result T Stop) (m : ExprTree) (env : Env) (lists : List (List Value)) (from to : ℕ) (own s t : Thing) (d : Deed) → AreDirect m → IsBlock m env own lists from d (to - from) → RangeOn m env lists from to s own from s
+    → Acts r (done_through (do_of d) 0 (to - from) s) t → Acts r (range_over m env lists from to s) t
+block_is_done r m env lists from to own s t d direct h on q = subst (λ (o : Outcome Thing). Acts r o t) (sym (all_done m env lists from to own s d direct h on).1) q

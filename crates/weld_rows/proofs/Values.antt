@@ -16,7 +16,7 @@ use Rattle.weld_eval_forms.specs.Legs.{rows_in as forms_rows}
 use Rattle.weld_eval.specs.declared.thing.Held.{Held}
 use Rattle.weld_eval_plain.specs.Rows.{LegsAre, rows_from}
 use Rattle.weld_eval_plain.proofs.Nodes.{part_fits, part_takes, then_fits, otherwise_fits, let_value_fits, let_body_fits}
-use Rattle.weld_eval_plain.proofs.Rows.{loop_legs_fit, loop_builder_fits, legs_there, rows_start}
+use Rattle.weld_eval_plain.proofs.Rows.{loop_legs_fit, loop_builder_fits, rows_start}
 use Rattle.weld_acts.specs.ActFits.{ActFits}
 use Rattle.weld_acts.specs.Ranges.{HoldsRange, range_over}
 use Rattle.weld_acts.proofs.Direct.{direct_part, direct_then, direct_otherwise, direct_value, direct_let_body, direct_legs, direct_builder}
@@ -31,17 +31,17 @@ part_runs a o e env n is h = record { fit = part_fits a o e env n is h.fit; dire
 pub part_run_takes : {d : Bool} (a : At) (o : One) (e : ExprTree) (env : Env) (n : ExprTree) (x : Thing) → n ≡ one a o e → Runs d n env → eval e env ≡ done x → OneTakes o x
 part_run_takes a o e env n x is h q = part_takes a o e env n x is h.fit q
 
-pub then_run : {d : Bool} (a : At) (o : Three) (c e f : ExprTree) (env : Env) (n : ExprTree) → n ≡ three a o c e f → Runs d n env → Runs d e env
-then_run a o c e f env n is h = record { fit = then_fits a o c e f env n is h.fit; direct = λ t. direct_then a o c e f n is (h.direct t) }
+pub then_run : {d : Bool} (a : At) (o : Three) (c e f : ExprTree) (env : Env) → Runs d (three a o c e f) env → Runs d e env
+then_run a o c e f env h = record { fit = then_fits a o c e f env (three a o c e f) refl h.fit; direct = λ t. direct_then a o c e f (three a o c e f) refl (h.direct t) }
 
-pub otherwise_run : {d : Bool} (a : At) (o : Three) (c e f : ExprTree) (env : Env) (n : ExprTree) → n ≡ three a o c e f → Runs d n env → Runs d f env
-otherwise_run a o c e f env n is h = record { fit = otherwise_fits a o c e f env n is h.fit; direct = λ t. direct_otherwise a o c e f n is (h.direct t) }
+pub otherwise_run : {d : Bool} (a : At) (o : Three) (c e f : ExprTree) (env : Env) → Runs d (three a o c e f) env → Runs d f env
+otherwise_run a o c e f env h = record { fit = otherwise_fits a o c e f env (three a o c e f) refl h.fit; direct = λ t. direct_otherwise a o c e f (three a o c e f) refl (h.direct t) }
 
-pub let_value_runs : {d : Bool} (a : At) (b : Binder) (e f : ExprTree) (env : Env) (n : ExprTree) → n ≡ let_in a b e f → Runs d n env → Runs d e env
-let_value_runs a b e f env n is h = record { fit = let_value_fits a b e f env n is h.fit; direct = λ t. direct_value a b e f n is (h.direct t) }
+pub let_value_runs : {d : Bool} (a : At) (b : Binder) (e f : ExprTree) (env : Env) → Runs d (let_in a b e f) env → Runs d e env
+let_value_runs a b e f env h = record { fit = let_value_fits a b e f env (let_in a b e f) refl h.fit; direct = λ t. direct_value a b e f (let_in a b e f) refl (h.direct t) }
 
-pub let_body_runs : {d : Bool} (a : At) (b : Binder) (e f : ExprTree) (env : Env) (n : ExprTree) (x : Thing) → n ≡ let_in a b e f → Runs d n env → eval e env ≡ done x → Runs d f ((b.sym.0, x) ∷ env)
-let_body_runs a b e f env n x is h q = record { fit = let_body_fits a b e f env n x is h.fit q; direct = λ t. direct_let_body a b e f n is (h.direct t) }
+pub let_body_runs : {d : Bool} (a : At) (b : Binder) (e f : ExprTree) (env : Env) (x : Thing) → Runs d (let_in a b e f) env → eval e env ≡ done x → Runs d f ((b.sym.0, x) ∷ env)
+let_body_runs a b e f env x h q = record { fit = let_body_fits a b e f env (let_in a b e f) x refl h.fit q; direct = λ t. direct_let_body a b e f (let_in a b e f) refl (h.direct t) }
 
 -- ---- loops
 
@@ -124,9 +124,6 @@ as_many a ls e b n x f env m hs is q =
     let long : length (leg_lists hs) ≡ length hs = simp length-map in
     subst (λ k. length hs ≤ legs_count k) (sym is) (omega arith)
 
-pub over_count : {d : Bool} (a : At) (ls : LegTrees) (e : ExprTree) (b n x : Binder) (f : ExprTree) (env : Env) (m : ExprTree) (hs : List Held) → m ≡ loop a ls e b n x f → Runs d m env → LegsAre m env (leg_lists hs) → 0 < length hs
-over_count a ls e b n x f env m hs is h q = legs_there a ls e b n x f env m hs is h.fit q
-
 pub loop_legs_acts : (a : At) (ls : LegTrees) (e : ExprTree) (b n x : Binder) (f : ExprTree) (env : Env) (m : ExprTree) (s : Thing) → m ≡ loop a ls e b n x f → ActFits m env s → LegsRun true ls env
 loop_legs_acts a ls e b n x f env m s is h = record { fit = loop_legs_fit a ls e b n x f env m is h.fit; direct = λ t. direct_legs a ls e b n x f m is h.direct }
 
@@ -150,9 +147,6 @@ over_gives view r a ls e b n x f env m lists count s is q p u k =
 
 pub legs_fit : {d : Bool} (a : At) (ls : LegTrees) (e : ExprTree) (b n x : Binder) (f : ExprTree) (env : Env) (m : ExprTree) → m ≡ loop a ls e b n x f → Runs d m env → LegsAreFit ls env
 legs_fit a ls e b n x f env m is h = loop_legs_fit a ls e b n x f env m is h.fit
-
-pub legs_act_fit : (a : At) (ls : LegTrees) (e : ExprTree) (b n x : Binder) (f : ExprTree) (env : Env) (m : ExprTree) (s : Thing) → m ≡ loop a ls e b n x f → ActFits m env s → LegsAreFit ls env
-legs_act_fit a ls e b n x f env m s is h = loop_legs_fit a ls e b n x f env m is h.fit
 
 pub lone_less : (a : At) (ls : LegTrees) (e : ExprTree) (b n x : Binder) (f : ExprTree) (m : ExprTree) → m ≡ loop a ls e b n x f → 64 * body_nodes m + 42 < 64 * expr_nodes m
 lone_less a ls e b n x f m is = let one = expr_some e in subst (λ k. 64 * body_nodes k + 42 < 64 * expr_nodes k) (sym is) (omega arith)

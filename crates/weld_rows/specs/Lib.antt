@@ -1,4 +1,5 @@
 pub mod Lent
+pub mod Nodes
 pub mod Numbers
 pub mod RangeOn
 pub mod RowActs

@@ -87,35 +87,6 @@ numeric (let_in a b e f) = numeric f
 numeric (loop a ls e b n x f) = false
 numeric (iterate a e b f) = false
 
--- ---- forms
-
-abbrev pub IsBinaryForm : Two → Type 0
-IsBinaryForm (binary op) = Unit {0}
-IsBinaryForm and = ⊥
-IsBinaryForm or = ⊥
-IsBinaryForm look_up = ⊥
-IsBinaryForm key_exists = ⊥
-IsBinaryForm merge = ⊥
-
--- an operator between two parts
-abbrev pub IsBinary : ExprTree → Type 0
-IsBinary (two a o e f) = IsBinaryForm o
-IsBinary _ = ⊥
-
-abbrev pub IsOnNumber : One → Type 0
-IsOnNumber neg = Unit {0}
-IsOnNumber not_of = Unit {0}
-IsOnNumber (cast k) = Unit {0}
-IsOnNumber len = ⊥
-IsOnNumber (field n) = ⊥
-IsOnNumber finish = ⊥
-IsOnNumber (started b) = ⊥
-
--- a form of one part that makes a number of a number
-abbrev pub IsNumberForm : ExprTree → Type 0
-IsNumberForm (one a o e) = IsOnNumber o
-IsNumberForm _ = ⊥
-
 -- ---- things
 
 -- the thing is a number

@@ -1,6 +1,6 @@
 -- What lets an expression be run.
 use Rattle.std.specs.Prelude.{◌≡◌, Bool, true}
-use Rattle.weld_tree.specs.ExprTree.{ExprTree, ExprTrees, LegTree, LegTrees, three, Three, if_else, select, slice}
+use Rattle.weld_tree.specs.ExprTree.{ExprTree, ExprTrees, LegTree, LegTrees}
 use Rattle.weld_meaning.specs.Evaluation.{Env}
 use Rattle.weld_eval.specs.Fit.{IsFit, AreFit, LegIsFit, LegsAreFit}
 use Rattle.weld_eval.specs.Takes.{IsScalar}
@@ -31,13 +31,3 @@ pub record LegRuns (in_place : Bool) (l : LegTree) (env : Env) : Type 0 where
 pub record LegsRun (in_place : Bool) (ls : LegTrees) (env : Env) : Type 0 where
   pub fit : LegsAreFit ls env
   pub direct : in_place ≡ true → LegsDirect ls
-
-abbrev pub IsSelectForm : Three → Type 0
-IsSelectForm if_else = ⊥
-IsSelectForm select = Unit {0}
-IsSelectForm slice = ⊥
-
--- a `select`
-abbrev pub IsSelect : ExprTree → Type 0
-IsSelect (three a o c e f) = IsSelectForm o
-IsSelect _ = ⊥

@@ -1,6 +1,6 @@
 //! Steps of the runner that don't recurse.
 
-ghost use Rattle.std.specs.Prelude.{◌≡◌, ◌∷◌, [], Bool, true};
+ghost use Rattle.std.specs.Prelude.{◌≡◌, ◌∷◌, [], Bool, IfSome};
 ghost use Rattle.weld_meaning.specs.Thing.{plain};
 ghost use Rattle.weld_eval.specs.FrameView.{env_of};
 ghost use Rattle.weld_eval.specs.LegsView.{lists_of};
@@ -14,20 +14,19 @@ ghost use Rattle.weld_data.specs.View.{view_column};
 ghost use Rattle.weld_eval_forms.specs.Legs.{elements_in, IsVector};
 ghost use Rattle.weld_eval_plain.specs.Nodes.{decided};
 ghost use Rattle.weld_eval.specs.Answers.{Answers};
-ghost use Rattle.weld_deeds.specs.Puts.{IsWrittenPair};
-ghost use Rattle.weld_tree.specs.ExprTree.{binary, finish};
-ghost use Rattle.weld_rows.specs.Numbers.{IsBinaryForm, TriesNumber, number_thing, numeric, numeric_leaf, numeric_one, numeric_two, IsOnNumber, IsNumberThing};
+ghost use Rattle.weld_tree.specs.ExprTree.{finish};
+ghost use Rattle.weld_rows.specs.Nodes.{either_form, IsPairOf};
+ghost use Rattle.weld_rows.specs.Numbers.{TriesNumber, number_thing, numeric, numeric_leaf, numeric_one, numeric_two, IsNumberThing};
 
 use std::alloc::Global;
-use weld_blocks::scalar::{cast, contrary, negated};
-use weld_data::{BinOp, Column, Stop, Val};
+use weld_data::{Column, Stop, Val};
 use weld_eval::frame::Frame;
 use weld_eval::legs::Legs;
 use weld_eval::number::number_of;
 use weld_eval::row::RowAt;
 use weld_eval::short::Short;
 use weld_eval::thing::{Held, Owned, into_owned, value_of};
-use weld_tree::{Expr, Form, LeafForm, ManyForm, OneForm, Sym, ThreeForm, TwoForm};
+use weld_tree::{Expr, Exprs, Form, LeafForm, ManyForm, OneForm, Sym, ThreeForm, TwoForm};
 
 /// Whether the form alone says that an expression is a number. It takes no memory.
 pub(crate) fn is_numeric(e: &Expr) -> bool
@@ -75,22 +74,6 @@ pub(crate) fn decides(form: TwoForm, first: bool) -> bool
     match form {
         TwoForm::And => !first,
         _ => first,
-    }
-}
-
-/// The number that a form of one part makes of a number.
-#[tactic(auto, using(crate::proofs::FormLemmas::neg_integer, crate::proofs::FormLemmas::not_truth, crate::proofs::FormLemmas::cast_integer, crate::proofs::FormLemmas::on_plain))]
-#[inline]
-pub(crate) fn one_number(form: &OneForm, x: Short) -> Short
-    requires takes { OneTakes (view_one form.now) (number_thing x) }
-    requires form { IsOnNumber (view_one form.now) }
-    ensures { one_thing (view_one form.now) (number_thing x) ≡ done (number_thing result) }
-{
-    match form {
-        OneForm::Neg => negated(x),
-        OneForm::Not => contrary(x),
-        OneForm::Cast(kind) => cast(*kind, x),
-        _ => unreachable!(),
     }
 }
 
@@ -159,14 +142,26 @@ pub(crate) fn column_of<'a>(x: &'a Held<'a>) -> &'a Column
     }
 }
 
-/// Whether an expression is a struct of two parts that is written out.
-#[tactic(auto, using(weld_deeds::proofs::Merges::is_written))]
-pub(crate) fn is_pair(e: &Expr) -> bool
-    ensures { result ≡ true → IsWrittenPair e.now }
+/// The two parts of an expression that is a struct of two, written out.
+#[tactic(auto, using(crate::proofs::Nodes::is_pair_of))]
+#[inline(always)]
+pub(crate) fn pair_parts(e: &Expr) -> Option<&Exprs>
+    ensures { IfSome result (λ parts. IsPairOf e.now parts.now) }
 {
     match &e.form {
-        Form::Many(ManyForm::Struct, parts) => parts.len() == 2,
-        _ => false,
+        Form::Many(ManyForm::Struct, parts) => { if parts.len() == 2 { Some(parts) } else { None } }
+        _ => None,
+    }
+}
+
+/// Whether a form evaluates its second part only where it decides. It takes no memory.
+#[inline]
+pub(crate) fn is_either(form: TwoForm) -> bool
+    ensures { result ≡ either_form (view_two form) }
+{
+    match form {
+        TwoForm::And | TwoForm::Or => true,
+        TwoForm::Binary(_) | TwoForm::LookUp | TwoForm::KeyExists | TwoForm::Merge => false,
     }
 }
 
@@ -206,16 +201,4 @@ pub(crate) fn link<'a>(column: &'a Column, rest: &'a Legs<'a>) -> Legs<'a>
     ensures { lists_of result ≡ view_column column.now ∷ lists_of rest.now }
 {
     Legs::And(column, rest)
-}
-
-/// The operator between two parts. It takes no memory.
-#[inline(always)]
-pub(crate) fn operator_of(form: TwoForm) -> BinOp
-    requires { IsBinaryForm (view_two form) }
-    ensures { view_two form ≡ binary result }
-{
-    match form {
-        TwoForm::Binary(op) => op,
-        _ => unreachable!(),
-    }
 }

@@ -7,6 +7,7 @@ ghost use Rattle.weld_data.specs.View.{view_val};
 ghost use Rattle.weld_eval.specs.Fit.{LegsAreFit};
 ghost use Rattle.weld_meaning.specs.Evaluation.{eval as eval_of, eval_legs as eval_legs_of, leaf_thing, one_thing};
 ghost use Rattle.weld_meaning.specs.Thing.{plain};
+ghost use Rattle.weld_tree.specs.ExprTree as tree;
 ghost use Rattle.weld_tree.specs.ExprTree.{field as field_form, pack_legs};
 ghost use Rattle.weld_tree.specs.Types.{IsMergerType};
 ghost use Rattle.weld_tree.specs.ExprView.{view_leaf, view_one};
@@ -15,6 +16,7 @@ ghost use Rattle.weld_eval.specs.FrameView.{env_of};
 ghost use Rattle.weld_eval.specs.RowView.{row_value};
 ghost use Rattle.weld_eval.specs.SlotView.{slot_thing};
 ghost use Rattle.weld_eval.specs.Takes.{LeafTakes, OneTakes};
+ghost use Rattle.weld_rows.specs.Nodes.{anywhere};
 ghost use Rattle.weld_rows.specs.Numbers.{IsLentAs, ReadsNumber, ReadsPair, IsFieldForm, IsNameOf};
 ghost use Rattle.weld_rows.specs.Lent.{LendsVector, LendsLeg, StartsBuilder, StartsTotal};
 
@@ -130,23 +132,21 @@ fn field_in_slot(field: u32, slot: Slot) -> Option<Short>
     }
 }
 
-/// The field of a name that an expression is, lent where it stands: of a struct, or of the row of a loop, which needn't be built
-/// for it. There is none where the expression is anything else. It takes no memory.
+/// The field of a name that a form of one part is, lent where it stands: of a struct, or of the row of a loop, which needn't be
+/// built for it. There is none where it is anything else. It takes no memory.
 #[tactic(auto, using(crate::proofs::ReadLemmas::name_there, crate::proofs::ReadLemmas::field_takes, crate::proofs::ReadLemmas::field_reads))]
 #[inline(never)]
-pub(crate) fn lent_field<'a>(e: &Expr, frame: &'a Frame<'a>) -> Option<Held<'a>>
-    requires { IsFit e.now (env_of frame.now) }
-    ensures { IsLentAs result (eval_of e.now (env_of frame.now)) }
+pub(crate) fn lent_field<'a>(form: &OneForm, part: &Expr, frame: &'a Frame<'a>) -> Option<Held<'a>>
+    requires { IsFit (tree.one anywhere (view_one form.now) part.now) (env_of frame.now) }
+    ensures { IsLentAs result (eval_of (tree.one anywhere (view_one form.now) part.now)
+        (env_of frame.now)) }
 {
-    match &e.form {
-        Form::One(form, part) => match field_of_form(form) {
-            Some(field) => match name_of(part) {
-                Some(name) => lent_in_slot(field, read(frame, name)),
-                None => None,
-            },
+    match field_of_form(form) {
+        Some(field) => match name_of(part) {
+            Some(name) => lent_in_slot(field, read(frame, name)),
             None => None,
         },
-        _ => None,
+        None => None,
     }
 }
 

@@ -5,9 +5,9 @@ ghost use Rattle.weld_eval.specs.Answers.{Answers};
 ghost use Rattle.weld_eval.specs.FrameView.{env_of};
 ghost use Rattle.weld_eval.specs.ThingView.{held_of};
 ghost use Rattle.weld_eval_forms.specs.Legs.{elements_in, leg_lists, IsVector, AreVectors};
-ghost use Rattle.weld_eval_plain.specs.Nodes.{IsStrided};
 ghost use Rattle.weld_meaning.specs.Evaluation.{eval_leg as eval_leg_of, eval_legs as eval_legs_of};
 ghost use Rattle.weld_rows.specs.Runs.{LegRuns, LegsRun};
+ghost use Rattle.weld_tree.specs.ExprTree as tree;
 ghost use Rattle.weld_tree.specs.ExprTree.{pack_legs};
 ghost use Rattle.weld_tree.specs.ExprView.{view_leg};
 
@@ -18,7 +18,7 @@ use weld_data::Stop;
 use weld_eval::frame::Frame;
 use weld_eval::thing::Held;
 use weld_eval_forms::legs::{strided, whole};
-use weld_tree::{Leg, Legs};
+use weld_tree::{Expr, Leg, Legs};
 
 /// The vectors of the legs.
 #[cycle(rows)]
@@ -49,7 +49,7 @@ pub(super) fn eval_legs<'a>(
 
 /// The vector of one leg.
 #[cycle(rows)]
-#[tactic(auto, using(crate::proofs::LegLemmas::whole_runs, weld_eval_plain::proofs::Legs::whole_is_vector))]
+#[tactic(auto, using(crate::proofs::LegLemmas::whole_runs, crate::proofs::LegLemmas::strided_runs, weld_eval_plain::proofs::Legs::whole_is_vector))]
 fn eval_leg<'a>(
     leg: &Leg,
     frame: &'a Frame<'a>,
@@ -66,7 +66,9 @@ fn eval_leg<'a>(
             Ok(v) => Ok(whole(v)),
             Err(stop) => Err(stop),
         },
-        Leg::Strided(_, _, _, _) => eval_strided(leg, frame, in_place, alloc),
+        Leg::Strided(e, start, end, stride) => {
+            eval_strided(e, start, end, stride, frame, in_place, alloc)
+        }
     }
 }
 
@@ -74,48 +76,46 @@ fn eval_leg<'a>(
 #[cycle(rows)]
 #[tactic(auto, using(crate::proofs::LegLemmas::vector_runs, crate::proofs::LegLemmas::start_runs, crate::proofs::LegLemmas::end_runs, crate::proofs::LegLemmas::stride_runs))]
 fn eval_strided<'a>(
-    leg: &Leg,
+    e: &Expr,
+    start: &Expr,
+    end: &Expr,
+    stride: &Expr,
     frame: &'a Frame<'a>,
     in_place: bool,
     alloc: Global,
 ) -> Result<Held<'a>, Stop>
-    requires runs { LegRuns in_place (view_leg leg.now) (env_of frame.now) }
-    requires form { IsStrided (view_leg leg.now) }
-    ensures elements { Answers elements_in result (eval_leg_of (view_leg leg.now)
-        (env_of frame.now)) }
+    requires { LegRuns in_place (tree.strided e.now start.now end.now stride.now)
+        (env_of frame.now) }
+    ensures elements { Answers elements_in result (eval_leg_of (tree.strided e.now start.now end.now
+        stride.now) (env_of frame.now)) }
     ensures vector { IfOk result (λ x. IsVector (held_of x)) }
 {
-    match leg {
-        Leg::Strided(e, start, end, stride) => {
-            let v = match value(e, frame, in_place, alloc) {
-                Ok(v) => v,
-                Err(stop) => return Err(stop),
-            };
-            let start = match value(start, frame, in_place, alloc) {
-                Ok(x) => x,
-                Err(stop) => {
-                    discard(v);
-                    return Err(stop);
-                }
-            };
-            let end = match value(end, frame, in_place, alloc) {
-                Ok(x) => x,
-                Err(stop) => {
-                    discard(v);
-                    discard(start);
-                    return Err(stop);
-                }
-            };
-            match value(stride, frame, in_place, alloc) {
-                Ok(stride) => strided(v, start, end, stride, alloc),
-                Err(stop) => {
-                    discard(v);
-                    discard(start);
-                    discard(end);
-                    Err(stop)
-                }
-            }
+    let v = match value(e, frame, in_place, alloc) {
+        Ok(v) => v,
+        Err(stop) => return Err(stop),
+    };
+    let first = match value(start, frame, in_place, alloc) {
+        Ok(x) => x,
+        Err(stop) => {
+            discard(v);
+            return Err(stop);
         }
-        _ => unreachable!(),
+    };
+    let last = match value(end, frame, in_place, alloc) {
+        Ok(x) => x,
+        Err(stop) => {
+            discard(v);
+            discard(first);
+            return Err(stop);
+        }
+    };
+    match value(stride, frame, in_place, alloc) {
+        Ok(step) => strided(v, first, last, step, alloc),
+        Err(stop) => {
+            discard(v);
+            discard(first);
+            discard(last);
+            Err(stop)
+        }
     }
 }

@@ -14,6 +14,7 @@ ghost use Rattle.weld_eval_plain.specs.Nodes.{IsLoop};
 ghost use Rattle.weld_eval_plain.specs.Rows.{LegsAre};
 ghost use Rattle.weld_meaning.specs.Evaluation.{eval as eval_of, one_thing};
 ghost use Rattle.weld_meaning.specs.Thing.{Thing};
+ghost use Rattle.weld_rows.specs.Nodes.{IsLoopFrom};
 ghost use Rattle.weld_rows.specs.Numbers.{TriesNumber};
 ghost use Rattle.weld_rows.specs.Runs.{Runs};
 ghost use Rattle.weld_tree.specs.ExprTree.{finish};
@@ -34,26 +35,24 @@ use weld_tree::{Expr, Form, OneForm};
 
 /// A loop over a vector that is lent.
 #[cycle(rows)]
-#[tactic(auto, using(crate::proofs::Values::loop_start_runs, crate::proofs::Values::lone_ready, crate::proofs::Values::lone_gives, crate::proofs::Values::lone_start_faults))]
+#[tactic(auto, using(crate::proofs::Nodes::start_runs, crate::proofs::Nodes::lone_gives, crate::proofs::Nodes::lone_start_faults))]
 #[inline(never)]
 pub(super) fn value_on<'a>(
     e: &Expr,
+    start: &Expr,
     frame: &'a Frame<'a>,
     column: &Column,
     in_place: bool,
     alloc: Global,
 ) -> Result<Held<'a>, Stop>
     requires runs { Runs in_place e.now (env_of frame.now) }
-    requires form { IsLoop e.now }
+    requires form { IsLoopFrom e.now start.now }
     requires legs { LegsAre e.now (env_of frame.now) (view_column column.now ∷ []) }
     ensures { Answers held_of result (eval_of e.now (env_of frame.now)) }
 {
-    match &e.form {
-        Form::For(_, start, _, _, _, _) => match started(start, frame, in_place, alloc) {
-            Ok(builder) => fill_on(e, &*frame, column, in_place, builder, alloc),
-            Err(stop) => Err(stop),
-        },
-        _ => unreachable!(),
+    match started(start, frame, in_place, alloc) {
+        Ok(builder) => fill_on(e, &*frame, column, in_place, builder, alloc),
+        Err(stop) => Err(stop),
     }
 }
 
@@ -177,26 +176,24 @@ fn total_of_loop(
 
 /// What a loop over a vector that is lent does to the builder on which it goes on.
 #[cycle(rows)]
-#[tactic(auto, using(weld_acts::proofs::Children::loop_part_acts, weld_acts::proofs::Children::loop_part_faults, crate::proofs::ActLemmas::lone_act_ready, crate::proofs::ActLemmas::lone_act_gives, crate::proofs::ActLemmas::lone_act_faults))]
+#[tactic(auto, using(crate::proofs::Nodes::start_acts, crate::proofs::Nodes::lone_act_gives, crate::proofs::Nodes::lone_act_faults))]
 pub(super) fn act_on(
     e: &Expr,
+    start: &Expr,
     frame: &Frame,
     column: &Column,
     builder: &mut Owned,
     alloc: Global,
 ) -> Result<(), Stop>
     requires acts { ActFits e.now (env_of frame.now) (thing_of builder.old) }
-    requires form { IsLoop e.now }
+    requires form { IsLoopFrom e.now start.now }
     requires legs { LegsAre e.now (env_of frame.now) (view_column column.now ∷ []) }
     ensures { Acts result (act_of e.now (env_of frame.now) (thing_of builder.old))
         (thing_of builder.new) }
 {
-    match &e.form {
-        Form::For(_, start, _, _, _, _) => match act(start, frame, builder, alloc) {
-            Ok(()) => hand_on(e, frame, column, true, builder, alloc),
-            Err(stop) => Err(stop),
-        },
-        _ => unreachable!(),
+    match act(start, frame, builder, alloc) {
+        Ok(()) => hand_on(e, frame, column, true, builder, alloc),
+        Err(stop) => Err(stop),
     }
 }
 

@@ -158,7 +158,7 @@ fn run_block(
 
 /// The rows of a block, worked out at once where its body allows that.
 #[cycle(rows)]
-#[tactic(auto, using(crate::proofs::RangeSteps::is_ordered))]
+#[tactic(auto, using(crate::proofs::RangeSteps::is_ordered, crate::proofs::RangeSteps::block_ready, crate::proofs::RangeSteps::block_is_done))]
 fn try_block(
     e: &Expr,
     frame: &Frame,
@@ -177,7 +177,7 @@ fn try_block(
         (thing_of builder.old)) (thing_of builder.new) }
 {
     match block_of(e, &*frame, own, &*legs, from, to - from, alloc) {
-        Some(deed) => do_block(e, frame, own, legs, from, to, deed, builder),
+        Some(deed) => do_block(deed, to - from, builder),
         None => walk_block(e, frame, own, legs, from, to, builder, alloc),
     }
 }

@@ -2,13 +2,17 @@
 
 ghost use Rattle.std.specs.Prelude.{◌≡◌, true};
 ghost use Rattle.weld_acts.specs.Act.{AreDirect};
+ghost use Rattle.weld_builders.specs.Outcome.{done};
 ghost use Rattle.weld_data.specs.View.{view_val};
 ghost use Rattle.weld_eval.specs.FrameView.{env_of};
+ghost use Rattle.weld_eval.specs.Takes.{IsPlain};
 ghost use Rattle.weld_eval.specs.ThingView.{held_of};
 ghost use Rattle.weld_eval_plain.specs.Nodes.{IsIterate};
-ghost use Rattle.weld_eval_plain.specs.Turns.{HoldsState, StateAnswers, TurnAnswers, turns_from};
+ghost use Rattle.weld_eval_plain.specs.Turns.{HoldsState, TurnAnswers, turns_from};
 ghost use Rattle.weld_eval.specs.Answers.{Answers};
 ghost use Rattle.weld_meaning.specs.Evaluation.{eval as eval_of, turn_limit};
+ghost use Rattle.weld_meaning.specs.Thing.{Thing};
+ghost use Rattle.weld_rows.specs.Nodes.{value_thing, IsIterateOf};
 ghost use Rattle.weld_rows.specs.Runs.{Runs};
 
 use super::values::value;
@@ -25,17 +29,19 @@ const TURN_LIMIT: u32 = 1_000_000;
 
 /// An `iterate`: its turns, from the state that it starts with.
 #[cycle(rows)]
+#[tactic(auto, using(crate::proofs::Nodes::state_runs, crate::proofs::Nodes::state_is_plain, crate::proofs::Nodes::of_is_iterate))]
 pub(super) fn value_of_iterate<'a>(
     e: &Expr,
+    start: &Expr,
     frame: &'a Frame<'a>,
     in_place: bool,
     alloc: Global,
 ) -> Result<Held<'a>, Stop>
     requires runs { Runs in_place e.now (env_of frame.now) }
-    requires form { IsIterate e.now }
+    requires form { IsIterateOf e.now start.now }
     ensures { Answers held_of result (eval_of e.now (env_of frame.now)) }
 {
-    match first_state(e, &*frame, in_place, alloc) {
+    match first_state(start, &*frame, in_place, alloc) {
         Ok(state) => run_turns(e, frame, in_place, state, alloc),
         Err(stop) => Err(stop),
     }
@@ -45,18 +51,15 @@ pub(super) fn value_of_iterate<'a>(
 #[cycle(rows)]
 fn first_state(e: &Expr, frame: &Frame, in_place: bool, alloc: Global) -> Result<Val, Stop>
     requires runs { Runs in_place e.now (env_of frame.now) }
-    requires form { IsIterate e.now }
-    ensures { StateAnswers result e.now (env_of frame.now) }
+    requires plain { (x : Thing) → eval_of e.now (env_of frame.now) ≡ done x → IsPlain x }
+    ensures { Answers value_thing result (eval_of e.now (env_of frame.now)) }
 {
-    match &e.form {
-        Form::Iterate(start, _, _) => match value(start, &*frame, in_place, alloc) {
-            Ok(x) => match into_value(x, alloc) {
-                Ok(state) => Ok(state),
-                Err(_) => Err(Stop::Memory),
-            },
-            Err(stop) => Err(stop),
+    match value(e, &*frame, in_place, alloc) {
+        Ok(x) => match into_value(x, alloc) {
+            Ok(state) => Ok(state),
+            Err(_) => Err(Stop::Memory),
         },
-        _ => unreachable!(),
+        Err(stop) => Err(stop),
     }
 }
 

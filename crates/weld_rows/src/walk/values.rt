@@ -6,22 +6,26 @@ ghost use Rattle.weld_acts.specs.Ranges.{HoldsRange, range_over};
 ghost use Rattle.weld_eval.specs.FrameView.{env_of};
 ghost use Rattle.weld_eval.specs.LegsView.{lists_of};
 ghost use Rattle.weld_eval.specs.ThingView.{thing_of, held_of};
-ghost use Rattle.weld_eval_forms.specs.FormTakes.{all_of, pack_things};
+ghost use Rattle.weld_eval.specs.Takes.{IsStrict};
+ghost use Rattle.weld_eval_forms.specs.FormTakes.{all_of, pack_things, AreAllEvaluated};
 ghost use Rattle.weld_eval_forms.specs.Legs.{leg_lists, AreVectors};
-ghost use Rattle.weld_eval_plain.specs.Nodes.{IsEither, IsOne, IsIf, IsLet, IsLoop, IsMany, IsBoth, IsThree};
+ghost use Rattle.weld_eval_plain.specs.Nodes.{IsEitherForm, IsLoop};
 ghost use Rattle.weld_eval_plain.specs.Rows.{LegsAre};
 ghost use Rattle.weld_eval.specs.Answers.{Answers};
 ghost use Rattle.weld_meaning.specs.Evaluation.{eval as eval_of, eval_all};
+ghost use Rattle.weld_rows.specs.Nodes.{anywhere, IsLoopFrom, IsLoopOf};
 ghost use Rattle.weld_rows.specs.RowActs.{legs_count};
 ghost use Rattle.weld_rows.specs.Runs.{Runs, RunsNumber, AllRun};
-ghost use Rattle.weld_tree.specs.ExprTree.{pack_exprs};
+ghost use Rattle.weld_tree.specs.ExprTree as tree;
+ghost use Rattle.weld_tree.specs.ExprTree.{pack_exprs, pack_legs};
+ghost use Rattle.weld_tree.specs.ExprView.{view_many, view_one, view_three, view_two};
 
 use super::legs::eval_legs;
 use super::lent::value_on;
 use super::numbers::{either, number, unread};
 use super::rows::hand_through;
 use super::turns::value_of_iterate;
-use crate::forms::{column_of, discard, is_numeric, link, made, no_legs};
+use crate::forms::{column_of, discard, is_either, is_numeric, link, made, no_legs};
 use crate::reads::{lent_field, lent_leg};
 use std::alloc::Global;
 use weld_blocks::scalar::truth_of;
@@ -35,7 +39,9 @@ use weld_eval_forms::several::{many, push_thing};
 use weld_eval_forms::triple::three;
 use weld_eval_forms::twofold::two;
 use weld_eval_forms::unary::one;
-use weld_tree::{Expr, Exprs, Form, ThreeForm, TwoForm};
+use weld_tree::{
+    Binder, Expr, Exprs, Form, Legs as LegForms, ManyForm, OneForm, ThreeForm, TwoForm,
+};
 
 /// What an expression comes to that isn't a builder in place.
 #[cycle(rows)]
@@ -88,20 +94,17 @@ pub(super) fn other<'a>(
 {
     match &e.form {
         Form::Leaf(form) => leaf(form, frame, alloc),
-        Form::One(_, _) => value_of_one(e, frame, in_place, alloc),
-        Form::Two(TwoForm::And, _, _) => value_of_either(e, frame, in_place, alloc),
-        Form::Two(TwoForm::Or, _, _) => value_of_either(e, frame, in_place, alloc),
-        Form::Two(TwoForm::Binary(_), _, _) => value_of_both(e, frame, in_place, alloc),
-        Form::Two(TwoForm::LookUp, _, _) => value_of_both(e, frame, in_place, alloc),
-        Form::Two(TwoForm::KeyExists, _, _) => value_of_both(e, frame, in_place, alloc),
-        Form::Two(TwoForm::Merge, _, _) => value_of_both(e, frame, in_place, alloc),
-        Form::Three(ThreeForm::If, _, _, _) => value_of_if(e, frame, in_place, alloc),
-        Form::Three(ThreeForm::Select, _, _, _) => value_of_three(e, frame, in_place, alloc),
-        Form::Three(ThreeForm::Slice, _, _, _) => value_of_three(e, frame, in_place, alloc),
-        Form::Many(_, _) => value_of_many(e, frame, in_place, alloc),
-        Form::Let(_, _, _) => value_of_let(e, frame, in_place, alloc),
-        Form::For(_, _, _, _, _, _) => value_of_loop(e, frame, in_place, alloc),
-        Form::Iterate(_, _, _) => value_of_iterate(e, frame, in_place, alloc),
+        Form::One(form, part) => value_of_one(form, part, frame, in_place, alloc),
+        Form::Two(form, first, second) => {
+            value_of_two(*form, first, second, frame, in_place, alloc)
+        }
+        Form::Three(form, first, second, third) => {
+            value_of_three(*form, first, second, third, frame, in_place, alloc)
+        }
+        Form::Many(form, parts) => value_of_many(*form, parts, frame, in_place, alloc),
+        Form::Let(binder, first, body) => value_of_let(binder, first, body, frame, in_place, alloc),
+        Form::For(legs, start, _, _, _, _) => value_of_loop(e, legs, start, frame, in_place, alloc),
+        Form::Iterate(start, _, _) => value_of_iterate(e, start, frame, in_place, alloc),
     }
 }
 
@@ -110,29 +113,28 @@ pub(super) fn other<'a>(
 #[tactic(auto, using(crate::proofs::Values::part_runs, crate::proofs::Values::part_run_takes))]
 #[inline(never)]
 fn value_of_one<'a>(
-    e: &Expr,
+    form: &OneForm,
+    part: &Expr,
     frame: &'a Frame<'a>,
     in_place: bool,
     alloc: Global,
 ) -> Result<Held<'a>, Stop>
-    requires runs { Runs in_place e.now (env_of frame.now) }
-    requires form { IsOne e.now }
-    ensures { Answers held_of result (eval_of e.now (env_of frame.now)) }
+    requires { Runs in_place (tree.one anywhere (view_one form.now) part.now) (env_of frame.now) }
+    ensures { Answers held_of result (eval_of (tree.one anywhere (view_one form.now) part.now)
+        (env_of frame.now)) }
 {
-    match &e.form {
-        Form::One(form, part) => match lent_field(e, frame) {
-            Some(x) => Ok(x),
-            None => match part_value(part, frame, in_place, alloc) {
-                Ok(x) => one(form, x, alloc),
-                Err(stop) => Err(stop),
-            },
+    match lent_field(form, part, frame) {
+        Some(x) => Ok(x),
+        None => match part_value(part, frame, in_place, alloc) {
+            Ok(x) => one(form, x, alloc),
+            Err(stop) => Err(stop),
         },
-        _ => unreachable!(),
     }
 }
 
 /// The part of such a form: a loop, whose result is wanted most often, is looked for first.
 #[cycle(rows)]
+#[tactic(auto, using(crate::proofs::Nodes::loop_is_of))]
 #[inline(always)]
 fn part_value<'a>(
     e: &Expr,
@@ -144,8 +146,32 @@ fn part_value<'a>(
     ensures { Answers held_of result (eval_of e.now (env_of frame.now)) }
 {
     match &e.form {
-        Form::For(_, _, _, _, _, _) => value_of_loop(e, frame, in_place, alloc),
+        Form::For(legs, start, _, _, _, _) => value_of_loop(e, legs, start, frame, in_place, alloc),
         _ => value(e, frame, in_place, alloc),
+    }
+}
+
+/// A form of two parts.
+#[cycle(rows)]
+#[tactic(auto, using(crate::proofs::Nodes::is_either_form, crate::proofs::Nodes::is_strict_form))]
+#[inline(always)]
+fn value_of_two<'a>(
+    form: TwoForm,
+    first: &Expr,
+    second: &Expr,
+    frame: &'a Frame<'a>,
+    in_place: bool,
+    alloc: Global,
+) -> Result<Held<'a>, Stop>
+    requires { Runs in_place (tree.two anywhere (view_two form) first.now second.now)
+        (env_of frame.now) }
+    ensures { Answers held_of result (eval_of (tree.two anywhere (view_two form) first.now
+        second.now) (env_of frame.now)) }
+{
+    if is_either(form) {
+        value_of_either(form, first, second, frame, in_place, alloc)
+    } else {
+        value_of_both(form, first, second, frame, in_place, alloc)
     }
 }
 
@@ -153,16 +179,20 @@ fn part_value<'a>(
 #[cycle(rows)]
 #[tactic(auto, using(crate::proofs::Numbers::either_runs))]
 fn value_of_either<'a>(
-    e: &Expr,
+    form: TwoForm,
+    first: &Expr,
+    second: &Expr,
     frame: &'a Frame<'a>,
     in_place: bool,
     alloc: Global,
 ) -> Result<Held<'a>, Stop>
-    requires runs { Runs in_place e.now (env_of frame.now) }
-    requires form { IsEither e.now }
-    ensures { Answers held_of result (eval_of e.now (env_of frame.now)) }
+    requires runs { Runs in_place (tree.two anywhere (view_two form) first.now second.now)
+        (env_of frame.now) }
+    requires form { IsEitherForm (view_two form) }
+    ensures { Answers held_of result (eval_of (tree.two anywhere (view_two form) first.now
+        second.now) (env_of frame.now)) }
 {
-    match either(e, &*frame, in_place, alloc) {
+    match either(form, first, second, &*frame, in_place, alloc) {
         Ok(n) => Ok(number_held(n.to_num())),
         Err(stop) => Err(stop),
     }
@@ -170,33 +200,56 @@ fn value_of_either<'a>(
 
 /// A form of two parts that evaluates both.
 #[cycle(rows)]
-#[tactic(auto, using(crate::proofs::Parts::first_runs, crate::proofs::Parts::second_runs, weld_eval_plain::proofs::Nodes::both_take))]
+#[tactic(auto, using(crate::proofs::Parts::first_runs, crate::proofs::Parts::second_runs, crate::proofs::Parts::both_take))]
 #[inline(never)]
 fn value_of_both<'a>(
-    e: &Expr,
+    form: TwoForm,
+    first: &Expr,
+    second: &Expr,
     frame: &'a Frame<'a>,
     in_place: bool,
     alloc: Global,
 ) -> Result<Held<'a>, Stop>
-    requires runs { Runs in_place e.now (env_of frame.now) }
-    requires form { IsBoth e.now }
-    ensures { Answers held_of result (eval_of e.now (env_of frame.now)) }
+    requires runs { Runs in_place (tree.two anywhere (view_two form) first.now second.now)
+        (env_of frame.now) }
+    requires form { IsStrict (view_two form) }
+    ensures { Answers held_of result (eval_of (tree.two anywhere (view_two form) first.now
+        second.now) (env_of frame.now)) }
 {
-    match &e.form {
-        Form::Two(form, first, second) => {
-            let x = match value(first, frame, in_place, alloc) {
-                Ok(x) => x,
-                Err(stop) => return Err(stop),
-            };
-            match value(second, frame, in_place, alloc) {
-                Ok(y) => two(*form, x, y, alloc),
-                Err(stop) => {
-                    discard(x);
-                    Err(stop)
-                }
-            }
+    let x = match value(first, frame, in_place, alloc) {
+        Ok(x) => x,
+        Err(stop) => return Err(stop),
+    };
+    match value(second, frame, in_place, alloc) {
+        Ok(y) => two(form, x, y, alloc),
+        Err(stop) => {
+            discard(x);
+            Err(stop)
         }
-        _ => unreachable!(),
+    }
+}
+
+/// A form of three parts.
+#[cycle(rows)]
+#[inline(always)]
+fn value_of_three<'a>(
+    form: ThreeForm,
+    first: &Expr,
+    second: &Expr,
+    third: &Expr,
+    frame: &'a Frame<'a>,
+    in_place: bool,
+    alloc: Global,
+) -> Result<Held<'a>, Stop>
+    requires { Runs in_place (tree.three anywhere (view_three form) first.now second.now third.now)
+        (env_of frame.now) }
+    ensures { Answers held_of result (eval_of (tree.three anywhere (view_three form) first.now
+        second.now third.now) (env_of frame.now)) }
+{
+    match form {
+        ThreeForm::If => value_of_if(first, second, third, frame, in_place, alloc),
+        ThreeForm::Select => value_of_all(form, first, second, third, frame, in_place, alloc),
+        ThreeForm::Slice => value_of_all(form, first, second, third, frame, in_place, alloc),
     }
 }
 
@@ -204,91 +257,88 @@ fn value_of_both<'a>(
 #[cycle(rows)]
 #[tactic(auto, using(crate::proofs::Numbers::value_condition_runs, crate::proofs::Numbers::value_is_truth, crate::proofs::Values::then_run, crate::proofs::Values::otherwise_run, crate::proofs::Numbers::if_is_then, crate::proofs::Numbers::if_is_otherwise))]
 fn value_of_if<'a>(
-    e: &Expr,
+    condition: &Expr,
+    then: &Expr,
+    otherwise: &Expr,
     frame: &'a Frame<'a>,
     in_place: bool,
     alloc: Global,
 ) -> Result<Held<'a>, Stop>
-    requires runs { Runs in_place e.now (env_of frame.now) }
-    requires form { IsIf e.now }
-    ensures { Answers held_of result (eval_of e.now (env_of frame.now)) }
+    requires { Runs in_place (tree.three anywhere tree.if_else condition.now then.now otherwise.now)
+        (env_of frame.now) }
+    ensures { Answers held_of result (eval_of (tree.three anywhere tree.if_else condition.now
+        then.now otherwise.now) (env_of frame.now)) }
 {
-    match &e.form {
-        Form::Three(_, condition, then, otherwise) => {
-            let chosen = match number(condition, &*frame, in_place, alloc) {
-                Ok(x) => truth_of(x),
-                Err(stop) => return Err(stop),
-            };
-            if chosen {
-                value(then, frame, in_place, alloc)
-            } else {
-                value(otherwise, frame, in_place, alloc)
-            }
-        }
-        _ => unreachable!(),
+    let chosen = match number(condition, &*frame, in_place, alloc) {
+        Ok(x) => truth_of(x),
+        Err(stop) => return Err(stop),
+    };
+    if chosen {
+        value(then, frame, in_place, alloc)
+    } else {
+        value(otherwise, frame, in_place, alloc)
     }
 }
 
 /// A form of three parts that evaluates all of them.
 #[cycle(rows)]
-#[tactic(auto, using(crate::proofs::Parts::condition_runs, crate::proofs::Values::then_run, crate::proofs::Values::otherwise_run, weld_eval_plain::proofs::Nodes::all_take))]
+#[tactic(auto, using(crate::proofs::Parts::condition_runs, crate::proofs::Values::then_run, crate::proofs::Values::otherwise_run, crate::proofs::Parts::all_take))]
 #[inline(never)]
-fn value_of_three<'a>(
-    e: &Expr,
+fn value_of_all<'a>(
+    form: ThreeForm,
+    first: &Expr,
+    second: &Expr,
+    third: &Expr,
     frame: &'a Frame<'a>,
     in_place: bool,
     alloc: Global,
 ) -> Result<Held<'a>, Stop>
-    requires runs { Runs in_place e.now (env_of frame.now) }
-    requires form { IsThree e.now }
-    ensures { Answers held_of result (eval_of e.now (env_of frame.now)) }
+    requires runs { Runs in_place (tree.three anywhere (view_three form) first.now second.now
+        third.now) (env_of frame.now) }
+    requires form { AreAllEvaluated (view_three form) }
+    ensures { Answers held_of result (eval_of (tree.three anywhere (view_three form) first.now
+        second.now third.now) (env_of frame.now)) }
 {
-    match &e.form {
-        Form::Three(form, first, second, third) => {
-            let x = match value(first, frame, in_place, alloc) {
-                Ok(x) => x,
-                Err(stop) => return Err(stop),
-            };
-            let y = match value(second, frame, in_place, alloc) {
-                Ok(y) => y,
-                Err(stop) => {
-                    discard(x);
-                    return Err(stop);
-                }
-            };
-            match value(third, frame, in_place, alloc) {
-                Ok(z) => three(*form, x, y, z, alloc),
-                Err(stop) => {
-                    discard(x);
-                    discard(y);
-                    Err(stop)
-                }
-            }
+    let x = match value(first, frame, in_place, alloc) {
+        Ok(x) => x,
+        Err(stop) => return Err(stop),
+    };
+    let y = match value(second, frame, in_place, alloc) {
+        Ok(y) => y,
+        Err(stop) => {
+            discard(x);
+            return Err(stop);
         }
-        _ => unreachable!(),
+    };
+    match value(third, frame, in_place, alloc) {
+        Ok(z) => three(form, x, y, z, alloc),
+        Err(stop) => {
+            discard(x);
+            discard(y);
+            Err(stop)
+        }
     }
 }
 
 /// A vector or a struct.
 #[cycle(rows)]
-#[tactic(auto, using(crate::proofs::Parts::parts_run, weld_eval_plain::proofs::Parts::parts_take))]
+#[tactic(auto, using(crate::proofs::Parts::parts_run, crate::proofs::Parts::parts_take))]
 #[inline(never)]
 fn value_of_many<'a>(
-    e: &Expr,
+    form: ManyForm,
+    parts: &Exprs,
     frame: &'a Frame<'a>,
     in_place: bool,
     alloc: Global,
 ) -> Result<Held<'a>, Stop>
-    requires runs { Runs in_place e.now (env_of frame.now) }
-    requires form { IsMany e.now }
-    ensures { Answers held_of result (eval_of e.now (env_of frame.now)) }
+    requires { Runs in_place (tree.many anywhere (view_many form) (pack_exprs parts.now))
+        (env_of frame.now) }
+    ensures { Answers held_of result (eval_of (tree.many anywhere (view_many form)
+        (pack_exprs parts.now)) (env_of frame.now)) }
 {
-    match &e.form {
-        Form::Many(form, parts) => match things(parts, &*frame, in_place, alloc) {
-            Ok(things) => many(*form, things, alloc),
-            Err(stop) => Err(stop),
-        },
-        _ => unreachable!(),
+    match things(parts, &*frame, in_place, alloc) {
+        Ok(things) => many(form, things, alloc),
+        Err(stop) => Err(stop),
     }
 }
 
@@ -317,104 +367,96 @@ fn things(parts: &Exprs, frame: &Frame, in_place: bool, alloc: Global) -> Result
 #[cycle(rows)]
 #[tactic(auto, using(crate::proofs::Values::let_value_runs, crate::proofs::Values::let_body_runs))]
 fn value_of_let<'a>(
-    e: &Expr,
+    binder: &Binder,
+    first: &Expr,
+    body: &Expr,
     frame: &'a Frame<'a>,
     in_place: bool,
     alloc: Global,
 ) -> Result<Held<'a>, Stop>
-    requires runs { Runs in_place e.now (env_of frame.now) }
-    requires form { IsLet e.now }
-    ensures { Answers held_of result (eval_of e.now (env_of frame.now)) }
+    requires { Runs in_place (tree.let_in anywhere binder.now first.now body.now)
+        (env_of frame.now) }
+    ensures { Answers held_of result (eval_of (tree.let_in anywhere binder.now first.now body.now)
+        (env_of frame.now)) }
 {
-    match &e.form {
-        Form::Let(binder, first, body) => {
-            let x = match value(first, frame, in_place, alloc) {
-                Ok(x) => x,
-                Err(stop) => return Err(stop),
-            };
-            let inner = bind(binder.sym, &x, &*frame);
-            match value(body, &inner, in_place, alloc) {
-                Ok(y) => made(y, alloc),
-                Err(stop) => Err(stop),
-            }
-        }
-        _ => unreachable!(),
+    let x = match value(first, frame, in_place, alloc) {
+        Ok(x) => x,
+        Err(stop) => return Err(stop),
+    };
+    let inner = bind(binder.sym, &x, &*frame);
+    match value(body, &inner, in_place, alloc) {
+        Ok(y) => made(y, alloc),
+        Err(stop) => Err(stop),
     }
 }
 
 /// A loop: over a vector that is lent, or over legs that are evaluated.
 #[cycle(rows)]
-#[tactic(auto, using(crate::proofs::Values::legs_fit))]
+#[tactic(auto, using(crate::proofs::Nodes::legs_fit, crate::proofs::Nodes::legs_are, crate::proofs::Nodes::of_is_from))]
 fn value_of_loop<'a>(
     e: &Expr,
+    legs: &LegForms,
+    start: &Expr,
     frame: &'a Frame<'a>,
     in_place: bool,
     alloc: Global,
 ) -> Result<Held<'a>, Stop>
     requires runs { Runs in_place e.now (env_of frame.now) }
-    requires form { IsLoop e.now }
+    requires form { IsLoopOf e.now (pack_legs legs.now) start.now }
     ensures { Answers held_of result (eval_of e.now (env_of frame.now)) }
 {
-    match &e.form {
-        Form::For(legs, _, _, _, _, _) => match lent_leg(legs, frame) {
-            Some(column) => value_on(e, frame, column, in_place, alloc),
-            None => value_of_legs(e, frame, in_place, alloc),
-        },
-        _ => unreachable!(),
+    match lent_leg(legs, frame) {
+        Some(column) => value_on(e, start, frame, column, in_place, alloc),
+        None => value_of_legs(e, legs, start, frame, in_place, alloc),
     }
 }
 
 /// A loop: its legs, then its builder, then its rows.
 #[cycle(rows)]
-#[tactic(auto, using(crate::proofs::Values::loop_legs_run, weld_eval_plain::proofs::Rows::loop_legs_fault))]
+#[tactic(auto, using(crate::proofs::Nodes::legs_run, crate::proofs::Nodes::legs_are, crate::proofs::Nodes::legs_fault, crate::proofs::Nodes::of_is_from))]
 #[inline(never)]
 fn value_of_legs<'a>(
     e: &Expr,
+    legs: &LegForms,
+    start: &Expr,
     frame: &'a Frame<'a>,
     in_place: bool,
     alloc: Global,
 ) -> Result<Held<'a>, Stop>
     requires runs { Runs in_place e.now (env_of frame.now) }
-    requires form { IsLoop e.now }
+    requires form { IsLoopOf e.now (pack_legs legs.now) start.now }
     ensures { Answers held_of result (eval_of e.now (env_of frame.now)) }
 {
-    match &e.form {
-        Form::For(legs, _, _, _, _, _) => match eval_legs(legs, frame, in_place, alloc) {
-            Ok(vectors) => value_over(e, frame, &vectors, in_place, alloc),
-            Err(stop) => Err(stop),
-        },
-        _ => unreachable!(),
+    match eval_legs(legs, frame, in_place, alloc) {
+        Ok(vectors) => value_over(e, start, frame, &vectors, in_place, alloc),
+        Err(stop) => Err(stop),
     }
 }
 
 /// A loop over legs that are evaluated.
 #[cycle(rows)]
-#[tactic(auto, using(crate::proofs::Values::loop_start_runs, crate::proofs::Values::over_count, crate::proofs::Values::over_holds, crate::proofs::Values::over_is, crate::proofs::Values::over_rows_fault, crate::proofs::Values::over_start_faults, crate::proofs::Values::as_many))]
+#[tactic(auto, using(crate::proofs::Nodes::start_runs, crate::proofs::Nodes::over_count, crate::proofs::Nodes::over_gives, crate::proofs::Nodes::over_rows_fault, crate::proofs::Nodes::over_start_faults))]
 fn value_over<'a>(
     e: &Expr,
+    start: &Expr,
     frame: &'a Frame<'a>,
     vectors: &[Held],
     in_place: bool,
     alloc: Global,
 ) -> Result<Held<'a>, Stop>
     requires runs { Runs in_place e.now (env_of frame.now) }
-    requires form { IsLoop e.now }
+    requires form { IsLoopFrom e.now start.now }
     requires legs { LegsAre e.now (env_of frame.now) (leg_lists vectors.now) }
     requires vectors { AreVectors vectors.now }
     ensures { Answers held_of result (eval_of e.now (env_of frame.now)) }
 {
-    match &e.form {
-        Form::For(_, start, _, _, _, _) => {
-            let count = match count_rows(vectors) {
-                Ok(count) => count,
-                Err(stop) => return Err(stop),
-            };
-            match value(start, frame, in_place, alloc) {
-                Ok(builder) => fill(e, &*frame, vectors, count, in_place, builder, alloc),
-                Err(stop) => Err(stop),
-            }
-        }
-        _ => unreachable!(),
+    let count = match count_rows(vectors) {
+        Ok(count) => count,
+        Err(stop) => return Err(stop),
+    };
+    match value(start, frame, in_place, alloc) {
+        Ok(builder) => fill(e, &*frame, vectors, count, in_place, builder, alloc),
+        Err(stop) => Err(stop),
     }
 }
 

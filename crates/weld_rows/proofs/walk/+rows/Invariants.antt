@@ -26,16 +26,22 @@ abbrev pub decreases-numbers::compound : goal.decreases-numbers::compound
 decreases-numbers::compound l = 64 * expr_nodes l.e.now + 12
 
 abbrev pub decreases-numbers::binary : goal.decreases-numbers::binary
-decreases-numbers::binary l = 64 * expr_nodes l.e.now + 9
+decreases-numbers::binary l = 64 * (1 + (expr_nodes l.first.now + expr_nodes l.second.now)) + 9
 
 abbrev pub decreases-numbers::either : goal.decreases-numbers::either
-decreases-numbers::either l = 64 * expr_nodes l.e.now + 6
+decreases-numbers::either l = 64 * (1 + (expr_nodes l.first.now + expr_nodes l.second.now)) + 5
 
 abbrev pub decreases-numbers::choice : goal.decreases-numbers::choice
-decreases-numbers::choice l = 64 * expr_nodes l.e.now + 9
+decreases-numbers::choice l = 64 * (1 + (expr_nodes l.condition.now + expr_nodes l.then.now + expr_nodes l.otherwise.now)) + 9
 
-abbrev pub decreases-numbers::on_number : goal.decreases-numbers::on_number
-decreases-numbers::on_number l = 64 * expr_nodes l.e.now + 9
+abbrev pub decreases-numbers::opposite : goal.decreases-numbers::opposite
+decreases-numbers::opposite l = 64 * (1 + expr_nodes l.part.now) + 9
+
+abbrev pub decreases-numbers::other_truth : goal.decreases-numbers::other_truth
+decreases-numbers::other_truth l = 64 * (1 + expr_nodes l.part.now) + 9
+
+abbrev pub decreases-numbers::converted : goal.decreases-numbers::converted
+decreases-numbers::converted l = 64 * (1 + expr_nodes l.part.now) + 9
 
 abbrev pub decreases-numbers::in_value : goal.decreases-numbers::in_value
 decreases-numbers::in_value l = 64 * expr_nodes l.e.now + 10
@@ -50,16 +56,19 @@ abbrev pub decreases-values::other : goal.decreases-values::other
 decreases-values::other l = 64 * expr_nodes l.e.now + 8
 
 abbrev pub decreases-values::value_of_one : goal.decreases-values::value_of_one
-decreases-values::value_of_one l = 64 * expr_nodes l.e.now + 7
+decreases-values::value_of_one l = 64 * (1 + expr_nodes l.part.now) + 7
+
+abbrev pub decreases-values::value_of_two : goal.decreases-values::value_of_two
+decreases-values::value_of_two l = 64 * (1 + (expr_nodes l.first.now + expr_nodes l.second.now)) + 7
 
 abbrev pub decreases-values::value_of_either : goal.decreases-values::value_of_either
-decreases-values::value_of_either l = 64 * expr_nodes l.e.now + 7
+decreases-values::value_of_either l = 64 * (1 + (expr_nodes l.first.now + expr_nodes l.second.now)) + 6
 
 abbrev pub decreases-values::value_of_if : goal.decreases-values::value_of_if
-decreases-values::value_of_if l = 64 * expr_nodes l.e.now + 7
+decreases-values::value_of_if l = 64 * (1 + (expr_nodes l.condition.now + expr_nodes l.then.now + expr_nodes l.otherwise.now)) + 6
 
 abbrev pub decreases-values::value_of_let : goal.decreases-values::value_of_let
-decreases-values::value_of_let l = 64 * expr_nodes l.e.now + 7
+decreases-values::value_of_let l = 64 * (1 + (expr_nodes l.first.now + expr_nodes l.body.now)) + 7
 
 abbrev pub decreases-values::value_of_loop : goal.decreases-values::value_of_loop
 decreases-values::value_of_loop l = 64 * expr_nodes l.e.now + 7
@@ -110,16 +119,16 @@ abbrev pub decreases-acts::act : goal.decreases-acts::act
 decreases-acts::act l = 64 * expr_nodes l.e.now + 31
 
 abbrev pub decreases-acts::act_merge : goal.decreases-acts::act_merge
-decreases-acts::act_merge l = 64 * expr_nodes l.e.now + 30
+decreases-acts::act_merge l = 64 * (1 + (expr_nodes l.first.now + expr_nodes l.item.now)) + 30
 
 abbrev pub decreases-acts::act_if : goal.decreases-acts::act_if
-decreases-acts::act_if l = 64 * expr_nodes l.e.now + 30
+decreases-acts::act_if l = 64 * (1 + (expr_nodes l.condition.now + expr_nodes l.then.now + expr_nodes l.otherwise.now)) + 30
 
 abbrev pub decreases-acts::act_let : goal.decreases-acts::act_let
-decreases-acts::act_let l = 64 * expr_nodes l.e.now + 30
+decreases-acts::act_let l = 64 * (1 + (expr_nodes l.first.now + expr_nodes l.body.now)) + 30
 
 abbrev pub decreases-acts::act_let_value : goal.decreases-acts::act_let_value
-decreases-acts::act_let_value l = 64 * expr_nodes l.e.now + 29
+decreases-acts::act_let_value l = 64 * (1 + (expr_nodes l.first.now + expr_nodes l.body.now)) + 29
 
 abbrev pub decreases-acts::act_loop : goal.decreases-acts::act_loop
 decreases-acts::act_loop l = 64 * expr_nodes l.e.now + 30
@@ -128,7 +137,7 @@ abbrev pub decreases-acts::act_over : goal.decreases-acts::act_over
 decreases-acts::act_over l = 64 * expr_nodes l.e.now + 28
 
 abbrev pub decreases-acts::act_struct : goal.decreases-acts::act_struct
-decreases-acts::act_struct l = 64 * expr_nodes l.e.now + 30
+decreases-acts::act_struct l = 64 * (1 + exprs_nodes (pack_exprs l.parts.now)) + 30
 
 abbrev pub decreases-acts::put : goal.decreases-acts::put
 decreases-acts::put l = 64 * expr_nodes l.item.now + 21
@@ -188,16 +197,19 @@ abbrev pub decreases-acts::act_fields : goal.decreases-acts::act_fields
 decreases-acts::act_fields l = 64 * exprs_nodes (pack_exprs (drop l.number l.parts.now)) + 32
 
 abbrev pub decreases-numbers::selection : goal.decreases-numbers::selection
-decreases-numbers::selection l = 64 * expr_nodes l.e.now + 9
+decreases-numbers::selection l = 64 * (1 + (expr_nodes l.condition.now + expr_nodes l.then.now + expr_nodes l.otherwise.now)) + 9
 
 abbrev pub decreases-values::value_of_both : goal.decreases-values::value_of_both
-decreases-values::value_of_both l = 64 * expr_nodes l.e.now + 7
+decreases-values::value_of_both l = 64 * (1 + (expr_nodes l.first.now + expr_nodes l.second.now)) + 6
 
 abbrev pub decreases-values::value_of_three : goal.decreases-values::value_of_three
-decreases-values::value_of_three l = 64 * expr_nodes l.e.now + 7
+decreases-values::value_of_three l = 64 * (1 + (expr_nodes l.first.now + expr_nodes l.second.now + expr_nodes l.third.now)) + 7
+
+abbrev pub decreases-values::value_of_all : goal.decreases-values::value_of_all
+decreases-values::value_of_all l = 64 * (1 + (expr_nodes l.first.now + expr_nodes l.second.now + expr_nodes l.third.now)) + 6
 
 abbrev pub decreases-values::value_of_many : goal.decreases-values::value_of_many
-decreases-values::value_of_many l = 64 * expr_nodes l.e.now + 7
+decreases-values::value_of_many l = 64 * (1 + exprs_nodes (pack_exprs l.parts.now)) + 7
 
 abbrev pub decreases-values::things : goal.decreases-values::things
 decreases-values::things l = 64 * exprs_nodes (pack_exprs l.parts.now) + 16
@@ -206,7 +218,7 @@ abbrev pub decreases-turns::value_of_iterate : goal.decreases-turns::value_of_it
 decreases-turns::value_of_iterate l = 64 * expr_nodes l.e.now + 7
 
 abbrev pub decreases-turns::first_state : goal.decreases-turns::first_state
-decreases-turns::first_state l = 64 * expr_nodes l.e.now + 6
+decreases-turns::first_state l = 64 * expr_nodes l.e.now + 16
 
 abbrev pub decreases-turns::run_turns : goal.decreases-turns::run_turns
 decreases-turns::run_turns l = 64 * expr_nodes l.e.now + 6
@@ -230,7 +242,7 @@ abbrev pub decreases-legs::eval_leg : goal.decreases-legs::eval_leg
 decreases-legs::eval_leg l = 64 * leg_nodes (view_leg l.leg.now) + 19
 
 abbrev pub decreases-legs::eval_strided : goal.decreases-legs::eval_strided
-decreases-legs::eval_strided l = 64 * leg_nodes (view_leg l.leg.now) + 18
+decreases-legs::eval_strided l = 64 * (expr_nodes l.e.now + expr_nodes l.start.now + expr_nodes l.end.now + expr_nodes l.stride.now) + 18
 
 -- the builder has come so far
 
