@@ -11,14 +11,6 @@ abbrev pub merge_all : Part → List Value → Outcome Part
 merge_all p [] = done p
 merge_all p (v ∷ vs) = and_then (merge_part p v) (λ q. merge_all q vs)
 
-abbrev pub is_list_part : Part → Bool
-is_list_part (list_part vs) = true
-is_list_part (total_part op k x) = false
-is_list_part (totals_part op xs) = false
-is_list_part (cells_part op k xs) = false
-is_list_part (keyed_part op k m) = false
-is_list_part (groups_part m) = false
-
 -- numbers of the kind are items of the builder: of a list any are, of a total those of its kind
 abbrev pub TakesNumbers : Part → Kind → Type 0
 TakesNumbers (list_part vs) kind = Unit {0}

@@ -68,7 +68,7 @@ impl Built {
     ghost use Rattle.weld_builders.specs.Part.{total_part, list_shape, total_shape, cells_shape, keyed_shape, groups_shape, start_part, shape_of, bare, merge_part, after_part, result_of};
     ghost use Rattle.weld_builders.specs.Range.{AllInRange, IsInRange};
     ghost use Rattle.weld_builders.specs.Outcome.{done};
-    ghost use Rattle.weld_built.specs.Merges.{merge_all, is_list_part, TakesNumbers, TakesPairs, MayAppend};
+    ghost use Rattle.weld_built.specs.Merges.{merge_all, TakesNumbers, TakesPairs, MayAppend};
     ghost use Rattle.weld_built.specs.Logged.{IsItemOf, HasResult};
     ghost use Rattle.weld_built.specs.Pair.{pair, number_pairs};
     ghost use Rattle.weld_built.specs.State.{MergeAnswer};
@@ -247,19 +247,17 @@ impl Built {
         values_into(&mut self.state, key, number_of(kind, x))
     }
 
-    /// Whether it is a list. It takes no memory.
-    pub fn is_list(&self) -> bool
-        ensures { result ≡ is_list_part self.now }
-    {
+    /// Whether it may take structs of numbers at once: as a list, or as totals of fields. It takes no memory.
+    pub fn takes_rows(&self) -> bool {
         match &self.state {
-            State::List(_, _) => true,
+            State::List(_, _) | State::Totals(_, _) => true,
             _ => false,
         }
     }
 
-    /// Appends so many items that are structs of numbers of these kinds, whose numbers stand one after another, where the builder
-    /// is a list; it tells whether it is. Else nothing changes.
-    pub fn append_rows(
+    /// Merges so many items that are structs of numbers of these kinds, whose numbers stand one after another, where the builder
+    /// is a list, or totals of fields of these kinds; it tells whether it is. Else nothing changes.
+    pub fn merge_rows(
         &mut self,
         kinds: &[Kind],
         numbers: &[i64],

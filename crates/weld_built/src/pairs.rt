@@ -17,7 +17,7 @@ use crate::fitting::number_of;
 use crate::groups::push_item;
 use crate::keyed::{merge_number, merge_numbers, merge_value};
 use crate::list;
-use crate::rows::{push_pairs, push_two};
+use crate::rows::{push_pairs, push_two, side_by_side};
 use crate::totals::merge_two;
 use weld_data::{Kind, Stop, Val};
 use weld_pieces::fields::as_number;
@@ -127,6 +127,13 @@ pub(crate) fn pairs_into(
             *alloc, items, key_kind, keys, kind, numbers,
         ) {
             Ok(()) => return Ok(()),
+            Err(_) => return Err(Stop::Memory),
+        },
+        State::Totals(alloc, totals) => match side_by_side(*alloc, keys, numbers) {
+            Ok(words) => {
+                totals.merge_rows(&words, keys.len());
+                return Ok(());
+            }
             Err(_) => return Err(Stop::Memory),
         },
         _ => return each_into(state, key_kind, keys, kind, numbers),

@@ -1,4 +1,4 @@
-//! Structs of numbers as the items of a list, which keeps them by their numbers.
+//! Structs of numbers as the items of a list, which keeps them by their numbers, and of totals, which combine them.
 
 ghost use Rattle.std.specs.Prelude.{◌≡◌, ◌<◌, ◌∷◌, ◌++◌, [], length, zip, get_or, pos, None, IfOk, OnOk};
 ghost use Rattle.weld_builders.specs.Outcome.{done};
@@ -19,7 +19,7 @@ use std::alloc::{AllocError, Global};
 use weld_data::{Kind, Structs};
 use weld_pieces::ListPart;
 
-/// Appends so many structs of numbers to a builder, where it is a list.
+/// Merges so many structs of numbers into a builder, where it is a list or totals of numbers of these kinds.
 #[tactic(auto, using(crate::proofs::ManyLemmas::merged_list))]
 pub(crate) fn rows_into(
     state: &mut State,
@@ -39,6 +39,13 @@ pub(crate) fn rows_into(
             Ok(()) => return Ok(true),
             Err(e) => return Err(e),
         },
+        State::Totals(_, totals) => {
+            if !totals.has_kinds(kinds) {
+                return Ok(false);
+            }
+            totals.merge_rows(numbers, count);
+            return Ok(true);
+        }
         _ => return Ok(false),
     }
 }
@@ -144,7 +151,11 @@ pub(crate) fn push_pairs(
 }
 
 /// The numbers of both, struct by struct.
-fn side_by_side(alloc: Global, keys: &[i64], numbers: &[i64]) -> Result<Vec<i64>, AllocError>
+pub(crate) fn side_by_side(
+    alloc: Global,
+    keys: &[i64],
+    numbers: &[i64],
+) -> Result<Vec<i64>, AllocError>
     requires { length keys.now ≡ length numbers.now }
     ensures { IfOk result (λ words. words.items ≡ interleaved keys.now numbers.now) }
 {

@@ -1,4 +1,4 @@
-//! Structs of numbers that are appended to a list, all rows of a block at once.
+//! Structs of numbers that are merged into a list or into totals, all rows of a block at once.
 
 ghost use Rattle.std.specs.Prelude.{◌≡◌, ◌<◌, ◌≤◌, ◌++◌, [], pos, true, if◌then◌else◌, IfOk, OnOk};
 ghost use Rattle.std.specs.Ordering.{int_eq};
@@ -17,8 +17,8 @@ use weld_built::Built;
 use weld_data::Kind;
 use weld_eval::thing::Owned;
 
-/// Merges the structs of the first rows, so many, where the builder is a list and the fields are of kinds whose numbers lie within
-/// an i64; it tells whether it did. Else nothing changes.
+/// Merges the structs of the first rows, so many, where the builder is a list or totals and the fields are of kinds whose numbers
+/// lie within an i64; it tells whether it did. Else nothing changes.
 pub(crate) fn put_rows(
     columns: &Vec<Numbers>,
     count: usize,
@@ -29,13 +29,13 @@ pub(crate) fn put_rows(
         ≡ done all) (thing_of builder.new) }
 {
     match builder {
-        Owned::Built(built) => append_rows(columns, count, built, *columns.allocator()),
+        Owned::Built(built) => merge_rows(columns, count, built, *columns.allocator()),
         _ => Ok(false),
     }
 }
 
 /// The same of a builder that isn't a struct of such.
-fn append_rows(
+fn merge_rows(
     columns: &[Numbers],
     count: usize,
     built: &mut Built,
@@ -44,12 +44,12 @@ fn append_rows(
     ensures { MayAppend result built.old
         (λ all. merge_all built.old (structs_through columns.now 0 count) ≡ done all) built.new }
 {
-    if !built.is_list() || columns.is_empty() || !are_ready(columns, count) {
+    if !built.takes_rows() || columns.is_empty() || !are_ready(columns, count) {
         return Ok(false);
     }
     let kinds = kinds_of(columns, alloc)?;
     let words = words_of(columns, count, alloc)?;
-    built.append_rows(&kinds, &words, count)
+    built.merge_rows(&kinds, &words, count)
 }
 
 /// The same of those rows alone on which a truth value is true.
@@ -66,15 +66,13 @@ pub(crate) fn put_chosen_rows(
         (thing_of builder.old) ≡ done all) (thing_of builder.new) }
 {
     match builder {
-        Owned::Built(built) => {
-            append_chosen(truths, columns, count, built, *columns.allocator())
-        }
+        Owned::Built(built) => { merge_chosen(truths, columns, count, built, *columns.allocator()) }
         _ => Ok(false),
     }
 }
 
 /// The same of a builder that isn't a struct of such.
-fn append_chosen(
+fn merge_chosen(
     truths: &Numbers,
     columns: &[Numbers],
     count: usize,
@@ -85,7 +83,7 @@ fn append_chosen(
         (λ all. merge_all built.old (structs_chosen truths.now columns.now 0 count) ≡ done all)
         built.new }
 {
-    if !built.is_list() || columns.is_empty() || !are_ready(columns, count) {
+    if !built.takes_rows() || columns.is_empty() || !are_ready(columns, count) {
         return Ok(false);
     }
     if truths.len() < count {
@@ -93,7 +91,7 @@ fn append_chosen(
     }
     let kinds = kinds_of(columns, alloc)?;
     let (words, rows) = chosen_words(truths, columns, count, alloc)?;
-    built.append_rows(&kinds, &words, rows)
+    built.merge_rows(&kinds, &words, rows)
 }
 
 /// The words of those of the first rows, so many, on which the truth value is true, and how many these are.

@@ -1,11 +1,13 @@
 //! Totals of the fields of a struct.
 
-ghost use Rattle.std.specs.Prelude.{◌≡◌, map, IfOk};
-ghost use Rattle.weld_data.specs.Kind.{IsInteger};
+ghost use Rattle.std.specs.Prelude.{◌≡◌, map, true, IfOk};
+ghost use Rattle.weld_data.specs.Kind.{IsInteger, InRange};
 ghost use Rattle.weld_data.specs.Operation.{combination, start_of};
+ghost use Rattle.weld_data.specs.Structs.{AreFields, AreStructs};
 ghost use Rattle.weld_builders.specs.Part.{kinds_of, neutral_totals, join_totals};
-ghost use Rattle.weld_pieces.specs.Totals.{totals_in, number_in, AreIntegers};
+ghost use Rattle.weld_pieces.specs.Totals.{totals_in, number_in, kinded, rows_joined, AreIntegers};
 
+use crate::number::combine_wide;
 use std::alloc::{AllocError, Global};
 use std::marker::Model;
 use weld_data::{Kind, MergeOp, Num, Val, Vals, combine, neutral};
@@ -29,10 +31,11 @@ impl Model for TotalsPart {
 }
 
 impl TotalsPart {
-    ghost use Rattle.std.specs.Prelude.{◌≡◌, IfOk};
+    ghost use Rattle.std.specs.Prelude.{◌≡◌, true, IfOk};
+    ghost use Rattle.weld_data.specs.Structs.{AreStructs};
     ghost use Rattle.weld_data.specs.View.{view_val};
     ghost use Rattle.weld_builders.specs.Part.{kinds_of, neutral_totals, join_totals, result_of};
-    ghost use Rattle.weld_pieces.specs.Totals.{FieldTotals, totals_in, part_of_totals, AreIntegers};
+    ghost use Rattle.weld_pieces.specs.Totals.{FieldTotals, totals_in, part_of_totals, rows_joined, AreIntegers};
 
     /// The totals that start with numbers of integer kinds. It takes no memory.
     pub fn from_numbers(op: MergeOp, totals: Vec<Num>) -> TotalsPart
@@ -73,6 +76,23 @@ impl TotalsPart {
             (totals_in items.now) }
     {
         add_numbers(self.op, &mut self.totals, items);
+    }
+
+    /// Whether its numbers are of these kinds, one for each. It takes no memory.
+    pub fn has_kinds(&self, kinds: &[Kind]) -> bool
+        ensures { result ≡ true → kinds_of self.now.totals ≡ kinds.now }
+    {
+        are_of_kinds(&self.totals, kinds)
+    }
+
+    /// Merges so many structs of numbers of its kinds, which lie within an i64 and stand one after another. It takes no memory.
+    pub fn merge_rows(&mut self, numbers: &[i64], count: usize)
+        requires { AreStructs count (kinds_of self.old.totals) numbers.now }
+        ensures op { self.new.op ≡ self.old.op }
+        ensures totals { self.new.totals ≡ rows_joined self.old.op self.old.totals numbers.now
+            count }
+    {
+        add_rows(self.op, &mut self.totals, numbers, count);
     }
 
     /// Appends what later totals of the same operator and kinds have merged. It takes no memory.
@@ -117,6 +137,63 @@ fn add_numbers(op: MergeOp, totals: &mut [Num], later: &[Num])
 {
     for i in 0..totals.len() {
         totals[i] = combined(op, totals[i], later[i]);
+    }
+}
+
+/// Whether the numbers are of these kinds, one for each.
+fn are_of_kinds(totals: &[Num], kinds: &[Kind]) -> bool
+    ensures { result ≡ true → kinds_of (totals_in totals.now) ≡ kinds.now }
+{
+    match totals.split_first() {
+        None => kinds.is_empty(),
+        Some((total, rest)) => match kinds.split_first() {
+            None => false,
+            Some((kind, later)) => total.kind == *kind && are_of_kinds(rest, later),
+        },
+    }
+}
+
+/// Combines numbers with so many rows of others of the same kinds, which stand one after another.
+fn add_rows(op: MergeOp, totals: &mut [Num], numbers: &[i64], count: usize)
+    requires integers { AreIntegers (kinds_of (totals_in totals.old)) }
+    requires rows { AreStructs count (kinds_of (totals_in totals.old)) numbers.now }
+    ensures totals { totals_in totals.new ≡ rows_joined op (totals_in totals.old) numbers.now
+        count }
+    ensures integers { AreIntegers (kinds_of (totals_in totals.new)) }
+{
+    let mut left = numbers;
+    'rows: for i in 0..count {
+        let (_, later) = left.split_at(totals.len());
+        add_words(op, totals, left);
+        left = later;
+    }
+}
+
+/// Combines numbers with the first words, one for each, which are numbers of the same kinds.
+#[inline(always)]
+fn add_words(op: MergeOp, totals: &mut [Num], words: &[i64])
+    requires integers { AreIntegers (kinds_of (totals_in totals.old)) }
+    requires words { AreFields (kinds_of (totals_in totals.old)) words.now }
+    ensures totals { totals_in totals.new ≡ join_totals op (totals_in totals.old)
+        (kinded (kinds_of (totals_in totals.old)) words.now) }
+    ensures integers { AreIntegers (kinds_of (totals_in totals.new)) }
+{
+    for i in 0..totals.len() {
+        totals[i] = with_word(op, totals[i], words[i]);
+    }
+}
+
+/// A number combined with another of its kind that lies within an i64.
+#[inline(always)]
+fn with_word(op: MergeOp, total: Num, x: i64) -> Num
+    requires integer { IsInteger total.kind }
+    requires in_range { InRange total.kind x }
+    ensures kind { result.kind ≡ total.kind }
+    ensures value { result.value ≡ combination op total.kind total.value x }
+{
+    Num {
+        kind: total.kind,
+        value: combine_wide(op, total.kind, total.value, i128::from(x)),
     }
 }
 

@@ -5,4 +5,4 @@ use Rattle.weld_deeds.proofs.rows.put_rows.Goals as goal
 
 pub returns-in-Built : goal.returns-in-Built
 returns-in-Built c =
-    rows_done c.append_rows.result c.args.columns.now.items c.deref.result.now c.args.count (thing_of c.args.builder.now) _ c.in-Built.built c.append_rows.new.built c.deref.ensures.value (ap thing_of c.in-Built.is) refl c.append_rows.ensures
+    rows_done c.merge_rows.result c.args.columns.now.items c.deref.result.now c.args.count (thing_of c.args.builder.now) _ c.in-Built.built c.merge_rows.new.built c.deref.ensures.value (ap thing_of c.in-Built.is) refl c.merge_rows.ensures
