@@ -60,9 +60,14 @@ word_put t k w to below v x e s = (x, with_word w to x, e, s, with_same w to x, 
 pub slot_puts : (t k : Step) (i to below : ℕ) → i < shared → ((shape : Shape) (w : Words) → step_value t shape w ≡ step_value k shape (with_word w to (w i))) → Puts t k (codes.Slot i) to below
 slot_puts t k i to below h s f w a = word_put t k w to below (f i) (w i) (a i h) (λ shape. s shape w)
 
-pub literal_ok : (r : Result Step Unmade) (k : Step) (n : Short) (to below : ℕ) (x : ℤ) → view_short n ≡ number kinds.I64 x → IfOk r (λ t. IsWordPut t k x to) → IfOk r (λ t. Puts t k (codes.Literal n) to below)
-literal_ok (Ok t) k n to below x e s = λ f w a. word_put t k w to below (view_short n) x e (λ shape. s shape w)
-literal_ok (Err u) k n to below x e s = s
+pub literal_ok : (r : Result Step Unmade) (k : Step) (n : Short) (to : ℕ) (x : ℤ) → view_short n ≡ number kinds.I64 x → IfOk r (λ t. IsWordPut t k x to) → IfOk r (λ t. (below : ℕ) → Puts t k (codes.Literal n) to below)
+literal_ok (Ok t) k n to x e s = λ below f w a. word_put t k w to below (view_short n) x e (λ shape. s shape w)
+literal_ok (Err u) k n to x e s = s
+
+-- what is put whatever places are kept
+pub puts_as : (r : Result Step Unmade) (k : Step) (c d : Code) (to below : ℕ) → c ≡ d → IfOk r (λ t. (b : ℕ) → Puts t k d to b) → IfOk r (λ t. Puts t k c to below)
+puts_as (Ok t) k c d to below e h = subst (λ (x : Code). Puts t k x to below) (sym e) (h below)
+puts_as (Err u) k c d to below e h = h
 
 -- ---- numbers that are brought
 

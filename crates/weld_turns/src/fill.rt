@@ -233,34 +233,12 @@ fn fill_let(
         (λ x. eval body.now ((name.0, x) ∷ env)))) }
 {
     match named_place(value, scope) {
-        Some(held) => fill_alias(name, held, value, body, place, scope, next, frame, alloc),
+        Some(held) => {
+            let inner = with_name(name, held, &*scope);
+            fill(body, place, &inner, next, frame, alloc)
+        }
         None => fill_after(name, value, body, place, scope, next, frame, alloc),
     }
-}
-
-/// A `let` that gives another name.
-#[cycle(fill)]
-fn fill_alias(
-    name: Sym,
-    held: Place,
-    value: &Expr,
-    body: &Expr,
-    place: Place,
-    scope: &Scope,
-    next: usize,
-    frame: &Frame,
-    alloc: Global,
-) -> Result<Filling, Unmade>
-    requires named { IsNamedAt value.now (view_scope scope.now) held }
-    requires below { AreBelow (view_scope scope.now) place.first }
-    requires room { place.first + room_of place.shape ≤ next }
-    ensures { IfOk result (λ t. Fills t place.shape place.first (view_scope scope.now)
-        (env_of frame.now) (λ env. and_then (eval value.now env)
-        (λ x. eval body.now ((name.0, x) ∷ env)))) }
-{
-    let _value = value;
-    let inner = with_name(name, held, &*scope);
-    fill(body, place, &inner, next, frame, alloc)
 }
 
 /// A `let` of a value that is put into slots of its own.

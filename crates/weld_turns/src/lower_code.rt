@@ -1,6 +1,6 @@
 //! Numbers of kind i64 and their comparisons lowered to instructions on words, before what follows them.
 
-ghost use Rattle.std.specs.Prelude.{◌≡◌, ◌≤◌, pos, neg_ℤ, FitsSigned, IfOk, IfSome};
+ghost use Rattle.std.specs.Prelude.{◌≡◌, ◌≤◌, ℕ, pos, neg_ℤ, FitsSigned, IfOk, IfSome};
 ghost use Rattle.weld_data.specs.declared.op.BinOp.TheVariants as ops;
 ghost use Rattle.std.specs.Int.{w64};
 ghost use Rattle.weld_data.specs.declared.kind.Kind.TheVariants as kinds;
@@ -79,8 +79,8 @@ pub fn put_code(
     ensures { IfOk result (λ t. Puts t rest code.now to below) }
 {
     match code {
-        Code::Slot(i) => put_slot(*i, to, below, rest, alloc),
-        Code::Literal(n) => put_literal(*n, to, below, rest, alloc),
+        Code::Slot(i) => put_slot(*i, to, rest, alloc),
+        Code::Literal(n) => put_literal(*n, to, rest, alloc),
         Code::Work(op, x, y) => put_work(*op, x, y, to, below, rest, alloc),
         Code::Opposite(x) => put_opposite(x, to, below, rest, alloc),
         _ => Err(Unmade::Other),
@@ -122,10 +122,9 @@ fn times_minus_one(to: usize, left: usize, rest: Step, alloc: Global) -> Result<
 
 /// The same of a slot.
 #[tactic(auto, using(crate::proofs::LowerLemmas::slot_puts))]
-fn put_slot(i: usize, to: usize, below: usize, rest: Step, alloc: Global) -> Result<Step, Unmade>
-    ensures { IfOk result (λ t. Puts t rest (codes.Slot i) to below) }
+fn put_slot(i: usize, to: usize, rest: Step, alloc: Global) -> Result<Step, Unmade>
+    ensures { IfOk result (λ t. (below : ℕ) → Puts t rest (codes.Slot i) to below) }
 {
-    let _below = below;
     if i >= SLOTS {
         return Err(Unmade::Other);
     }
@@ -136,10 +135,9 @@ fn put_slot(i: usize, to: usize, below: usize, rest: Step, alloc: Global) -> Res
 }
 
 /// The same of a literal.
-fn put_literal(n: Short, to: usize, below: usize, rest: Step, alloc: Global) -> Result<Step, Unmade>
-    ensures { IfOk result (λ t. Puts t rest (codes.Literal n) to below) }
+fn put_literal(n: Short, to: usize, rest: Step, alloc: Global) -> Result<Step, Unmade>
+    ensures { IfOk result (λ t. (below : ℕ) → Puts t rest (codes.Literal n) to below) }
 {
-    let _below = below;
     match word_of(n) {
         Some(x) => put_word(x, to, rest, alloc),
         None => Err(Unmade::Other),

@@ -124,32 +124,12 @@ fn make_let(
         (λ env. and_then (eval value.now env) (λ x. eval body.now ((name.0, x) ∷ env)))) }
 {
     match named_place(value, scope) {
-        Some(place) => let_alias(name, place, value, body, shape, scope, next, frame, alloc),
+        Some(place) => {
+            let inner = with_name(name, place, &*scope);
+            make_turn(body, shape, &inner, next, frame, alloc)
+        }
         None => let_filled(name, value, body, shape, scope, next, frame, alloc),
     }
-}
-
-/// A `let` that gives another name.
-#[cycle(turn)]
-fn let_alias(
-    name: Sym,
-    place: Place,
-    value: &Expr,
-    body: &Expr,
-    shape: Shape,
-    scope: &Scope,
-    next: usize,
-    frame: &Frame,
-    alloc: Global,
-) -> Result<Turn, Unmade>
-    requires below { AreBelow (view_scope scope.now) next }
-    requires named { IsNamedAt value.now (view_scope scope.now) place }
-    ensures { IfOk result (λ t. TurnMeans t shape (view_scope scope.now) (env_of frame.now)
-        (λ env. and_then (eval value.now env) (λ x. eval body.now ((name.0, x) ∷ env)))) }
-{
-    let _value = value;
-    let inner = with_name(name, place, &*scope);
-    make_turn(body, shape, &inner, next, frame, alloc)
 }
 
 /// A `let` of a value that is put into slots of its own.

@@ -11,13 +11,13 @@ use Rattle.weld_turns.proofs.Fillings.{after_fills, alias_fills, both_fill, sele
 use Rattle.weld_turns.proofs.Scoping.{alias_below, below_more}
 use Rattle.weld_turns.proofs.fill.+fill.Goals as goal
 
-pub fill_alias-fill-requires : goal.fill_alias-fill-requires
-fill_alias-fill-requires t c =
-    (omega arith, (alias_below c.args.value.now (view_scope c.args.scope.now) (view_scope c.with_name-inner.result) c.args.name.0 c.args.place.first c.args.held c.requires.named c.requires.below c.with_name-inner.ensures, c.requires.room))
+pub fill_let-fill-requires : goal.fill_let-fill-requires
+fill_let-fill-requires t c =
+    (omega arith, (alias_below c.args.value.now (view_scope c.args.scope.now) (view_scope c.with_name-inner.result) c.args.name.0 c.args.place.first c.in-Some.held c.in-Some.ensures c.requires.below c.with_name-inner.ensures, c.requires.room))
 
-pub fill_alias-returns : goal.fill_alias-returns
-fill_alias-returns t c =
-    alias_fills c.fill.result c.args.place.shape c.args.place.first (view_scope c.args.scope.now) (view_scope c.with_name-inner.result) (env_of c.args.frame.now) c.args.value.now c.args.body.now c.args.name.0 c.args.held c.requires.named c.with_name-inner.ensures c.fill.ensures
+pub fill_let-returns-in-Some : goal.fill_let-returns-in-Some
+fill_let-returns-in-Some t c =
+    alias_fills c.fill.result c.args.place.shape c.args.place.first (view_scope c.args.scope.now) (view_scope c.with_name-inner.result) (env_of c.args.frame.now) c.args.value.now c.args.body.now c.args.name.0 c.in-Some.held c.in-Some.ensures c.with_name-inner.ensures c.fill.ensures
 
 pub fill_after-returns-in-Ok-fill_above : goal.fill_after-returns-in-Ok-fill_above
 fill_after-returns-in-Ok-fill_above t c =

@@ -15,9 +15,6 @@ decreases-fill_fork l = 32 * (expr_nodes l.x.now + expr_nodes l.y.now) + 3
 abbrev pub decreases-fill_let : goal.decreases-fill_let
 decreases-fill_let l = 32 * (expr_nodes l.value.now + expr_nodes l.body.now) + 5
 
-abbrev pub decreases-fill_alias : goal.decreases-fill_alias
-decreases-fill_alias l = 32 * expr_nodes l.body.now + 2
-
 abbrev pub decreases-fill_after : goal.decreases-fill_after
 decreases-fill_after l = 32 * (expr_nodes l.value.now + expr_nodes l.body.now) + 4
 

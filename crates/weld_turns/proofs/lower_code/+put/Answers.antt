@@ -3,11 +3,17 @@ use Rattle.weld_builders.specs.Outcome.{and_then}
 use Rattle.weld_meaning.specs.Evaluation.{negated}
 use Rattle.weld_turns.specs.CodeView.{value}
 use Rattle.weld_turns.specs.Lowering.{between}
-use Rattle.weld_turns.proofs.LowerLemmas.{opposite_code, opposite_ok, slot_rests, work_is, work_ok}
+use Rattle.weld_turns.proofs.LowerLemmas.{opposite_code, opposite_ok, puts_as, slot_rests, work_is, work_ok}
 use Rattle.weld_turns.proofs.lower_code.+put.Goals as goal
 
 pub bring_place-returns-in-Some : goal.bring_place-returns-in-Some
 bring_place-returns-in-Some t c = slot_rests c.args.slot c.args.rest c.args.code.now c.in-Some.field-0 c.args.place c.in-Some.is c.requires.slot
+
+pub put_code-returns-in-Slot : goal.put_code-returns-in-Slot
+put_code-returns-in-Slot t c = puts_as c.put_slot.result c.args.rest c.args.code.now _ c.args.to c.args.below c.in-Slot.is c.put_slot.ensures
+
+pub put_code-returns-in-Literal : goal.put_code-returns-in-Literal
+put_code-returns-in-Literal t c = puts_as c.put_literal.result c.args.rest c.args.code.now _ c.args.to c.args.below c.in-Literal.is c.put_literal.ensures
 
 pub put_code-returns-in-Work : goal.put_code-returns-in-Work
 put_code-returns-in-Work t c =

@@ -7,5 +7,5 @@ use Rattle.weld_turns.proofs.lower_code.put_literal.Goals as goal
 
 pub returns-in-Some : goal.returns-in-Some
 returns-in-Some c =
-    literal_ok c.put_word.result c.args.rest c.args.n c.args.to c.args.below (to_z w64 (of_z w64 c.in-Some.x))
+    literal_ok c.put_word.result c.args.rest c.args.n c.args.to (to_z w64 (of_z w64 c.in-Some.x))
     (c.in-Some.ensures.number ∙ ap (number kinds.I64) (sym (to_z-of_z w64 c.in-Some.x c.in-Some.ensures.fits))) c.put_word.ensures

@@ -5,13 +5,13 @@ use Rattle.weld_turns.proofs.Scoping.{alias_below, held_below}
 use Rattle.weld_turns.proofs.Turning.{alias_ok, let_means}
 use Rattle.weld_turns.proofs.make_turn.+turn.Goals as goal
 
-pub let_alias-make_turn-requires : goal.let_alias-make_turn-requires
-let_alias-make_turn-requires t c =
-    (omega arith, alias_below c.args.value.now (view_scope c.args.scope.now) (view_scope c.with_name-inner.result) c.args.name.0 c.args.next c.args.place c.requires.named c.requires.below c.with_name-inner.ensures)
+pub make_let-make_turn-requires : goal.make_let-make_turn-requires
+make_let-make_turn-requires t c =
+    (omega arith, alias_below c.args.value.now (view_scope c.args.scope.now) (view_scope c.with_name-inner.result) c.args.name.0 c.args.next c.in-Some.place c.in-Some.ensures c.requires c.with_name-inner.ensures)
 
-pub let_alias-returns : goal.let_alias-returns
-let_alias-returns t c =
-    alias_ok c.make_turn.result c.args.shape (view_scope c.args.scope.now) (view_scope c.with_name-inner.result) (env_of c.args.frame.now) c.args.value.now c.args.body.now c.args.name.0 c.args.place c.requires.named c.with_name-inner.ensures c.make_turn.ensures
+pub make_let-returns-in-Some : goal.make_let-returns-in-Some
+make_let-returns-in-Some t c =
+    alias_ok c.make_turn.result c.args.shape (view_scope c.args.scope.now) (view_scope c.with_name-inner.result) (env_of c.args.frame.now) c.args.value.now c.args.body.now c.args.name.0 c.in-Some.place c.in-Some.ensures c.with_name-inner.ensures c.make_turn.ensures
 
 pub let_filled-boxed_turn-requires : goal.let_filled-boxed_turn-requires
 let_filled-boxed_turn-requires t c =

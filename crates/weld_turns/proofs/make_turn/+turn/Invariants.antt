@@ -14,8 +14,5 @@ decreases-make_fork l = 8 * (expr_nodes l.x.now + expr_nodes l.y.now) + 2
 abbrev pub decreases-make_let : goal.decreases-make_let
 decreases-make_let l = 8 * expr_nodes l.body.now + 4
 
-abbrev pub decreases-let_alias : goal.decreases-let_alias
-decreases-let_alias l = 8 * expr_nodes l.body.now + 2
-
 abbrev pub decreases-let_filled : goal.decreases-let_filled
 decreases-let_filled l = 8 * expr_nodes l.body.now + 2
