@@ -49,8 +49,11 @@ field_at (v ∷ vs) (suc k) w q = field_at vs k w q
 pub field_of_struct : (vs : List Value) (u : Value) (k : ℕ) (w : Value) → u ≡ struct (values vs) → slice_get vs k ≡ Some w → value_field k u ≡ done w
 field_of_struct vs u k w is q = ap (value_field k) is ∙ field_at vs k w q
 
-pub everywhere_numbers : (r : Option Numbers) (e : ExprTree) (envs : ℕ → Env) (u w : Value) (count : ℕ) → IsEverywhere e envs u → u ≡ w → MayGive (λ j v. v ≡ w) r count → MayBeNumbers e envs r count
-everywhere_numbers r e envs u w count h same k = may_map (λ j v. v ≡ w) (λ j v. eval e (envs j) ≡ done (plain v)) r count (λ j v q. h j ∙ ap (λ x. done (plain x)) (same ∙ sym q)) k
+pub same_everywhere : (r : Option Numbers) (u w : Value) (count : ℕ) → u ≡ w → MayGive (λ j v. v ≡ w) r count → MayGive (λ j v. v ≡ u) r count
+same_everywhere r u w count same k = may_map (λ j v. v ≡ w) (λ j v. v ≡ u) r count (λ j v q. q ∙ sym same) k
+
+pub everywhere_numbers : (r : Option Numbers) (e : ExprTree) (envs : ℕ → Env) (u : Value) (count : ℕ) → IsEverywhere e envs u → MayGive (λ j v. v ≡ u) r count → MayBeNumbers e envs r count
+everywhere_numbers r e envs u count h k = may_map (λ j v. v ≡ u) (λ j v. eval e (envs j) ≡ done (plain v)) r count (λ j v q. h j ∙ ap (λ x. done (plain x)) (sym q)) k
 
 -- ---- elements
 

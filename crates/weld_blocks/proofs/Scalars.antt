@@ -1,6 +1,7 @@
 -- Operators on numbers of one kind.
 use Rattle.weld_eval.proofs.ScalarLemmas as lemmas
-use Rattle.std.proofs.Common.{ℕ, mod-eq_of_lt, ◌<◌, ◌≡◌, ◌^◌, ℤ, pos, w64, Some, sym, ap}
+use Rattle.std.proofs.Common.{ℕ, mod-eq_of_lt, ◌%◌, ◌<◌, ◌≡◌, ◌^◌, ℤ, pos, w64, Some, sym, ap}
+use Rattle.std.proofs.Math.Nat.{mod-mod}
 use Rattle.std.specs.Int.{cast_signed, int_wrap}
 use Rattle.weld_data.specs.declared.kind.Kind.TheVariants as kinds
 use Rattle.weld_data.specs.Wrapped.{wrapped}
@@ -23,3 +24,8 @@ integer_kind = lemmas.integer_kind
 pub counted : (n : ℕ) → n < 2 ^ 64 → cast_signed w64 n ≡ wrapped kinds.I64 (pos n)
 unfolding int_wrap
 counted n h = ap (cast_signed w64) (sym (mod-eq_of_lt {n = n} {m = 2 ^ 64} h))
+
+-- a count that has gone around
+pub counted_on : (n : ℕ) → wrapped kinds.I64 (pos (n % 2 ^ 64)) ≡ wrapped kinds.I64 (pos n)
+unfolding int_wrap
+counted_on n = ap (cast_signed w64) (mod-mod n (2 ^ 64))

@@ -91,9 +91,9 @@ iterate_ends n a e f b envs from shape ss count is start last j less =
     ∙ ap (λ (o : Outcome Thing). and_then (value_out o) (λ v. map_out plain (turns turn_limit v (λ w. next_of b.sym.0 f (envs j) w)))) (start j less)
     ∙ ap (map_out plain) (last j less)
 
-pub one_numbers : (r : Option Numbers) (n : ExprTree) (envs : ℕ → Env) (ss : List State) (count : ℕ) → AreEnds n envs shapes.One ss count → MayGive (λ j v. v ≡ number kinds.I64 (part_at false ss j)) r count → MayBeNumbers n envs r count
-one_numbers None n envs ss count ends h = tt
-one_numbers (Some c) n envs ss count ends h = record {
+pub one_numbers : (r : Option Numbers) (n : ExprTree) (envs : ℕ → Env) (shape : Shape) (ss : List State) (count : ℕ) → AreEnds n envs shape ss count → MayGive (λ j v. v ≡ state_at shape ss j) r count → MayBeNumbers n envs r count
+one_numbers None n envs shape ss count ends h = tt
+one_numbers (Some c) n envs shape ss count ends h = record {
   long = h.long;
   each = λ j less. ends j less ∙ ap (λ (v : Value). done (plain v)) (sym (h.each j less));
 }

@@ -3,6 +3,7 @@ use Rattle.std.specs.Prelude.{◌≡◌, ◌≢◌, ℕ, suc, ◌<◌, ◌/◌, 
 use Rattle.weld_data.specs.declared.kind.Kind.TheVariants as kinds
 use Rattle.weld_data.specs.Value.{Value}
 use Rattle.weld_tree.specs.ExprTree.{ExprTree}
+use Rattle.weld_tree.specs.declared.sym.Sym.{Sym}
 use Rattle.weld_builders.specs.Outcome.{done, and_then}
 use Rattle.weld_meaning.specs.Environment.{look_for}
 use Rattle.weld_meaning.specs.Evaluation.{Env, eval, found, turns, turn_limit}
@@ -36,6 +37,12 @@ outer_env = fold-Scope Env outer_step
 -- each name that is used and isn't among the new ones is another one, and wasn't among the old ones
 abbrev pub IsNoted : ExprTree → ℕ → List Named → List Named → Type 0
 IsNoted e s old new = (n : ℕ) → uses e n ≡ true → has_name n new ≡ false → (n ≢ s) × (has_name n old ≡ false)
+
+-- the name of a number of kind i64 was put behind the names, and its numbers behind the columns
+pub record IsNumberNoted (s : Sym) (c : Numbers) (old_names new_names : List Named) (old_columns new_columns : List Numbers) : Type 0 where
+  pub kind : c.kind ≡ kinds.I64
+  pub names : new_names ≡ old_names ++ record { name = s; seen = Number } ∷ []
+  pub columns : new_columns ≡ old_columns ++ c ∷ []
 
 -- each name that is used and isn't among the new ones stands on every row for what it stands for outside, and wasn't among the old ones
 abbrev pub StandApart : ExprTree → (ℕ → Env) → Env → List Named → List Named → Type 0

@@ -106,7 +106,7 @@ fn of_field(e: &Expr, scope: &Scope, count: usize, alloc: Global) -> Option<Numb
     match in_columns(e, scope, count, alloc) {
         Some(numbers) => Some(numbers),
         None => match outer_value(e, &*scope) {
-            Some(v) => everywhere(e, v, scope, count, alloc),
+            Some(v) => everywhere(v, count, alloc),
             None => match lent_numbers(e, scope, count, alloc) {
                 Some(numbers) => Some(numbers),
                 None => of_state(e, scope, count, alloc),
@@ -142,7 +142,7 @@ fn of_iterate(e: &Expr, scope: &Scope, count: usize, alloc: Global) -> Option<Nu
     ensures { MayBeNumbers e.now (scope_env scope.now) result count }
 {
     match ends(e, Asked::One, scope, count, alloc) {
-        Some(states) => single_numbers(e, &states, scope, count, alloc),
+        Some(states) => single_numbers(&states, count, alloc),
         None => None,
     }
 }
@@ -169,14 +169,11 @@ fn ends(e: &Expr, asked: Asked, scope: &Scope, count: usize, alloc: Global) -> O
     }
 }
 
-/// The number of a value that an expression is on every row.
-#[tactic(auto, using(crate::proofs::OuterLemmas::everywhere_numbers))]
-fn everywhere(e: &Expr, v: &Val, scope: &Scope, count: usize, alloc: Global) -> Option<Numbers>
-    requires { IsEverywhere e.now (scope_env scope.now) (view_val v.now) }
-    ensures { MayBeNumbers e.now (scope_env scope.now) result count }
+/// The number that a value is, on every row.
+#[tactic(auto, using(crate::proofs::OuterLemmas::same_everywhere))]
+fn everywhere(v: &Val, count: usize, alloc: Global) -> Option<Numbers>
+    ensures { MayGive (λ place w. w ≡ view_val v.now) result count }
 {
-    let _node = e;
-    let _scope = scope;
     match number_of(v) {
         Some(number) => constant(number, count, alloc),
         None => None,

@@ -7,7 +7,7 @@ ghost use Rattle.weld_meaning.specs.Thing.{plain};
 ghost use Rattle.weld_blocks.specs.Numbers.{AreGiven};
 ghost use Rattle.weld_eval.specs.FrameView.{env_of};
 ghost use Rattle.weld_blocks.specs.Scope.{row_env, scope_env};
-ghost use Rattle.weld_blocks.specs.Turned.{outer_env, AreTaken, IsFieldColumn, IsNoted, IsValue, NamesGive, StandApart, TakesFields};
+ghost use Rattle.weld_blocks.specs.Turned.{outer_env, AreTaken, IsFieldColumn, IsNoted, IsNumberNoted, IsValue, NamesGive, StandApart, TakesFields};
 
 use crate::columns::name_of;
 use crate::leaves::{constant, field_named, named};
@@ -152,27 +152,16 @@ fn take_fields(
     take_fields(bits / 2, field + 1, name, scope, count, columns, alloc)
 }
 
-/// Notes a name of the rows that stands for a number, with its numbers; it tells whether it could.
-#[tactic(auto, using(crate::proofs::NoteLemmas::pushed_noted, crate::proofs::NoteLemmas::number_gives))]
+/// Notes a name that stands for a number of kind i64, with its numbers; it tells whether it could.
 fn note_number(
-    body: &Expr,
     name: Sym,
     numbers: Numbers,
-    scope: &Scope,
-    count: usize,
     names: &mut Vec<Named>,
     columns: &mut Vec<Numbers>,
 ) -> bool
-    requires give { NamesGive names.old.items columns.old.items (scope_env scope.now) count }
-    requires given { AreGiven (λ j v. look_for name.0 (scope_env scope.now j) ≡ Some (plain v))
-        numbers count }
-    ensures noted { result ≡ true → IsNoted body.now name.0 names.old.items names.new.items }
-    ensures give { result ≡ true → NamesGive names.new.items columns.new.items
-        (scope_env scope.now) count }
+    ensures { result ≡ true → IsNumberNoted name numbers names.old.items names.new.items
+        columns.old.items columns.new.items }
 {
-    let _body = body;
-    let _scope = scope;
-    let _count = count;
     if columns.as_slice().len() >= MOST_WORDS {
         return false;
     }
@@ -259,7 +248,7 @@ fn note(
         return true;
     }
     match named(scope, name, count, alloc) {
-        Some(numbers) => note_number(body, name, numbers, scope, count, names, columns),
+        Some(numbers) => note_number(name, numbers, names, columns),
         None => note_fields(body, name, scope, count, names, columns, alloc),
     }
 }

@@ -32,10 +32,7 @@ impl Gives for Counted {
 
     #[inline(always)]
     fn at(&self, place: usize) -> Option<Short> {
-        match self.from.checked_add(place) {
-            Some(number) => Some(whole_number(number)),
-            None => None,
-        }
+        Some(whole_number(self.from.wrapping_add(place)))
     }
 }
 

@@ -301,20 +301,11 @@ fn part_of(states: &[State], is_second: bool, count: usize, alloc: Global) -> Op
     gather(alloc, count, &part)
 }
 
-/// The numbers that an expression comes to, where these are the states that it comes to, and each is a single number.
-#[tactic(auto, using(crate::proofs::TurnLemmas::one_numbers))]
-pub(crate) fn single_numbers(
-    e: &Expr,
-    states: &States,
-    scope: &Scope,
-    count: usize,
-    alloc: Global,
-) -> Option<Numbers>
-    requires { AreEnds e.now (scope_env scope.now) states.now.shape states.now.items.items count }
-    ensures { MayBeNumbers e.now (scope_env scope.now) result count }
+/// The states as numbers, where each is a single number.
+pub(crate) fn single_numbers(states: &States, count: usize, alloc: Global) -> Option<Numbers>
+    ensures { MayGive (λ place v. v ≡ state_at states.now.shape states.now.items.items place) result
+        count }
 {
-    let _node = e;
-    let _scope = scope;
     match states.shape {
         Shape::One => part_of(&states.items, false, count, alloc),
         Shape::Fields(_) => None,

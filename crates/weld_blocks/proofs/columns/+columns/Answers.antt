@@ -1,4 +1,5 @@
 use Rattle.std.proofs.Common.{◌≡◌, ◌<◌, [], List, length, get_or, sym, ap, ◌∙◌, subst, arith}
+use Rattle.weld_data.specs.View.{view_val}
 use Rattle.weld_tree.specs.ExprTree.{ExprTree, At, three, many, iterate, pack_exprs}
 use Rattle.weld_tree.specs.ExprView.{view_form, view_three, view_many}
 use Rattle.weld_tree.specs.declared.expr.Form.{Form}
@@ -6,7 +7,8 @@ use Rattle.weld_blocks.specs.Scope.{bound_at, scope_env, AreFieldsOf}
 use Rattle.weld_blocks.specs.declared.numbers.Numbers.{Numbers}
 use Rattle.weld_blocks.proofs.ColumnLemmas.{choice_numbers, struct_columns, next_field, all_fields}
 use Rattle.weld_blocks.proofs.PickLemmas.{if_where}
-use Rattle.weld_blocks.proofs.TurnLemmas.{iterate_ends}
+use Rattle.weld_blocks.proofs.OuterLemmas.{everywhere_numbers}
+use Rattle.weld_blocks.proofs.TurnLemmas.{iterate_ends, one_numbers}
 use Rattle.weld_blocks.proofs.columns.+columns.Goals as goal
 
 pub arms::of_choice-returns : goal.arms::of_choice-returns
@@ -55,3 +57,9 @@ ends-returns-in-Some-ends_of t c =
     sym c.e.view_is ∙ ap (λ (f : Form). view_form f at) c.in-Iterate.is ∙ (λ i. iterate at (sym c.deref.ensures i) c.in-Iterate.binder (sym c.deref-in-Iterate.ensures i)) in
     iterate_ends c.args.e.now at c.deref.result.now c.deref-in-Iterate.result.now c.in-Iterate.binder (scope_env c.args.scope.now) (bound_at c.in-Some.start) c.in-Some-ends_of.states.shape c.in-Some-ends_of.states.items.items c.args.count
     is c.in-Some.ensures c.in-Some-ends_of.ensures
+
+pub of_field-returns-in-Some-outer_value : goal.of_field-returns-in-Some-outer_value
+of_field-returns-in-Some-outer_value t c = everywhere_numbers c.everywhere.result c.args.e.now (scope_env c.args.scope.now) (view_val c.in-Some-outer_value.v.now) c.args.count c.in-Some-outer_value.ensures c.everywhere.ensures
+
+pub of_iterate-returns-in-Some : goal.of_iterate-returns-in-Some
+of_iterate-returns-in-Some t c = one_numbers c.single_numbers.result c.args.e.now (scope_env c.args.scope.now) c.in-Some.states.shape c.in-Some.states.items.items c.args.count c.in-Some.ensures c.single_numbers.ensures
