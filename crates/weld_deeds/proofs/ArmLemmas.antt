@@ -8,14 +8,13 @@ use Rattle.weld_built.specs.Pair.{pair}
 use Rattle.weld_meaning.specs.Thing.{Thing, plain}
 use Rattle.weld_meaning.specs.Evaluation.{Env, eval, truth_of, chosen}
 use Rattle.weld_eval.specs.Fits.{IsTruth}
-use Rattle.weld_eval_plain.specs.Nodes.{IsIf}
 use Rattle.weld_eval_plain.proofs.Nodes.{condition_is_truth}
 use Rattle.weld_acts.specs.Act.{act}
 use Rattle.weld_acts.specs.ActFits.{ActFits}
 use Rattle.weld_acts.proofs.Children.{then_acts, otherwise_acts}
 use Rattle.weld_deeds.specs.Arms.{IsDeedWhere, IsItemWhere, MayBeItemWhere, MayBeDeedWhere}
 use Rattle.weld_blocks.specs.Numbers.{number_at, AreNumbersOf}
-use Rattle.weld_deeds.specs.Deeds.{do_of, IsDeed, IsMergeTree, IsQuiet}
+use Rattle.weld_deeds.specs.Deeds.{do_of, IsDeed, IsQuiet}
 use Rattle.weld_blocks.specs.Picked.{AreNumbersWhere}
 use Rattle.weld_deeds.specs.declared.deed.Deed.{Deed}
 use Rattle.weld_deeds.specs.declared.deed.Deed as deed
@@ -48,16 +47,8 @@ merge_may : (r : Option Deed) (a : At) (f item : ExprTree) (envs : ℕ → Env) 
 merge_may None a f item envs n t b count is q h = tt
 merge_may (Some d) a f item envs n t b count is q h = merge_where_does d a f item envs n t b count is q h
 
-pub merge_where_of : (r : Option Deed) (a : At) (o : Two) (f item : ExprTree) (envs : ℕ → Env) (n : ExprTree) (t : Numbers) (b : Bool) (count : ℕ) → n ≡ two a o f item → IsMergeTree n → IsQuiet f → MayBeItemWhere item envs t b r count → MayBeDeedWhere n envs t b r count
-merge_where_of r a o f item envs n t b count is form q h = by o is (subst (λ m. IsMergeTree m) is form)
-  where
-    by : (u : Two) → n ≡ two a u f item → IsMergeTree (two a u f item) → MayBeDeedWhere n envs t b r count
-    by merge same k = merge_may r a f item envs n t b count same q h
-    by (binary op) same k = absurd k
-    by and same k = absurd k
-    by or same k = absurd k
-    by look_up same k = absurd k
-    by key_exists same k = absurd k
+pub merge_where_of : (r : Option Deed) (a : At) (f item : ExprTree) (envs : ℕ → Env) (t : Numbers) (b : Bool) (count : ℕ) → IsQuiet f → MayBeItemWhere item envs t b r count → MayBeDeedWhere (two a merge f item) envs t b r count
+merge_where_of r a f item envs t b count q h = merge_may r a f item envs (two a merge f item) t b count refl q h
 
 pub written_pair_where : (a : At) (es : List ExprTree) (envs : ℕ → Env) (n e f : ExprTree) (t : Numbers) (b : Bool) (c d : Numbers) (count : ℕ) → n ≡ many a make_struct (pack_exprs es) → length es ≡ 2 → e ≡ get_or es 0 e → f ≡ get_or es 1 f
     → AreNumbersWhere e envs t b c count → AreNumbersWhere f envs t b d count → IsItemWhere n envs t b (deed.Pair c d) count
@@ -103,11 +94,6 @@ choice_does a c e f envs n t p q count is k x y = record {
     truth : (j : ℕ) → j < count → (s : Thing) → ActFits n (envs j) s → IsTruth (number_at t j)
     truth j less s h = condition_is_truth a c e f (envs j) n (plain (number_at t j)) (number_at t j) is h.fit (k.each j less) refl
 
-pub choice_of : (a : At) (o : Three) (c e f : ExprTree) (envs : ℕ → Env) (n : ExprTree) (t : Numbers) (p q : Box Deed Global) (count : ℕ) → n ≡ three a o c e f → IsIf n → AreNumbersOf c envs t count → IsDeedWhere e envs t true p.value count → IsDeedWhere f envs t false q.value count
-    → IsDeed n envs (deed.Choice t p q) count
-choice_of a o c e f envs n t p q count is form k x y = by o is (subst (λ m. IsIf m) is form)
-  where
-    by : (u : Three) → n ≡ three a u c e f → IsIf (three a u c e f) → IsDeed n envs (deed.Choice t p q) count
-    by if_else same h = choice_does a c e f envs n t p q count same k x y
-    by select same h = absurd h
-    by slice same h = absurd h
+pub choice_of : (a : At) (c e f : ExprTree) (envs : ℕ → Env) (t : Numbers) (p q : Box Deed Global) (count : ℕ) → AreNumbersOf c envs t count → IsDeedWhere e envs t true p.value count → IsDeedWhere f envs t false q.value count
+    → IsDeed (three a if_else c e f) envs (deed.Choice t p q) count
+choice_of a c e f envs t p q count k x y = choice_does a c e f envs (three a if_else c e f) t p q count refl k x y

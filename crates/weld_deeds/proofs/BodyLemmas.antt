@@ -4,7 +4,6 @@ use Rattle.std.proofs.lemmas.List.{at_drop_more}
 use Rattle.weld_data.specs.Value.{Value}
 use Rattle.weld_data.specs.View.{view_val}
 use Rattle.weld_tree.specs.declared.binder.Binder.{Binder}
-use Rattle.weld_blocks.specs.Structs.{IsStructTree}
 use Rattle.weld_tree.specs.TypeTree.{TypeTrees, no_types, more_types}
 use Rattle.weld_tree.specs.ExprTree.{ExprTree, At, ExprTrees, no_exprs, more_exprs, leaf, one, two, three, many, let_in, loop, iterate, Leaf, One, Two, binary, and, or, look_up, key_exists, merge, Many, make_vec, make_struct, pack_exprs}
 use Rattle.weld_builders.specs.Outcome.{Outcome, done, fault, stuck, and_then, map_out}
@@ -19,7 +18,7 @@ use Rattle.weld_acts.proofs.Children.{let_acts, struct_acts, struct_several, str
 use Rattle.weld_deeds.specs.Lists.{list_at}
 use Rattle.weld_deeds.specs.Puts.{IsPut}
 use Rattle.weld_blocks.specs.Numbers.{number_at, AreNumbersOf}
-use Rattle.weld_deeds.specs.Deeds.{do_of, IsDeed, AreDeeds, IsItem, MayBeDeed, MayBeItem, IsBefore, IsMergeTree, IsQuiet}
+use Rattle.weld_deeds.specs.Deeds.{do_of, IsDeed, AreDeeds, IsItem, MayBeDeed, MayBeItem, IsBefore, IsQuiet}
 use Rattle.weld_blocks.specs.Scope.{IsBound, struct_at}
 use Rattle.weld_deeds.specs.declared.deed.Deed.{Deed}
 use Rattle.weld_deeds.specs.declared.deed.Deed as deed
@@ -81,16 +80,8 @@ merge_does (Some deed.Nothing) a f item envs n count is q h = absurd h
 merge_does (Some (deed.Choice' c x d y e)) a f item envs n count is q h = absurd h
 merge_does (Some (deed.Fields ds)) a f item envs n count is q h = absurd h
 
-pub merge_of : (r : Option Deed) (a : At) (o : Two) (f item : ExprTree) (envs : ℕ → Env) (n : ExprTree) (count : ℕ) → n ≡ two a o f item → IsMergeTree n → IsQuiet f → MayBeItem item envs r count → MayBeDeed n envs r count
-merge_of r a o f item envs n count is form q h = by o is (subst (λ m. IsMergeTree m) is form)
-  where
-    by : (u : Two) → n ≡ two a u f item → IsMergeTree (two a u f item) → MayBeDeed n envs r count
-    by merge same k = merge_does r a f item envs n count same q h
-    by (binary op) same k = absurd k
-    by and same k = absurd k
-    by or same k = absurd k
-    by look_up same k = absurd k
-    by key_exists same k = absurd k
+pub merge_of : (r : Option Deed) (a : At) (f item : ExprTree) (envs : ℕ → Env) (count : ℕ) → IsQuiet f → MayBeItem item envs r count → MayBeDeed (two a merge f item) envs r count
+merge_of r a f item envs count q h = merge_does r a f item envs (two a merge f item) count refl q h
 
 pub written_pair_gives : (a : At) (es : List ExprTree) (envs : ℕ → Env) (n e f : ExprTree) (c d : Numbers) (count : ℕ) → n ≡ many a make_struct (pack_exprs es) → length es ≡ 2 → e ≡ get_or es 0 e → f ≡ get_or es 1 f
     → AreNumbersOf e envs c count → AreNumbersOf f envs d count → IsItem n envs (deed.Pair c d) count
@@ -128,12 +119,8 @@ struct_does a es envs n ds count is h = record {
   fits = λ j less s fit. (struct_several a make_struct es (envs j) n s is fit, h.fits j less (fields_of s) (struct_acts a make_struct es (envs j) n s is fit));
 }
 
-pub struct_of_fields : (a : At) (o : Many) (es : List ExprTree) (envs : ℕ → Env) (n : ExprTree) (ds : Deeds) (count i : ℕ) → n ≡ many a o (pack_exprs es) → IsStructTree n → i ≡ 0 → AreDeeds (pack_exprs (drop i es)) envs ds count → IsDeed n envs (deed.Fields ds) count
-struct_of_fields a o es envs n ds count i is form none h = by o is (subst (λ m. IsStructTree m) is form)
-  where
-    by : (u : Many) → n ≡ many a u (pack_exprs es) → IsStructTree (many a u (pack_exprs es)) → IsDeed n envs (deed.Fields ds) count
-    by make_struct same k = struct_does a (pack_exprs es) envs n ds count same (subst (λ m. AreDeeds (pack_exprs (drop m es)) envs ds count) none h)
-    by make_vec same k = absurd k
+pub struct_of_fields : (a : At) (es : List ExprTree) (envs : ℕ → Env) (ds : Deeds) (count i : ℕ) → i ≡ 0 → AreDeeds (pack_exprs (drop i es)) envs ds count → IsDeed (many a make_struct (pack_exprs es)) envs (deed.Fields ds) count
+struct_of_fields a es envs ds count i none h = struct_does a (pack_exprs es) envs (many a make_struct (pack_exprs es)) ds count refl (subst (λ m. AreDeeds (pack_exprs (drop m es)) envs ds count) none h)
 
 none_left : (us : TypeTrees) (names : Types) (ss : Things) → HaveTypes no_exprs names us → HaveBuilders ss us → ss ≡ no_things
 none_left no_types names no_things h k = refl

@@ -10,7 +10,7 @@ use Rattle.weld_meaning.specs.Thing.{Thing, plain, several, Things, no_things, m
 use Rattle.weld_meaning.specs.Evaluation.{Env, eval, merged, truth_of, truth_value}
 use Rattle.weld_built.specs.Pair.{pair}
 use Rattle.weld_eval.specs.Fits.{IsTruth}
-use Rattle.weld_acts.specs.Act.{IsMerge, act, act_all}
+use Rattle.weld_acts.specs.Act.{act, act_all}
 use Rattle.weld_acts.specs.ActFits.{ActFits, ActsFit}
 use Rattle.weld_blocks.specs.Numbers.{count_of, number_at, AreNumbersOf}
 use Rattle.weld_deeds.specs.Lists.{list_at, AreLists}
@@ -121,11 +121,6 @@ IsQuiet (many a o es) = ⊥
 IsQuiet (let_in a b e f) = ⊥
 IsQuiet (loop a ls e b n x f) = ⊥
 IsQuiet (iterate a e b f) = ⊥
-
--- it is a merge
-abbrev pub IsMergeTree : ExprTree → Type 0
-IsMergeTree (two a o e f) = IsMerge o
-IsMergeTree _ = ⊥
 
 -- what is done to the fields is this and then that
 abbrev pub IsBefore : Deed → Deeds → Deeds → Type 0

@@ -3,7 +3,8 @@
 ghost use Rattle.std.specs.Prelude.{◌≡◌, true};
 ghost use Rattle.weld_blocks.specs.Scope.{scope_env};
 ghost use Rattle.weld_deeds.specs.Arms.{MayBeDeedWhere, MayBeItemWhere};
-ghost use Rattle.weld_deeds.specs.Deeds.{IsMergeTree, IsQuiet};
+ghost use Rattle.weld_deeds.specs.Deeds.{IsQuiet};
+ghost use Rattle.weld_tree.specs.ExprTree.{At, two, merge};
 
 use crate::deed::Deed;
 use std::alloc::Global;
@@ -24,32 +25,31 @@ pub(crate) fn careful_deed(
     ensures { MayBeDeedWhere e.now (scope_env scope.now) truths.now truth result count }
 {
     match &e.form {
-        Form::Two(TwoForm::Merge, _, _) => merge_where(e, truths, truth, scope, count, alloc),
+        Form::Two(form, first, item) => match form {
+            TwoForm::Merge => merge_where(first, item, truths, truth, scope, count, alloc),
+            _ => None,
+        },
         _ => None,
     }
 }
 
 /// A merge of a number or of a written struct of two, on the rows on which the truth value is this one.
 fn merge_where(
-    e: &Expr,
+    first: &Expr,
+    item: &Expr,
     truths: &Numbers,
     truth: bool,
     scope: &Scope,
     count: usize,
     alloc: Global,
 ) -> Option<Deed>
-    requires { IsMergeTree e.now }
-    ensures { MayBeDeedWhere e.now (scope_env scope.now) truths.now truth result count }
+    ensures { (at : At) → MayBeDeedWhere (two at merge first.now item.now) (scope_env scope.now)
+        truths.now truth result count }
 {
-    match &e.form {
-        Form::Two(_, first, item) => {
-            if is_quiet(first) {
-                item_where(item, truths, truth, scope, count, alloc)
-            } else {
-                None
-            }
-        }
-        _ => unreachable!(),
+    if is_quiet(first) {
+        item_where(item, truths, truth, scope, count, alloc)
+    } else {
+        None
     }
 }
 

@@ -2,14 +2,13 @@
 
 ghost use Rattle.std.specs.Prelude.{◌≡◌, ℕ, IfSome};
 ghost use Rattle.weld_eval.specs.FrameView.{env_of};
-ghost use Rattle.weld_blocks.specs.Structs.{IsStructTree};
 ghost use Rattle.weld_eval.specs.LegsView.{lists_of};
 ghost use Rattle.weld_eval.specs.ThingView.{thing_of};
 ghost use Rattle.weld_deeds.specs.Block.{MayBeBlock};
-ghost use Rattle.weld_deeds.specs.Deeds.{IsDeed, MayBeDeed, MayBeItem, MayBePair, IsBefore, IsMergeTree, item_at};
-ghost use Rattle.weld_eval_plain.specs.Nodes.{IsIf};
+ghost use Rattle.weld_deeds.specs.Deeds.{IsDeed, MayBeDeed, MayBeItem, MayBePair, IsBefore, item_at};
+ghost use Rattle.weld_tree.specs.ExprTree.{At, two, three, many, merge, if_else, make_struct, pack_exprs};
 ghost use Rattle.weld_builders.specs.Outcome.{done};
-ghost use Rattle.weld_meaning.specs.Evaluation.{eval as eval_of};
+ghost use Rattle.weld_meaning.specs.Evaluation.{Env, eval as eval_of};
 ghost use Rattle.weld_meaning.specs.Thing.{plain};
 ghost use Rattle.weld_deeds.specs.Named.{MayBeStructs};
 ghost use Rattle.weld_deeds.specs.Arms.{IsDeedWhere};
@@ -31,7 +30,7 @@ use weld_blocks::structs::columns_of;
 use weld_eval::frame::Frame;
 use weld_eval::legs::Legs;
 use weld_eval::thing::Owned;
-use weld_tree::{Expr, Form, LeafForm, ManyForm, ThreeForm, TwoForm};
+use weld_tree::{Expr, Exprs, Form, LeafForm, ManyForm, ThreeForm, TwoForm};
 
 /// What the body of a loop does on so many rows from one on, where all that it merges is numbers, structs and vectors of
 /// such, which `numbers` works out, or strings that are written out; it merges into its own builder, into fields of it, or as
@@ -74,28 +73,32 @@ fn deed_of(e: &Expr, scope: &Scope, count: usize, alloc: Global) -> Option<Deed>
     match &e.form {
         Form::Leaf(_) => Some(Deed::Nothing),
         Form::One(_, _) => Some(Deed::Nothing),
-        Form::Two(TwoForm::Merge, _, _) => of_merge(e, scope, count, alloc),
-        Form::Three(ThreeForm::If, _, _, _) => of_choice(e, scope, count, alloc),
-        Form::Many(ManyForm::Struct, _) => of_struct(e, scope, count, alloc),
+        Form::Two(form, first, item) => match form {
+            TwoForm::Merge => of_merge(first, item, scope, count, alloc),
+            _ => None,
+        },
+        Form::Three(form, condition, then, otherwise) => match form {
+            ThreeForm::If => of_choice(condition, then, otherwise, scope, count, alloc),
+            _ => None,
+        },
+        Form::Many(form, parts) => match form {
+            ManyForm::Struct => of_struct(parts, scope, count, alloc),
+            _ => None,
+        },
         Form::Let(_, _, _) => of_let(e, scope, count, alloc),
         _ => None,
     }
 }
 
-/// A merge into a builder to which nothing else is done.
-fn of_merge(e: &Expr, scope: &Scope, count: usize, alloc: Global) -> Option<Deed>
-    requires { IsMergeTree e.now }
-    ensures { MayBeDeed e.now (scope_env scope.now) result count }
+/// A merge of an item into a builder to which nothing else is done.
+fn of_merge(first: &Expr, item: &Expr, scope: &Scope, count: usize, alloc: Global) -> Option<Deed>
+    ensures { (at : At) → MayBeDeed (two at merge first.now item.now) (scope_env scope.now) result
+        count }
 {
-    match &e.form {
-        Form::Two(_, first, item) => {
-            if is_quiet(first) {
-                item_of(item, scope, count, alloc)
-            } else {
-                None
-            }
-        }
-        _ => unreachable!(),
+    if is_quiet(first) {
+        item_of(item, scope, count, alloc)
+    } else {
+        None
     }
 }
 
@@ -172,16 +175,15 @@ fn list_of(item: &Expr, scope: &Scope, count: usize, alloc: Global) -> Option<De
 {
     match lists_of(item, scope, count, alloc) {
         Some(columns) => Some(Deed::List(columns)),
-        None => text_of(item, scope, alloc),
+        None => text_of(item, alloc),
     }
 }
 
 /// A string that is written out, the same on all rows.
 #[tactic(auto, using(crate::proofs::ListLemmas::text_is))]
-fn text_of(item: &Expr, scope: &Scope, alloc: Global) -> Option<Deed>
-    ensures { (count : ℕ) → MayBeItem item.now (scope_env scope.now) result count }
+fn text_of(item: &Expr, alloc: Global) -> Option<Deed>
+    ensures { (envs : ℕ → Env) (count : ℕ) → MayBeItem item.now envs result count }
 {
-    let _scope = scope;
     match &item.form {
         Form::Leaf(LeafForm::Chars(text)) => match same_text(text, alloc) {
             Some(same) => Some(Deed::Same(same)),
@@ -299,26 +301,28 @@ fn written_pair(item: &Expr, scope: &Scope, count: usize, alloc: Global) -> Opti
 
 /// An `if`: of both arms what they do.
 #[cycle(bodies)]
-fn of_choice(e: &Expr, scope: &Scope, count: usize, alloc: Global) -> Option<Deed>
-    requires { IsIf e.now }
-    ensures { MayBeDeed e.now (scope_env scope.now) result count }
+fn of_choice(
+    condition: &Expr,
+    then: &Expr,
+    otherwise: &Expr,
+    scope: &Scope,
+    count: usize,
+    alloc: Global,
+) -> Option<Deed>
+    ensures { (at : At) → MayBeDeed (three at if_else condition.now then.now otherwise.now)
+        (scope_env scope.now) result count }
 {
-    match &e.form {
-        Form::Three(_, condition, then, otherwise) => {
-            let truths = match numbers(condition, scope, count, alloc) {
-                Some(truths) => truths,
-                None => return None,
-            };
-            let then = match arm_of(then, &truths, true, scope, count, alloc) {
-                Some(then) => then,
-                None => return None,
-            };
-            match arm_of(otherwise, &truths, false, scope, count, alloc) {
-                Some(otherwise) => Some(Deed::Choice(truths, then, otherwise)),
-                None => None,
-            }
-        }
-        _ => unreachable!(),
+    let truths = match numbers(condition, scope, count, alloc) {
+        Some(truths) => truths,
+        None => return None,
+    };
+    let then = match arm_of(then, &truths, true, scope, count, alloc) {
+        Some(then) => then,
+        None => return None,
+    };
+    match arm_of(otherwise, &truths, false, scope, count, alloc) {
+        Some(otherwise) => Some(Deed::Choice(truths, then, otherwise)),
+        None => None,
     }
 }
 
@@ -366,28 +370,23 @@ fn boxed_deed(e: &Expr, scope: &Scope, count: usize, alloc: Global) -> Option<Bo
 /// A struct of builders, field by field, the last one first.
 #[cycle(bodies)]
 #[tactic(auto, using(crate::proofs::BodyLemmas::no_more_fields))]
-fn of_struct(e: &Expr, scope: &Scope, count: usize, alloc: Global) -> Option<Deed>
-    requires { IsStructTree e.now }
-    ensures { MayBeDeed e.now (scope_env scope.now) result count }
+fn of_struct(parts: &Exprs, scope: &Scope, count: usize, alloc: Global) -> Option<Deed>
+    ensures { (at : At) → MayBeDeed (many at make_struct (pack_exprs parts.now))
+        (scope_env scope.now) result count }
 {
-    match &e.form {
-        Form::Many(_, parts) => {
-            let mut deeds = Deeds::End;
-            let mut left = parts.len();
-            'fields: while left > 0 {
-                left -= 1;
-                deeds = match boxed_deed(&parts.as_slice()[left], scope, count, alloc) {
-                    Some(first) => match before(first, deeds, alloc) {
-                        Some(more) => more,
-                        None => return None,
-                    },
-                    None => return None,
-                };
-            }
-            Some(Deed::Fields(deeds))
-        }
-        _ => unreachable!(),
+    let mut deeds = Deeds::End;
+    let mut left = parts.len();
+    'fields: while left > 0 {
+        left -= 1;
+        deeds = match boxed_deed(&parts.as_slice()[left], scope, count, alloc) {
+            Some(first) => match before(first, deeds, alloc) {
+                Some(more) => more,
+                None => return None,
+            },
+            None => return None,
+        };
     }
+    Some(Deed::Fields(deeds))
 }
 
 /// What is done to the fields with one before them.

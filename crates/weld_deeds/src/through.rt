@@ -24,7 +24,7 @@ use weld_data::{Kind, Stop};
 use weld_eval::thing::{Fields, Owned};
 
 /// Does it on the first rows of the block, so many, one after another.
-#[tactic(auto, using(crate::proofs::DeedForms::any_as, crate::proofs::ThroughLemmas::nothing_through))]
+#[tactic(auto, using(crate::proofs::ThroughLemmas::nothing_through))]
 pub fn do_through(deed: &Deed, count: usize, builder: &mut Owned) -> Result<(), Stop>
     requires { FitsThrough (do_of deed.now) (DeedFits deed.now) 0 count (thing_of builder.old) }
     ensures { Acts result (done_through (do_of deed.now) 0 count (thing_of builder.old))
@@ -36,7 +36,7 @@ pub fn do_through(deed: &Deed, count: usize, builder: &mut Owned) -> Result<(), 
         Deed::Pair(keys, numbers) => do_pair(deed, keys, numbers, count, builder),
         Deed::Struct(columns) => do_rows(deed, columns, count, builder),
         Deed::List(columns) => do_lists(deed, columns, count, builder),
-        Deed::Same(_) => do_each(deed, &AnyDeed { deed }, count, builder),
+        Deed::Same(_) => do_each(&AnyDeed { deed }, count, builder),
         Deed::Choice(truths, then, otherwise) => {
             do_choice(deed, truths, then, otherwise, count, builder)
         }
@@ -45,7 +45,7 @@ pub fn do_through(deed: &Deed, count: usize, builder: &mut Owned) -> Result<(), 
 }
 
 /// The same of a number on each row: all at once where their kind allows it.
-#[tactic(auto, using(crate::proofs::DeedForms::number_as, crate::proofs::DeedForms::number_fits, crate::proofs::DeedForms::number_acts))]
+#[tactic(auto, using(crate::proofs::DeedForms::number_fits, crate::proofs::DeedForms::number_acts))]
 fn do_number(deed: &Deed, numbers: &Numbers, count: usize, builder: &mut Owned) -> Result<(), Stop>
     requires fits { FitsThrough (do_of deed.now) (DeedFits deed.now) 0 count
         (thing_of builder.old) }
@@ -57,12 +57,12 @@ fn do_number(deed: &Deed, numbers: &Numbers, count: usize, builder: &mut Owned) 
         put_numbers(numbers, count, builder)
     } else {
         let each = EachNumber { numbers };
-        do_each(deed, &each, count, builder)
+        do_each(&each, count, builder)
     }
 }
 
 /// The same of two numbers on each row: all at once where their kinds allow it.
-#[tactic(auto, using(crate::proofs::DeedForms::pair_as, crate::proofs::DeedForms::pair_fits, crate::proofs::DeedForms::pair_acts))]
+#[tactic(auto, using(crate::proofs::DeedForms::pair_fits, crate::proofs::DeedForms::pair_acts))]
 fn do_pair(
     deed: &Deed,
     keys: &Numbers,
@@ -80,12 +80,12 @@ fn do_pair(
         put_pairs(keys, numbers, count, builder)
     } else {
         let each = EachPair { keys, numbers };
-        do_each(deed, &each, count, builder)
+        do_each(&each, count, builder)
     }
 }
 
 /// The same of a struct of numbers on each row: all at once where the builder is a list.
-#[tactic(auto, using(crate::proofs::DeedForms::any_as, crate::proofs::DeedForms::struct_done_is, crate::proofs::DeedForms::same_fits))]
+#[tactic(auto, using(crate::proofs::DeedForms::struct_done_is, crate::proofs::DeedForms::same_fits))]
 fn do_rows(
     deed: &Deed,
     columns: &Vec<Numbers>,
@@ -100,13 +100,13 @@ fn do_rows(
 {
     match put_rows(columns, count, builder) {
         Ok(true) => Ok(()),
-        Ok(false) => do_each(deed, &AnyDeed { deed }, count, builder),
+        Ok(false) => do_each(&AnyDeed { deed }, count, builder),
         Err(_) => Err(Stop::Memory),
     }
 }
 
 /// The same of a vector of numbers on each row: a loop of its own where all are of kind i64.
-#[tactic(auto, using(crate::proofs::DeedForms::any_as, crate::proofs::DeedForms::i64_list_as))]
+#[tactic(auto, using(crate::proofs::DeedForms::i64_list_as, crate::proofs::ThroughLemmas::fits_as, crate::proofs::ThroughLemmas::acts_as))]
 fn do_lists(
     deed: &Deed,
     columns: &Vec<Numbers>,
@@ -120,14 +120,13 @@ fn do_lists(
         (thing_of builder.new) }
 {
     if are_alike(Kind::I64, columns) {
-        do_each(deed, &EachI64List { columns }, count, builder)
+        do_each(&EachI64List { columns }, count, builder)
     } else {
-        do_each(deed, &AnyDeed { deed }, count, builder)
+        do_each(&AnyDeed { deed }, count, builder)
     }
 }
 
 /// The same of a struct of builders: field by field, where nothing that is done can fault.
-#[tactic(auto, using(crate::proofs::DeedForms::any_as))]
 fn do_struct(deed: &Deed, deeds: &Deeds, count: usize, builder: &mut Owned) -> Result<(), Stop>
     requires fits { FitsThrough (do_of deed.now) (DeedFits deed.now) 0 count
         (thing_of builder.old) }
@@ -144,7 +143,7 @@ fn do_struct(deed: &Deed, deeds: &Deeds, count: usize, builder: &mut Owned) -> R
             _ => unreachable!(),
         }
     } else {
-        do_each(deed, &AnyDeed { deed }, count, builder)
+        do_each(&AnyDeed { deed }, count, builder)
     }
 }
 
@@ -217,7 +216,7 @@ fn is_calm(deed: &Deed) -> bool
 
 /// The same where a truth value says what is done: a loop of its own where that is a merge of a
 /// number, or of two, or nothing.
-#[tactic(auto, using(crate::proofs::DeedForms::guarded_as, crate::proofs::DeedForms::pair_guarded_as, crate::proofs::DeedForms::struct_guarded_as, crate::proofs::DeedForms::any_as))]
+#[tactic(auto, using(crate::proofs::DeedForms::guarded_as, crate::proofs::DeedForms::pair_guarded_as, crate::proofs::DeedForms::struct_guarded_as, crate::proofs::ThroughLemmas::fits_as, crate::proofs::ThroughLemmas::acts_as))]
 fn do_choice(
     deed: &Deed,
     truths: &Numbers,
@@ -235,7 +234,7 @@ fn do_choice(
     match then {
         Deed::Number(numbers) if is_nothing(otherwise) => {
             let each = EachGuarded { truths, numbers };
-            do_each(deed, &each, count, builder)
+            do_each(&each, count, builder)
         }
         Deed::Pair(keys, numbers) if is_nothing(otherwise) => {
             do_chosen(deed, truths, keys, numbers, count, builder)
@@ -243,12 +242,12 @@ fn do_choice(
         Deed::Struct(columns) if is_nothing(otherwise) => {
             do_chosen_rows(deed, truths, columns, count, builder)
         }
-        _ => do_each(deed, &AnyDeed { deed }, count, builder),
+        _ => do_each(&AnyDeed { deed }, count, builder),
     }
 }
 
 /// The same of a struct of numbers or nothing: those that are chosen all at once where the builder is a list.
-#[tactic(auto, using(crate::proofs::DeedForms::any_as, crate::proofs::DeedForms::same_fits, crate::proofs::ThroughLemmas::fits_as, crate::proofs::ThroughLemmas::done_as))]
+#[tactic(auto, using(crate::proofs::DeedForms::same_fits, crate::proofs::ThroughLemmas::fits_as, crate::proofs::ThroughLemmas::done_as))]
 fn do_chosen_rows(
     deed: &Deed,
     truths: &Numbers,
@@ -265,13 +264,13 @@ fn do_chosen_rows(
 {
     match put_chosen_rows(truths, columns, count, builder) {
         Ok(true) => Ok(()),
-        Ok(false) => do_each(deed, &AnyDeed { deed }, count, builder),
+        Ok(false) => do_each(&AnyDeed { deed }, count, builder),
         Err(_) => Err(Stop::Memory),
     }
 }
 
 /// The same of two numbers or nothing: those that are chosen all at once where their kinds allow it.
-#[tactic(auto, using(crate::proofs::DeedForms::any_as, crate::proofs::ThroughLemmas::fits_as, crate::proofs::ThroughLemmas::acts_as))]
+#[tactic(auto, using(crate::proofs::ThroughLemmas::fits_as, crate::proofs::ThroughLemmas::acts_as))]
 fn do_chosen(
     deed: &Deed,
     truths: &Numbers,
@@ -287,11 +286,10 @@ fn do_chosen(
     ensures { Acts result (done_through (do_of deed.now) 0 count (thing_of builder.old))
         (thing_of builder.new) }
 {
-    let _deed = deed;
     if has_words(keys, count) && has_words(numbers, count) && truths.len() >= count {
         put_chosen(truths, keys, numbers, count, builder)
     } else {
-        do_each(deed, &AnyDeed { deed }, count, builder)
+        do_each(&AnyDeed { deed }, count, builder)
     }
 }
 
@@ -315,14 +313,11 @@ fn is_nothing(deed: &Deed) -> bool
 
 /// The same, row by row.
 #[tactic(auto, using(crate::proofs::ThroughLemmas::come_start, crate::proofs::ThroughLemmas::come_end))]
-fn do_each<D: Does>(deed: &Deed, each: &D, count: usize, builder: &mut Owned) -> Result<(), Stop>
-    requires fits { FitsThrough (do_of deed.now) (DeedFits deed.now) 0 count
-        (thing_of builder.old) }
-    requires each { DoesAs (D.does each.now) (D.fits each.now) deed.now }
-    ensures { Acts result (done_through (do_of deed.now) 0 count (thing_of builder.old))
+fn do_each<D: Does>(each: &D, count: usize, builder: &mut Owned) -> Result<(), Stop>
+    requires { FitsThrough (D.does each.now) (D.fits each.now) 0 count (thing_of builder.old) }
+    ensures { Acts result (done_through (D.does each.now) 0 count (thing_of builder.old))
         (thing_of builder.new) }
 {
-    let _deed = deed;
     for place in 0..count {
         match each.at(place, builder) {
             Ok(()) => {}

@@ -9,12 +9,9 @@ use Rattle.weld_deeds.proofs.BodyLemmas.{let_does, more_fields, struct_of_fields
 use Rattle.weld_deeds.proofs.body.+bodies.Goals as goal
 
 pub of_choice-returns-in-Some-arm_of-2 : goal.of_choice-returns-in-Some-arm_of-2
-of_choice-returns-in-Some-arm_of-2 t c =
-    let at : At = record { place = c.e.inside.place; ty = c.e.inside.ty } in
-    let is : c.args.e.now ≡ three at (view_three c.in-Three.field-0) c.deref.result.now c.deref-in-Three.result.now c.deref-in-Three-2.result.now =
-    sym c.e.view_is ∙ ap (λ (f : Form). view_form f at) c.in-Three.is ∙ (λ i. three at (view_three c.in-Three.field-0) (sym c.deref.ensures i) (sym c.deref-in-Three.ensures i) (sym c.deref-in-Three-2.ensures i)) in
-    choice_of at (view_three c.in-Three.field-0) c.deref.result.now c.deref-in-Three.result.now c.deref-in-Three-2.result.now (scope_env c.args.scope.now) c.args.e.now
-    c.in-Some.truths c.in-Some-arm_of.then c.in-Some-arm_of-2.otherwise c.args.count is c.requires c.in-Some.ensures c.in-Some-arm_of.ensures c.in-Some-arm_of-2.ensures
+of_choice-returns-in-Some-arm_of-2 t c = λ at.
+    choice_of at c.args.condition.now c.args.then.now c.args.otherwise.now (scope_env c.args.scope.now) c.in-Some.truths c.in-Some-arm_of.then c.in-Some-arm_of-2.otherwise c.args.count
+    c.in-Some.ensures c.in-Some-arm_of.ensures c.in-Some-arm_of-2.ensures
 
 pub of_let-returns-in-Some : goal.of_let-returns-in-Some
 of_let-returns-in-Some t c =
@@ -25,16 +22,14 @@ of_let-returns-in-Some t c =
     c.in-Some.ensures c.with_bound-inner.ensures c.deed_of.ensures
 
 pub of_struct-returns : goal.of_struct-returns
-of_struct-returns t c =
-    let at : At = record { place = c.e.inside.place; ty = c.e.inside.ty } in
-    let is : c.args.e.now ≡ many at (view_many c.in-Many.field-0) (pack_exprs c.in-Many.parts) = sym c.e.view_is ∙ ap (λ (f : Form). view_form f at) c.in-Many.is in
+of_struct-returns t c = λ at.
     let none : c.fields.left ≡ 0 = omega arith in
-    struct_of_fields at (view_many c.in-Many.field-0) c.in-Many.parts (scope_env c.args.scope.now) c.args.e.now c.fields.deeds c.args.count c.fields.left is c.requires none c.fields.invariant.1
+    struct_of_fields at c.args.parts.now (scope_env c.args.scope.now) c.fields.deeds c.args.count c.fields.left none c.fields.invariant.1
 
 pub of_struct-fields-preserved : goal.of_struct-fields-preserved
 of_struct-fields-preserved t c =
-    let less : c.fields.left - 1 < length c.in-Many.parts = omega arith in
+    let less : c.fields.left - 1 < length c.args.parts.now = omega arith in
     let more : (c.fields.left - 1) + 1 ≡ c.fields.left = omega arith in
-    let element : c.index-as_slice-left.result ≡ get_or c.in-Many.parts (c.fields.left - 1) c.index-as_slice-left.result = c.index-as_slice-left.is ∙ ap (λ (l : List ExprTree). get_or l (c.fields.left - 1) c.index-as_slice-left.result) c.as_slice.ensures.value in
-    let later : AreDeeds (pack_exprs (drop ((c.fields.left - 1) + 1) c.in-Many.parts)) (scope_env c.args.scope.now) c.fields.deeds c.args.count = subst (λ k. AreDeeds (pack_exprs (drop k c.in-Many.parts)) (scope_env c.args.scope.now) c.fields.deeds c.args.count) (sym more) c.fields.invariant.1 in
-    (omega arith, more_fields c.in-Many.parts (c.fields.left - 1) (scope_env c.args.scope.now) c.index-as_slice-left.result c.in-Some.first.value c.fields.deeds c.in-Some-before.more c.args.count less element c.in-Some.ensures later c.in-Some-before.ensures)
+    let element : c.index-as_slice-left.result ≡ get_or c.args.parts.now (c.fields.left - 1) c.index-as_slice-left.result = c.index-as_slice-left.is ∙ ap (λ (l : List ExprTree). get_or l (c.fields.left - 1) c.index-as_slice-left.result) c.as_slice.ensures.value in
+    let later : AreDeeds (pack_exprs (drop ((c.fields.left - 1) + 1) c.args.parts.now)) (scope_env c.args.scope.now) c.fields.deeds c.args.count = subst (λ k. AreDeeds (pack_exprs (drop k c.args.parts.now)) (scope_env c.args.scope.now) c.fields.deeds c.args.count) (sym more) c.fields.invariant.1 in
+    (omega arith, more_fields c.args.parts.now (c.fields.left - 1) (scope_env c.args.scope.now) c.index-as_slice-left.result c.in-Some.first.value c.fields.deeds c.in-Some-before.more c.args.count less element c.in-Some.ensures later c.in-Some-before.ensures)

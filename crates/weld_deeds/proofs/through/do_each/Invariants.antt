@@ -1,8 +1,7 @@
 use Rattle.std.proofs.Common.{◌-◌}
 use Rattle.weld_eval.specs.ThingView.{thing_of}
-use Rattle.weld_deeds.specs.Deeds.{DeedFits, do_of}
 use Rattle.weld_deeds.specs.Through.{HasCome}
 use Rattle.weld_deeds.proofs.through.do_each.Given as goal
 
 abbrev pub invariant-loop-place : goal.invariant-loop-place
-invariant-loop-place g l = HasCome (do_of l.deed) (DeedFits l.deed) l.count (thing_of l.fn.builder) l.place (l.count - l.place) (thing_of l.builder)
+invariant-loop-place g l = HasCome (g.D.Does.does l.each) (g.D.Does.fits l.each) l.count (thing_of l.fn.builder) l.place (l.count - l.place) (thing_of l.builder)
