@@ -38,7 +38,7 @@ FORMS = [
     ("top in slice", f"|{VW}| len(slice(w, {SUM} % 1024L, 5L))", 2000000, 1),
     ("top in a struct", f"|{V}| {{{SUM}, 3L}}.$0", 2000000, 1),
     ("renamed", f"|{V}| result(for(v, merger[i64,+], |b, i, x| let c = b; merge(c, x * x + 1L)))", 4000000, 1),
-    ("exchanged", f"|{V}| let r = for(v, {{merger[i64,+], merger[i64,*]}}, |b, i, x| {{merge(b.$0, x), merge(b.$1, x)}}); {{result(r.$1), result(r.$0)}}.$1", 2000000, 1),
+    ("two builders", f"|{V}| let r = for(v, {{merger[i64,+], merger[i64,*]}}, |b, i, x| {{merge(b.$0, x), merge(b.$1, x)}}); result(r.$0) + result(r.$1)", 2000000, 1),
     ("lets 10", lets(10), 200000, 10),
     ("lets 100", lets(100), 20000, 100),
     ("lets 800", lets(800), 2000, 800),
@@ -63,7 +63,8 @@ def block(values):
 
 
 def data(text, rows):
-    """The blocks of the program's parameters: of each row a small number, of one that is looked up 2,000 for all rows."""
+    """The blocks of the program's parameters: a small number for each row, and of a second vector as many where it is the other leg of
+    a `zip`, else 2,000."""
     draw = random.Random(1)
     if "m: vec[vec[i64]]" in text:
         return block(f"[{draw.randrange(9)},{draw.randrange(9)}]" for _ in range(rows))
@@ -75,7 +76,7 @@ def data(text, rows):
 
 
 def halvings(given):
-    """How many turns the loop of halves and thrice takes for all rows."""
+    """How many turns the `iterate` takes for all rows."""
     count = 0
     for number in map(int, given[8:-2].split(",")):
         x = number % 10000 * 2 + 1
